@@ -3,10 +3,11 @@
 
 Each run has to end with a status that is documented, and with one line where it refuses. Of the harmful input it tells the memory that
 the program takes beyond what it takes for its help, over the bytes, the processor seconds, and the time at twice the bytes over that at
-once, each time the least of three. Where valgrind is there, it counts the instructions of some more inputs, and of uses of fields those
-at twice the bytes over those at once. Then it tells the times of numbers of many bytes in an index over those of as many bytes in numbers
-of one byte. Last it gives the program an address space that is just enough: there it has to answer, or to tell want of memory, within
-some seconds.
+once, each time the least of three; where valgrind is there, of a part of it the instructions at twice the bytes over those at once too.
+Then, by valgrind, it counts the instructions of some networks, and of trees and indexes, each made against one table, search or
+look-ahead, those at twice the bytes over those at once. Then it tells the times of numbers of many bytes in an index over those of as
+many bytes in numbers of one byte. Last it gives the program an address space that is just enough: there it has to answer, or to tell
+want of memory, within some seconds.
 
 Each row ends with what is wrong, as more than it may take, or with `ok`. The status is 1 where something is wrong.
 
@@ -30,6 +31,8 @@ STATEMENT = b"N.x := N.x + 1;\n"
 ANSWERED, REFUSED, UNREAD, NO_MEMORY, DENIED = 0, 1, 3, 4, 5
 # The most times that twice the bytes may take, and how long a run takes at least whose time says something.
 RATIO, LEAST_SECONDS = 3.2, 0.05
+# The most times that the instructions of twice the bytes may be, and by how much what is counted so is divided where it is large.
+GREW, COUNTED_PART = 2.3, 32
 PART = int(os.environ.get("PART", 1))
 
 
@@ -66,11 +69,22 @@ def module(body):
 
 
 @functools.cache
-def colliding(count, bits):
-    """So many names that fall together in a table of names, whose numbers have so many bits."""
+def printed(*words):
+    """What `colliding.c` prints."""
     with tempfile.TemporaryDirectory() as folder:
         subprocess.run(["cc", "-O2", "-o", f"{folder}/colliding", f"{HERE}/colliding.c"], check=True)
-        return subprocess.run([f"{folder}/colliding", str(count), str(bits)], check=True, stdout=subprocess.PIPE).stdout.split()
+        return subprocess.run([f"{folder}/colliding", *words], check=True, stdout=subprocess.PIPE).stdout.split()
+
+
+def colliding(count, bits, *front):
+    """So many names that fall together in a table of names, whose numbers have so many bits, behind what else the table's keys have."""
+    return printed(str(count), str(bits), *front)
+
+
+def together(k, *front, bits=13):
+    """Once or twice 20,000 names that fall together in a table as large as it is with all of them."""
+    count = many(20_000)
+    return colliding(2 * count, bits, *front)[: k * count]
 
 
 def variables(first, names):
@@ -209,8 +223,8 @@ HARMFUL = [
             "WHILE in one another": (8, lambda k: module(many(400_000) * k * b"WHILE x DO ")),
             "procedure types": (8, lambda k: b"MODULE M; TYPE T = " + many(200_000) * k * b"PROCEDURE (): " + b"T; END M."),
             "dimensions": (55, lambda k: b"MODULE M; TYPE T = ARRAY " + many(1_300_000) * k * b"1, " + b"1 OF SET; END M."),
-            "names that fall together behind one that is declared twice": (20, lambda k: variables(b"a, a: SET; ", colliding(40_000, 16)[: 20_000 * k])),
-            "names that fall together and that no record has": (40, lambda k: behind_a_base(colliding(40_000, 16)[: 20_000 * k])),
+            "names that fall together behind one that is declared twice": (20, lambda k: variables(b"a, a: SET; ", colliding(40_000, 13)[: 20_000 * k])),
+            "names that fall together and that no record has": (40, lambda k: behind_a_base(colliding(40_000, 14, "8:0", "4:11")[: 20_000 * k])),
             "fields behind bases": (36, lambda k: fields("names", many(50_000) * k, many(20_000) * k)),
         },
     ),
@@ -286,24 +300,232 @@ COUNTED = [
 ]
 
 
-# The file, the command, and for each input its text, of which there is once or twice as much, and the most times that the instructions
-# may grow.
+def one(text):
+    """A tree of one module."""
+    return {"t/M.Mod": text}
+
+
+def declared(names, form=b"VAR", each=b"%s: SET; "):
+    """A module that declares these names."""
+    return one(b"MODULE M; " + form + b" " + b"".join(each % it for it in names) + b"END M.")
+
+
+def half_declared(names):
+    """A module that declares every other one of these names, and uses the others."""
+    return one(b"MODULE M; VAR " + b"".join(b"%s: SET; " % it for it in names[::2]) + b"BEGIN " + b"; ".join(names[1::2]) + b" END M.")
+
+
+def hidden(names):
+    """A module that declares these names, and one in an outer block behind an inner one."""
+    return one(b"MODULE M; VAR " + b"".join(b"%s: SET; " % it for it in names) + b"PROCEDURE p; VAR a: SET; END p; PROCEDURE a; END a; END M.")
+
+
+def locals_of(names):
+    """A module of procedures, each of which declares one of these names."""
+    return one(b"MODULE M; " + b"".join(b"PROCEDURE p%d; VAR %s: SET; BEGIN %s := {} END p%d; " % (at, it, it, at) for at, it in enumerate(names)) + b"END M.")
+
+
+def fields_of(names):
+    """A module with a record that has these fields, each of which is used."""
+    return one(b"MODULE M; TYPE R = RECORD " + b"; ".join(b"%s: SET" % it for it in names) + b" END; VAR v: R; BEGIN " + b"; ".join(b"v.%s := {}" % it for it in names) + b" END M.")
+
+
+def imported(names):
+    """A module that imports these modules, which aren't in the tree."""
+    return one(b"MODULE M; IMPORT " + b", ".join(names) + b"; END M.")
+
+
+def outside(names):
+    """A module that uses these names of a module which isn't in the tree, twice each."""
+    return one(b"MODULE M; IMPORT X; BEGIN " + b"; ".join(b"X.%s := X.%s" % (it, it) for it in names) + b" END M.")
+
+
+def inner_types(k):
+    """A module of procedures, each of which declares a type whose number falls together with the procedure."""
+    pool, count = 16_384, k * many(20_000)
+    # behind MODULE M; VAR each name takes four tokens, and each procedure eleven
+    numbers = printed("pairs", str(2 * many(20_000)), "13", str(4 * pool + 4), "11", str(pool))[:count]
+    front = b"MODULE M; VAR " + b"".join(b"v%d: SET; " % it for it in range(pool))
+    return one(front + b"".join(b"PROCEDURE p%d; TYPE v%s = SET; END p%d; " % (at, it, at) for at, it in enumerate(numbers)) + b"END M.")
+
+
+def renamed(count):
+    """A module with a chain of so many names of one record, with a variable and a use of its field at each."""
+    types = b"".join(b"T%d = T%d; " % (it + 1, it) for it in range(count))
+    variables_of = b"".join(b"x%d: T%d; " % (it, it) for it in range(count))
+    return one(b"MODULE M; TYPE T0 = RECORD f: SET END; " + types + b"VAR " + variables_of + b"BEGIN " + b"; ".join(b"x%d.f := {}" % it for it in range(count)) + b" END M.")
+
+
+def forward(count):
+    """A module with so many pointers to records that are declared behind all of them, and a use of each."""
+    pointers = b"".join(b"P%d = POINTER TO R%d; " % (it, it) for it in range(count))
+    records = b"".join(b"R%d = RECORD n: P%d END; " % (it, (it + 1) % count) for it in range(count))
+    return one(b"MODULE M; TYPE " + pointers + records + b"VAR p: P0; BEGIN p := p" + count * b".n" + b" END M.")
+
+
+def inner_forward(count):
+    """A module of procedures with a pointer each to a type that no block declares behind it."""
+    return one(b"MODULE M; " + b"".join(b"PROCEDURE p%d; TYPE P = POINTER TO R; END p%d; " % (it, it) for it in range(count)) + b"END M.")
+
+
+def aliases(count):
+    """A module with so many aliases of one module that isn't in the tree, and a use of each."""
+    return one(b"MODULE M; IMPORT " + b", ".join(b"a%d := X" % it for it in range(count)) + b"; BEGIN " + b"; ".join(b"a%d.f" % it for it in range(count)) + b" END M.")
+
+
+def deep(count):
+    """A module with procedures 150 deep, each with so many names, all of which are used in the innermost one."""
+    names = [b"v%dx%d" % (level, it) for level in range(150) for it in range(count)]
+    opened = b"".join(b"PROCEDURE p%d; VAR " % level + b"".join(b"v%dx%d: SET; " % (level, it) for it in range(count)) for level in range(150))
+    closed = b"".join(b" END p%d;" % level for level in reversed(range(150)))
+    return one(b"MODULE M; " + opened + b"BEGIN " + b"; ".join(b"%s := {}" % it for it in names) + closed + b" END M.")
+
+
+def same_locals(count):
+    """A module of so many procedures that declare the same name and use one of the outermost block."""
+    return one(b"MODULE M; VAR g: SET; " + b"".join(b"PROCEDURE p%d; VAR i: SET; BEGIN i := g END p%d; " % (it, it) for it in range(count)) + b"END M.")
+
+
+def long_names(count):
+    """So many names of 200 letters that differ in the last ones."""
+    return [b"%sx%d" % (190 * b"a", 10**8 + it) for it in range(count)]
+
+
+def exporting(names):
+    """A module that exports these names, and one that uses them."""
+    return {
+        "t/N.Mod": b"MODULE N; VAR " + b"".join(b"%s*: SET; " % it for it in names) + b"END N.",
+        "t/M.Mod": b"MODULE M; IMPORT N; BEGIN " + b"; ".join(b"N.%s := {}" % it for it in names) + b" END M.",
+    }
+
+
+def small_modules(count, imported):
+    """So many modules, each of which imports some that are told by its number."""
+    files = {}
+    for it in range(count):
+        items = b", ".join(b"M%d" % other for other in imported(it))
+        files[f"t/M{it}.Mod"] = b"MODULE M%d; %sVAR v*: SET; END M%d." % (it, b"IMPORT " + items + b"; " if items else b"", it)
+    return files
+
+
+def crossing(count):
+    """Two modules, the first of which uses the second by so many aliases and in as many statements."""
+    return {
+        "t/N.Mod": b"MODULE N; VAR v*: SET; END N.",
+        "t/M.Mod": b"MODULE M; IMPORT " + b", ".join(b"a%d := N" % it for it in range(count)) + b"; BEGIN " + b"; ".join(b"a%d.v := {}" % it for it in range(count)) + b" END M.",
+    }
+
+
+def occurrence(place, symbol):
+    """An occurrence of a symbol of one byte at a column of a line."""
+    return record(2, record(1, varint(place) + b"\x07\x08") + record(2, symbol))
+
+
+def asked(behind):
+    """An index whose first document defines `s`, with further records of it behind."""
+    return {"index": document(definition(b"") + behind)}
+
+
+# The command, whether it refuses, and for each input what is written, of which there is once or twice as much, and the most times that
+# the instructions may grow, where that isn't `GREW`.
 GROWN = [
     (
-        "m/M.Mod",
-        ["unresolved", "m"],
+        ["unresolved", "t"],
+        False,
         {
-            "uses of 20,000 fields behind 8,000 bases": (lambda k: fields("names", many(20_000) * k, many(8_000) * k), 2.2),
-            "uses of 20,000 names that no record has, at 8,000 bases that come back": (lambda k: fields("round", many(20_000) * k, many(8_000) * k), 2.2),
+            "uses of 20,000 fields behind 8,000 bases": (lambda k: one(fields("names", many(20_000) * k, many(8_000) * k)), 2.2),
+            "uses of 20,000 names that no record has, at 8,000 bases that come back": (lambda k: one(fields("round", many(20_000) * k, many(8_000) * k)), 2.2),
+            "uses of one field behind 8,000 renamings": (lambda k: one(fields("renamings", many(8_000) * k, many(8_000) * k)),),
+            "uses of one field behind 8,000 pointers": (lambda k: one(fields("pointers", many(8_000) * k, many(8_000) * k)),),
+            "uses of one field behind 8,000 bases by renamings": (lambda k: one(fields("both", many(8_000) * k, many(8_000) * k)),),
+            "uses of one field in each of 8,000 records": (lambda k: one(fields("records", many(8_000) * k, many(8_000) * k)),),
+            "uses of one field by each of 20,000 names of its record": (lambda k: renamed(many(20_000) * k),),
+            "names of variables that fall together": (lambda k: declared(together(k)),),
+            "names of constants that fall together": (lambda k: declared(together(k), b"CONST", b"%s = 1; "),),
+            "names of variables and of uses that fall together": (lambda k: half_declared(together(k)),),
+            "names of local variables that fall together": (lambda k: locals_of(together(k, bits=14)),),
+            "names that fall together with their block, of a module that hides one": (lambda k: hidden(together(k, "8:0", "4:0")),),
+            "names of fields that fall together with their record": (lambda k: fields_of(together(k, "4:6")),),
+            "names that fall together with the record in which they are sought": (lambda k: one(behind_a_base(together(k, "8:0", "4:11", bits=14))),),
+            "types that fall together with their procedures": (inner_types,),
+            "pointers to records that are declared behind all": (lambda k: forward(many(20_000) * k),),
+            "pointers in procedures to what no block declares": (lambda k: inner_forward(many(20_000) * k),),
+            "aliases of a module that isn't in the tree": (lambda k: aliases(many(20_000) * k),),
+            "names 150 procedures deep": (lambda k: deep(many(150) * k),),
+            "one name in 20,000 procedures": (lambda k: same_locals(many(20_000) * k),),
+            "names of 200 letters": (lambda k: declared(long_names(many(5_000) * k)),),
+            "190 parentheses in one another, again and again": (lambda k: one(b"MODULE M; BEGIN " + b"; ".join(many(400) * k * [190 * b"h(" + b"x" + 190 * b")"]) + b" END M."),),
+        },
+    ),
+    (
+        ["unresolved", "t"],
+        True,
+        {
+            "names that fall together before one that is declared twice": (lambda k: declared(together(k) + [b"a", b"a"]),),
+            "modules outside of the tree that fall together, which are too many": (lambda k: imported(together(k, "text")),),
+            "a wrong name after END": (lambda k: one(b"MODULE M; VAR x: SET; BEGIN " + many(100_000) * k * b"x := x + {1}; " + b"END N."),),
+            "a nest that is too deep behind many that aren't": (lambda k: one(b"MODULE M; BEGIN " + b"; ".join(many(400) * k * [190 * b"h(" + b"x" + 190 * b")"]) + b"; " + 250 * b"h(" + b" END M."),),
+        },
+    ),
+    (
+        ["index", "t", "out", "--workers", "1"],
+        False,
+        {
+            "names that fall together with a module that isn't in the tree": (lambda k: outside(together(k, "each", "4:0")),),
+            "names that fall together with a module that isn't in the tree, as symbols": (lambda k: outside(together(k, "each", "4:0", "8:1")),),
+            "names of 200 letters of a module that isn't in the tree": (lambda k: outside(long_names(many(2_500) * k)),),
+            "names of 200 letters of a module of the tree": (lambda k: exporting(long_names(many(2_500) * k)),),
+            "names of a module of the tree that fall together": (lambda k: exporting(together(k)),),
+            "modules of a few names": (lambda k: small_modules(many(1_000) * k, lambda it: ()),),
+        },
+    ),
+    (
+        ["crossings", "t", "M", "N"],
+        False,
+        {
+            "aliases of one module": (lambda k: crossing(many(20_000) * k),),
+            "names that fall together beside a crossing": (lambda k: exporting(together(k)),),
+        },
+    ),
+    (
+        ["cut", "t", "M", "N"],
+        False,
+        {
+            "aliases of one module of a cut": (lambda k: crossing(many(20_000) * k),),
+            "names that fall together beside a cut": (lambda k: exporting(together(k)),),
+        },
+    ),
+    (
+        ["refs", "index", "a", "0", "7"],
+        False,
+        {
+            "one symbol with many occurrences": (lambda k: asked(b"".join(occurrence(it, b"s") for it in range(many(100_000) * k))),),
+            "occurrences of other symbols": (lambda k: asked(b"".join(occurrence(it, b"t") for it in range(many(100_000) * k))),),
+            "a range of many numbers": (lambda k: asked(record(2, record(1, many(1_000_000) * k * b"\x01") + record(2, b"s"))),),
+            "symbols of 1,000 letters that differ in the last ones": (lambda k: asked(b"".join(occurrence(it, b"%s%d" % (1_000 * b"s", it)) for it in range(many(2_000) * k))),),
+            "documents whose paths differ in the last letters": (lambda k: {"index": document(definition(b"")) + b"".join(record(2, record(1, b"%s%d" % (200 * b"a", it)) + definition(b"")) for it in range(many(20_000) * k))},),
+        },
+    ),
+    (
+        ["def", "index", "a", "0", "7"],
+        False,
+        {
+            "one symbol with many definitions": (lambda k: asked(many(100_000) * k * definition(b"")),),
         },
     ),
 ]
 
 
 def instructions(words, folder):
-    """The instructions of a run, by valgrind."""
+    """The instructions of a run, by valgrind, and its status."""
     ran = subprocess.run(["valgrind", "--tool=callgrind", "--callgrind-out-file=/dev/null", *words], cwd=folder, stdin=subprocess.DEVNULL, capture_output=True)
-    return int(re.search(rb"Collected : (\d+)", ran.stderr)[1])
+    return int(re.search(rb"Collected : (\d+)", ran.stderr)[1]), ran.returncode
+
+
+def times_of(none, once, twice):
+    """How many times the instructions at twice the bytes are those at once, both without those of the help, where there are more than of it."""
+    begins = none if once > 2 * none else 0
+    return (twice - begins) / (once - begins)
 
 
 def counted(program, folder):
@@ -316,13 +538,34 @@ def counted(program, folder):
     for path, words, inputs in COUNTED:
         at = f"{folder}/{path}"
         open(at, "wb").close()
-        none = instructions([program, *words], folder)
+        none, _ = instructions([program, *words], folder)
         for name, (text, most) in inputs.items():
             write(at, text)
             size = os.path.getsize(at)
-            each = (instructions([program, *words], folder) - none) / size
+            each = (instructions([program, *words], folder)[0] - none) / size
             wrong += row(name, ["too many instructions"] if each > most else [], f"{size:,}", f"{each:.1f}", str(most))
     return wrong
+
+
+def written(folder, files):
+    """Writes a tree or an index in place of what was there, and returns its bytes."""
+    shutil.rmtree(f"{folder}/t", ignore_errors=True)
+    os.makedirs(f"{folder}/t")
+    for path, text in files.items():
+        write(f"{folder}/{path}", lambda: text)
+    return sum(map(len, files.values()))
+
+
+def growth(program, words, folder, refuses, files):
+    """The bytes of twice as much, the instructions of it over those of once as much, both beyond those of the help, and how often a run ended in another way than it should."""
+    none, _ = instructions([program, "--help"], folder)
+    took, wrong, size = [], 0, 0
+    for times in (1, 2):
+        size = written(folder, files(times))
+        counted_now, status = instructions([program, *words], folder)
+        took.append(counted_now)
+        wrong += status != (REFUSED if refuses else ANSWERED)
+    return size, times_of(none, *took), wrong
 
 
 def grown(program, folder):
@@ -330,15 +573,14 @@ def grown(program, folder):
     if not shutil.which("valgrind"):
         return 0
     wrong = 0
-    head("Input", "Bytes", "Instructions at twice the bytes", "at most")
-    for path, words, inputs in GROWN:
-        for name, (text, most) in inputs.items():
-            took = []
-            for times in (1, 2):
-                write(f"{folder}/{path}", lambda: text(times))
-                took.append(instructions([program, *words], folder))
-            ratio = took[1] / took[0]
-            wrong += row(name, ["too many instructions"] if ratio > most else [], f"{os.path.getsize(f'{folder}/{path}'):,}", f"{ratio:.2f}", str(most))
+    head("Command", "Input", "Bytes", "Instructions at twice the bytes", "at most")
+    for words, refuses, inputs in GROWN:
+        for name, (files, *bound_of) in inputs.items():
+            most = bound_of[0] if bound_of else GREW
+            size, ratio, others = growth(program, words, folder, refuses, files)
+            faults = ["another status"] if others else []
+            faults += ["too many instructions"] if ratio > most else []
+            wrong += row(f"`{words[0]}`", faults, name, f"{size:,}", f"{ratio:.2f}", str(most))
     return wrong
 
 
@@ -370,14 +612,28 @@ def bound(program, folder):
     return wrong
 
 
+def part_grown(program, words, folder, path, text):
+    """The instructions at twice the bytes over those at once, of a part of the input, and how often a run ended in another way than it may."""
+    global PART
+    PART *= COUNTED_PART
+    none, took, wrong = instructions([program, "--help"], folder)[0], [], 0
+    for times in (1, 2):
+        write(f"{folder}/{path}", lambda: text(times))
+        counted_now, status = instructions([program, *words], folder)
+        took.append(counted_now)
+        wrong += status not in (ANSWERED, REFUSED, DENIED)
+    PART //= COUNTED_PART
+    return times_of(none, *took), wrong
+
+
 def harmful(program, folder):
-    """Tells memory and times of input that was made to do harm, and returns how much is wrong."""
+    """Tells memory and times of input that was made to do harm, and of a part of it the instructions, and returns how much is wrong."""
     fixed = {"one.net": b"import A B 1\n", "modules.net": b"".join(b"module M%04d\n" % it for it in range(2_000))}
     for name, text in fixed.items():
         with open(f"{folder}/{name}", "wb") as it:
             it.write(text)
     wrong, alone = 0, ended([program, "--help"], folder)[3]
-    head("Input", "Bytes", "Memory", "at most", "Seconds", "Time at twice the bytes", "at most")
+    head("Input", "Bytes", "Memory", "at most", "Seconds", "Time at twice the bytes", "at most", "Instructions of a part", "at most")
     for path, words, inputs in HARMFUL:
         at = f"{folder}/{path}"
         os.makedirs(os.path.dirname(at), exist_ok=True)
@@ -392,7 +648,10 @@ def harmful(program, folder):
             memory = (max(it[3] for it in ends) - alone) / size
             faults += ["too much memory"] if memory > most else []
             faults += ["too long at twice the bytes"] if ratio > RATIO and took[1] > LEAST_SECONDS else []
-            wrong += row(name, faults, f"{size:,}", f"{memory:.1f}", str(most), f"{took[1]:.2f}", f"{ratio:.1f}", str(RATIO))
+            counted_so, others = part_grown(program, words, folder, path, text) if shutil.which("valgrind") else (0, 0)
+            faults += ["another status of a part"] if others else []
+            faults += ["too many instructions"] if counted_so > GREW else []
+            wrong += row(name, faults, f"{size:,}", f"{memory:.1f}", str(most), f"{took[1]:.2f}", f"{ratio:.1f}", str(RATIO), f"{counted_so:.2f}", str(GREW))
     return wrong
 
 

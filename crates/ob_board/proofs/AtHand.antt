@@ -1,12 +1,14 @@
 -- What a worker has at hand for a module, whatever is made of it.
-use Rattle.std.proofs.Common.{◌≡◌, ℕ, ◌<◌, List, length, Some, sym, subst}
+use Rattle.std.proofs.Common.{◌≡◌, ℕ, ◌<◌, Bool, List, [], length, Some, sym, ap, ◌∙◌, subst}
 use Rattle.std.specs.Prelude.{Contains, slice_get, slice_index_or, Box}
+use Rattle.std.specs.Bool.{OnTrue}
 use Rattle.std.specs.declared.alloc.Global.{Global}
 use Rattle.std.proofs.lemmas.Option.{slice_get-get_or}
 use Rattle.ob_imports.specs.Graphs.{ImportGraph}
 use Rattle.ob_imports.specs.Outcomes.{AreFilesOfGraph}
 use Rattle.ob_interface.specs.Interfaces.{ModuleInterface}
 use Rattle.ob_scope.specs.Texts.{text_at}
+use Rattle.ob_types.specs.Homes.{AreByName}
 use Rattle.oscip_tree.specs.declared.parts.ModuleParts.{ModuleParts}
 use Rattle.oscip_tree.specs.declared.source.Source.{Source}
 use Rattle.work_board.specs.Graphs.{row_at}
@@ -15,17 +17,20 @@ use Rattle.tree_board.specs.Boards.{modules_of}
 use Rattle.tree_board.specs.Reached.{files_of, interface_in, names, AreReachedInterfaces, ReachesAlike, SeenFile}
 use Rattle.tree_board.specs.Seen.{all_seen, seen_in, AreSourcesRead}
 use Rattle.tree_board.proofs.Shared.{parts_reached}
-use Rattle.ob_board.specs.Entries.{IsEntryOf, PlainEntry}
+use Rattle.ob_board.specs.Entries.{interfaces_of, AreAllNamed, IsEntryOf, PlainEntry}
 use Rattle.ob_board.specs.Found.{IsAtHand, IsFoundOf, PlainFound}
 use Rattle.ob_board.specs.Records.{IsRecordedOf, PlainRecorded}
+use Rattle.ob_board.proofs.ByName.{reached_by_name}
+use Rattle.ob_board.proofs.EntryHanding.{reached_named}
 use Rattle.ob_board.proofs.Handing.{at_seen, below, member, name_here}
 
 -- a number of the board is that of a source and of its parts, and with the parts that a worker is given they are what is at hand
 pub record IsGiven (files : List SeenFile) (sources : List Source) (modules : List (Box ModuleParts Global)) (board : ImportGraph) (n : ℕ) (parts : List ModuleInterface) : Type 0 where
   pub within : (n < length sources) × (n < length modules)
-  pub at_hand : (s : Source) (m : Box ModuleParts Global) → IsAtHand files (slice_index_or sources n s) (slice_index_or modules n m).value parts
-  pub reached : (s : Source) (m : Box ModuleParts Global) → AreReachedInterfaces (all_seen sources modules) (names (seen_in (slice_index_or sources n s) (slice_index_or modules n m).value) 1) parts
-  pub named : (s : Source) (m : Box ModuleParts Global) → text_at (slice_index_or sources n s).bytes.items (slice_index_or modules n m).value.tokens 1 ≡ row_at (modules_of board).names n
+  pub at_hand : (s : Source) (m : Box ModuleParts Global) (p : ModuleParts) → p ≡ (slice_index_or modules n m).value → IsAtHand files (slice_index_or sources n s) p parts
+  pub named : (s : Source) (m : Box ModuleParts Global) (p : ModuleParts) → p ≡ (slice_index_or modules n m).value → text_at (slice_index_or sources n s).bytes.items p.tokens 1 ≡ row_at (modules_of board).names n
+  pub all_named : (s : Source) (m : Box ModuleParts Global) → AreAllNamed parts
+  pub by_name : (s : Source) (m : Box ModuleParts Global) (known : Bool) → OnTrue known (AreByName (interfaces_of modules)) → OnTrue known (AreByName parts)
 
 -- what an entry says of its file
 abbrev SaysOfFile : {E : Type 0} → (List SeenFile → List ℕ → E → Type 0) → (E → ModuleInterface) → Type 0
@@ -48,16 +53,21 @@ module _ {E : Type 0} (is_of : List SeenFile → List ℕ → E → Type 0) (sha
       λ s m. parts_reached (is_of files) shared_of files g seen.kept (tells files) (alike files g seen.kept) n parts (seen_in (slice_index_or sources n s) (slice_index_or modules n m).value) (at s m) job in
       record {
         within = both;
-        at_hand = λ s m.
+        at_hand = λ s m p is.
             let here = slice_index_or sources n s in
             let own = slice_index_or modules n m in
-            record {
+            subst (λ (x : ModuleParts). IsAtHand files here x parts) (sym is)
+            (record {
               is_of_tree = member files n (seen_in here own.value) (at s m);
               is_seen = seen.each n here own (slice_get-get_or sources n s both.0) (slice_get-get_or modules n m both.1);
               are_reached = reached s m;
-            };
-        reached = reached;
-        named = λ s m. sym (name_here sources modules g seen n (slice_index_or sources n s) (slice_index_or modules n m) (slice_get-get_or sources n s both.0) (slice_get-get_or modules n m both.1));
+            });
+        named = λ s m p is.
+            let here = slice_index_or sources n s in
+            ap (λ (x : ModuleParts). text_at here.bytes.items x.tokens 1) is
+            ∙ sym (name_here sources modules g seen n here (slice_index_or modules n m) (slice_get-get_or sources n s both.0) (slice_get-get_or modules n m both.1));
+        all_named = λ s m. reached_named sources modules g seen [] _ parts (reached s m);
+        by_name = λ s m known all. let among = reached s m in reached_by_name sources modules g seen known all among.marks parts among.reached_are;
       }
 
   given : (files : List SeenFile) (sources : List Source) (modules : List (Box ModuleParts Global)) (g board : ImportGraph) → files ≡ all_seen sources modules → AreSourcesRead sources modules g → g ≡ board

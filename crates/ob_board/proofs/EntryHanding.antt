@@ -8,11 +8,7 @@ use Rattle.std.proofs.lemmas.List.{length-take-le}
 use Rattle.std.proofs.lemmas.List.Elements.{Contains-append_cases}
 use Rattle.std.proofs.lemmas.Option.{get_or_from_slice_get, slice_get-get_or, slice_get_within}
 use Rattle.ob_emit.specs.Externals.{AreExternalRows}
-use Rattle.ob_emit.specs.Named.{HaveNames, HasNames}
-use Rattle.ob_decls.specs.Parts.{Rows}
-use Rattle.ob_scan.specs.declared.token.Token.{Token}
-use Rattle.ob_scope.specs.Scoped.{AreScopes, ModuleScopes}
-use Rattle.ob_types.specs.World.{World}
+use Rattle.ob_emit.specs.Named.{HasNames}
 use Rattle.ob_emit.proofs.NamesGiven.{seen_named}
 use Rattle.ob_decls.specs.Declaring.{rows_in}
 use Rattle.ob_imports.specs.Graphs.{ImportGraph}
@@ -132,16 +128,6 @@ externals_of_tree sources package_name entries are =
   where
     none_seen : SeenFile
     none_seen = record { path = []; bytes = []; tokens = []; rows = record { declarers = []; declared = []; uses = []; blocks = []; imports = []; parts = []; records = []; designators = []; selectors = []; ends = [] } }
-
--- what a module's value is made of has names
-pub named_here : (w : World) (bytes text : List ℕ) (ts tokens : List Token) (rows : Rows) (s : ModuleScopes) (reached : List ModuleInterface) →
-    ((v : World) (t : ModuleScopes) → AreScopes v.bytes v.tokens v.rows t → AreAllNamed v.reached → HaveNames v) →
-    w ≡ record { bytes = text; tokens = tokens; rows = rows; scopes = s; reached = reached } → text ≡ bytes → tokens ≡ ts → AreScopes bytes ts rows s → AreAllNamed reached → HaveNames w
-named_here w bytes text ts tokens rows s reached law is same_text same_tokens scoped named =
-    let v : World = record { bytes = text; tokens = tokens; rows = rows; scopes = s; reached = reached } in
-    let here : AreScopes text tokens rows s =
-    subst (λ (x : List ℕ). AreScopes x tokens rows s) (sym same_text) (subst (λ (x : List Token). AreScopes bytes x rows s) (sym same_tokens) scoped) in
-    subst HaveNames (sym is) (law v s here named)
 
 -- what entries have, by either way of seeing them
 pub same_externals : (es : List Entry) → flat_map (λ (e : Entry). (plain_entry e).externals) es ≡ flat_map (λ (e : PlainEntry). e.externals) (map plain_entry es)

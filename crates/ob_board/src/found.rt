@@ -18,6 +18,7 @@ ghost use Rattle.ob_board.specs.Unresolved.{plain_unresolved};
 
 use crate::Unresolved;
 use crate::files::NamedFiles;
+use crate::module_types::module_types;
 use crate::rows::rows_of;
 use board_workers::Work;
 use ob_imports::Graph;
@@ -113,15 +114,7 @@ fn numbers_of(
     ensures { IfOk result (λ numbers. (refs : List Reference) × (numbers.items ≡ unresolved refs)
         × AreReferences (world source.now.bytes.items parts.now.tokens (rows_in parts.now.table) parts.now.scopes (map arc_value reached.now)) refs) }
 {
-    let types = Types::with_order(
-        alloc,
-        source.bytes.as_slice(),
-        parts.tokens.as_slice(),
-        &parts.table,
-        &parts.scopes,
-        reached,
-        by_name,
-    )?;
+    let types = module_types(alloc, source, parts, reached, by_name)?;
     let numbers = unresolved_by(alloc, &types);
     drop(types);
     numbers

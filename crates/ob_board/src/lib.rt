@@ -10,6 +10,7 @@ mod indexing;
 pub mod laws;
 mod listing;
 mod made;
+mod module_types;
 mod named_index;
 mod recorded;
 mod rows;

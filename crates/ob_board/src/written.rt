@@ -12,6 +12,7 @@ ghost use Rattle.scip_symbol.specs.Outcomes.{is_wrong_part};
 ghost use Rattle.ob_board.specs.Entries.{AreAllNamed, IsWritten, IsWrittenBy};
 ghost use Rattle.ob_board.specs.Records.{IsRecorded, IsRecordedBy};
 
+use crate::module_types::module_types;
 use ob_emit::laws::{names_of_references, names_of_scopes};
 use ob_emit::{EmitFault, document, document_record, externals};
 use ob_interface::Interface;
@@ -78,15 +79,7 @@ pub(crate) fn write_module(
 {
     tokens_in_text();
     names_of_scopes();
-    let types = Types::with_order(
-        alloc,
-        source.bytes.as_slice(),
-        parts.tokens.as_slice(),
-        &parts.table,
-        &parts.scopes,
-        reached,
-        by_name,
-    )?;
+    let types = module_types(alloc, source, parts, reached, by_name)?;
     let written = written_by(alloc, source.path.as_str(), &types, package_name);
     drop(types);
     written
@@ -144,15 +137,7 @@ pub(crate) fn record_module(
 {
     tokens_in_text();
     names_of_scopes();
-    let types = Types::with_order(
-        alloc,
-        source.bytes.as_slice(),
-        parts.tokens.as_slice(),
-        &parts.table,
-        &parts.scopes,
-        reached,
-        by_name,
-    )?;
+    let types = module_types(alloc, source, parts, reached, by_name)?;
     let recorded = recorded_by(alloc, source.path.as_str(), &types, package_name);
     drop(types);
     recorded

@@ -1,12 +1,11 @@
 -- The symbols that are declared outside of a tree: their texts tell them apart.
-use Rattle.std.proofs.Common.{◌≡◌, ℕ, List, [], ◌∷◌, ◌++◌, Option, Some, None, refl, sym, ap, ◌∙◌, subst, arith, inl, inr}
-use Rattle.std.specs.Prelude.{slice_get, slice_index}
+use Rattle.std.proofs.Common.{◌≡◌, ℕ, List, [], ◌∷◌, ◌++◌, Option, Some, None, refl, sym, ap, ◌∙◌, subst, inl, inr}
+use Rattle.std.specs.Prelude.{slice_get}
 use Rattle.std.specs.Option.{option_map, option_and_then, is_none}
 use Rattle.std.proofs.lemmas.Bool.{cases_Bool}
 use Rattle.scip_symbol.specs.declared.kind.DescriptorKind.TheVariants.{Term}
-use Rattle.scip_symbol.specs.SymbolTexts.{BeginsLocal, PlainDescriptor, PlainSymbol, Local, Global, SymbolText, plain_text}
+use Rattle.scip_symbol.specs.SymbolTexts.{PlainDescriptor, PlainSymbol, Local, Global, SymbolText, plain_text}
 use Rattle.scip_symbol.proofs.PlainTexts.{texts_apart}
-use Rattle.scip_symbol.proofs.WriteLaws.{writable_outcome}
 use Rattle.scip_index.specs.Plain.{PlainSymbol as SymbolRow}
 use Rattle.ob_decls.specs.declared.rows.Import.{Import}
 use Rattle.ob_targets.specs.declared.target.Reference.{Reference}
@@ -16,9 +15,10 @@ use Rattle.ob_types.specs.World.{World, home_of, text}
 use Rattle.ob_scope.proofs.Elements.{contains_slice, slice_contains, some_one}
 use Rattle.ob_emit.specs.Externals.{AreExternalRows, IsExternalRow, external_module, external_row, externals_in, of_module, of_name, shown}
 use Rattle.ob_emit.specs.Named.{HaveNames, AreOfNames, IsName}
-use Rattle.ob_emit.specs.Symbols.{descriptor, global, module_path, package_of, scheme}
+use Rattle.ob_emit.specs.Symbols.{descriptor, global, module_path, package_of}
 use Rattle.ob_emit.proofs.Naming.{import_named}
 use Rattle.ob_emit.proofs.NamesGiven.{row_of}
+use Rattle.ob_emit.proofs.SymbolsTexted.{external_named, global_text, module_named}
 
 -- the name of the last descriptor
 last_of : List ℕ → List PlainDescriptor → List ℕ
@@ -29,21 +29,6 @@ last_name : PlainSymbol → List ℕ
 last_name (Local id) = []
 last_name (Global s m p v ds) = last_of [] ds
 
-not_local : BeginsLocal scheme → ⊥
-not_local h = absurd (let e : ◌≡◌ {A = ℕ} 115 108 = ap (λ (xs : List ℕ). slice_index xs 0) h.1 in omega arith)
-
--- symbols of names have texts
-module_written : (n : List ℕ) → IsName n → SymbolText (global [] (module_path n)) (plain_text (global [] (module_path n)))
-module_written [] e = absurd cc
-module_written (b ∷ n) e =
-    (writable_outcome (global [] (module_path (b ∷ n))) ((λ k. refl), tt) (record { no_empty = refl; not_local = not_local; parts = refl; descriptors = refl })).0
-
-name_written : (n name : List ℕ) → IsName n → IsName name → SymbolText (global [] (module_path n ++ descriptor Term name ∷ [])) (plain_text (global [] (module_path n ++ descriptor Term name ∷ [])))
-name_written [] name e f = absurd cc
-name_written (b ∷ n) [] e f = absurd cc
-name_written (b ∷ n) (d ∷ name) e f =
-    (writable_outcome (global [] (module_path (b ∷ n) ++ descriptor Term (d ∷ name) ∷ [])) ((λ k. refl), ((λ k. refl), tt)) (record { no_empty = refl; not_local = not_local; parts = refl; descriptors = refl })).0
-
 -- a row is that of a symbol that has a text, with the symbol's last name
 record HasSymbol (x : SymbolRow) : Type 0 where
   of_symbol : PlainSymbol
@@ -52,8 +37,10 @@ record HasSymbol (x : SymbolRow) : Type 0 where
 
 has_symbol : {x : SymbolRow} → IsExternalRow x → HasSymbol x
 unfolding last_name last_of
-has_symbol (of_module n e) = record { of_symbol = global [] (module_path n); is = refl; written = module_written n e }
-has_symbol (of_name n name e f) = record { of_symbol = global [] (module_path n ++ descriptor Term name ∷ []); is = refl; written = name_written n name e f }
+has_symbol (of_module n e) = record { of_symbol = global [] (module_path n); is = refl; written = global_text [] (module_path n) refl (λ none. absurd cc) (module_named n e) }
+has_symbol (of_name n name e f) =
+    let ds = module_path n ++ descriptor Term name ∷ [] in
+    record { of_symbol = global [] ds; is = refl; written = global_text [] ds refl (λ none. absurd cc) (external_named n name e f) }
 
 -- rows of one symbol are one
 pub one_row : (x y : SymbolRow) → IsExternalRow x → IsExternalRow y → x.symbol ≡ y.symbol → x ≡ y

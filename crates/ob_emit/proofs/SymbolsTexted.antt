@@ -44,7 +44,7 @@ descriptor_text d of = record {
   whole = refl;
 }
 
-AreOfNames : List PlainDescriptor → Type 0
+pub AreOfNames : List PlainDescriptor → Type 0
 AreOfNames [] = Unit {0}
 AreOfNames (d ∷ ds) = IsOfName d × AreOfNames ds
 
@@ -61,18 +61,18 @@ one_more (x ∷ ds) d are is = (are.0, one_more ds d are.1 is)
 named : (name : List ℕ) → IsName name → IsOfName (descriptor Namespace name)
 named name is = record { name = is; plain = refl }
 
-of_module : (name : List ℕ) → IsName name → AreOfNames (module_path name)
+pub module_named : (name : List ℕ) → IsName name → AreOfNames (module_path name)
 unfolding AreOfNames
-of_module name is = (named name is, tt)
+module_named name is = (named name is, tt)
 
-of_external : (module_name name : List ℕ) → IsName module_name → IsName name → AreOfNames (module_path module_name ++ descriptor Term name ∷ [])
-of_external module_name name is named_too = one_more (module_path module_name) (descriptor Term name) (of_module module_name is) (record { name = named_too; plain = refl })
+pub external_named : (module_name name : List ℕ) → IsName module_name → IsName name → AreOfNames (module_path module_name ++ descriptor Term name ∷ [])
+external_named module_name name is named_too = one_more (module_path module_name) (descriptor Term name) (module_named module_name is) (record { name = named_too; plain = refl })
 
 -- ---- paths of names
 
 module _ (m : List ℕ) (steps : ℕ → Option PathStep) (m_named : IsName m) (steps_are : AreOfStepNames steps) where
   front_named : (n : ℕ) (owner : Option ℕ) (front : List PlainDescriptor) → ((k : ℕ) (ds : List PlainDescriptor) → path_within m steps n k ≡ Some ds → AreOfNames ds) → above m steps n owner ≡ Some front → AreOfNames front
-  front_named n None front rest e = subst AreOfNames (some_one (module_path m) front e) (of_module m m_named)
+  front_named n None front rest e = subst AreOfNames (some_one (module_path m) front e) (module_named m m_named)
   front_named n (Some o) front rest e = rest o front e
 
   path_named : (n k : ℕ) (ds : List PlainDescriptor) → path_within m steps n k ≡ Some ds → AreOfNames ds
@@ -98,7 +98,7 @@ optional (b ∷ part) e =
     stop : (xs : List ℕ) → is_stop xs ≡ false → xs ≡ codes "." → ⊥
     stop xs e s = let k : is_stop (codes ".") ≡ false = subst (λ (x : List ℕ). is_stop x ≡ false) s e in absurd cc
 
-global_text : (p : List ℕ) (ds : List PlainDescriptor) → is_wrong_part p ≡ false → ds ≢ [] → AreOfNames ds → SymbolText (global p ds) (plain_text (global p ds))
+pub global_text : (p : List ℕ) (ds : List PlainDescriptor) → is_wrong_part p ≡ false → ds ≢ [] → AreOfNames ds → SymbolText (global p ds) (plain_text (global p ds))
 global_text p ds right some are = record {
   scheme_is = eqb-false 115 32 refl;
   not_local = not_local;
@@ -155,7 +155,7 @@ module _ (w : World) (p : List ℕ) (names : HaveNames w) (right : is_wrong_part
   by_name item name None s named_too is e = absurd (let none : None ≡ Some s = e in cc)
   by_name item name (Some i) s named_too is e =
       subst HasText (some_one _ s e)
-      (global_text [] (module_path (text w i.imported) ++ descriptor Term (text w name) ∷ []) refl (λ none. absurd cc) (of_external (text w i.imported) (text w name) (import_named w names i item is) named_too))
+      (global_text [] (module_path (text w i.imported) ++ descriptor Term (text w name) ∷ []) refl (λ none. absurd cc) (external_named (text w i.imported) (text w name) (import_named w names i item is) named_too))
 
   right_package : (item : ℕ) (o : Option ℕ) → home_of w item ≡ o → is_wrong_part (package_of w p item) ≡ false
   right_package item None is = rw is refl
@@ -166,14 +166,14 @@ module _ (w : World) (p : List ℕ) (names : HaveNames w) (right : is_wrong_part
   by_item item None s is e = absurd (let none : None ≡ Some s = e in cc)
   by_item item (Some i) s is e =
       subst HasText (some_one _ s e)
-      (global_text (package_of w p item) (module_path (text w i.imported)) (right_package item (home_of w item) refl) (λ none. absurd cc) (of_module (text w i.imported) (import_named w names i item is)))
+      (global_text (package_of w p item) (module_path (text w i.imported)) (right_package item (home_of w item) refl) (λ none. absurd cc) (module_named (text w i.imported) (import_named w names i item is)))
 
   pub target_text : (t : Target) (s : PlainSymbol) → ((item name : ℕ) → t ≡ targets.External item name → IsName (text w name)) → symbol_of w p t ≡ Some s → HasText s
   target_text (targets.Declared k) s external e = declared_text k s e
   target_text (targets.Imported i d) s external e = by_module i d (slice_get w.reached i) s refl e
   target_text (targets.External item name) s external e = by_name item name (slice_get w.rows.imports item) s (external item name refl) refl e
   target_text targets.Own s external e =
-      subst HasText (some_one _ s e) (global_text p (module_path (text w own_name)) right (λ none. absurd cc) (of_module (text w own_name) (own_named w names)))
+      subst HasText (some_one _ s e) (global_text p (module_path (text w own_name)) right (λ none. absurd cc) (module_named (text w own_name) (own_named w names)))
   target_text (targets.«Module» item) s external e = by_item item (slice_get w.rows.imports item) s refl e
   target_text targets.Predeclared s external e = absurd (let none : None ≡ Some s = e in cc)
   target_text targets.Unresolved s external e = absurd (let none : None ≡ Some s = e in cc)

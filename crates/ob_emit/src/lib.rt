@@ -1,5 +1,5 @@
 //! The document of a module in a SCIP index, as a message or as the bytes of its record, and the symbols that are declared outside of its tree.
-//! Stands on `ob_targets` and `ob_types` for what identifiers stand for, on `scip_symbol`, `proto_wire` and `scip_index`, on `indexmap` for texts by
+//! Stands on `ob_targets` and `ob_types` for what identifiers stand for, on `scip_symbol`, `proto_wire` and `scip_index`, on `indexmap` and `text_hash` for texts by
 //! their targets and for what was met, with `thiserror` for its fault.
 //! Its contract: a document is exactly what this project's names and the targets of the module's identifiers say, or the package is no package.
 #![tactic(auto)]

@@ -9,9 +9,10 @@ use crate::fronts::Fronts;
 use crate::imported_kept::ImportedTexts;
 use crate::module_texts::{external_text, item_text};
 use indexmap::IndexMap;
-use ob_targets::Target;
+use ob_targets::{Reference, Target};
 use ob_types::Types;
 use std::alloc::{AllocError, Global};
+use text_hash::Seed;
 
 /// The texts of what references stand for outside of the module; what has no symbol has none.
 #[derive(Drop)]
@@ -21,7 +22,18 @@ pub(crate) struct Outer<'a> {
     /// Those of modules, in the order of the import items that name them.
     pub(crate) modules: Vec<Option<String>>,
     /// Those of names of modules that aren't in the tree, by the place of the import item that names the module and the name.
-    pub(crate) names: IndexMap<(u32, &'a [u8]), Option<String>>,
+    pub(crate) names: IndexMap<(u32, &'a [u8]), Option<String>, Seed>,
+}
+
+/// The seed of a table of the names of modules that aren't in the tree: the author of the module chooses them.
+pub(crate) fn outside_seed(types: &Types<'_>, refs: &[Reference]) -> Seed {
+    let mut most: usize = 0;
+    for reference in refs {
+        if let Target::External { .. } = reference.target {
+            most = most.saturating_add(1);
+        }
+    }
+    Seed::for_keys(types.bytes(), most)
 }
 
 /// The texts of the modules that import items name, in order.
@@ -46,7 +58,7 @@ fn add_name<'a>(
     alloc: Global,
     types: &Types<'a>,
     outside: &str,
-    texts: &mut IndexMap<(u32, &'a [u8]), Option<String>>,
+    texts: &mut IndexMap<(u32, &'a [u8]), Option<String>, Seed>,
     key: (u32, &'a [u8]),
 ) -> Result<usize, AllocError>
     requires named { HaveNames types.now }
@@ -62,11 +74,12 @@ fn add_name<'a>(
 }
 
 impl<'a> Outer<'a> {
-    /// The texts of modules alone, boxed, so that they are handed on as one pointer.
+    /// The texts of modules alone, with a table of the others that is seeded so, boxed, so that they are handed on as one pointer.
     pub(crate) fn new(
         alloc: Global,
         types: &Types<'a>,
         fronts: &Fronts,
+        seed: Seed,
     ) -> Result<Box<Outer<'a>>, AllocError>
         requires { HaveNames types.now }
         ensures { (package_name : List ℕ) → AreFronts package_name fronts.now → IfOk result (λ texts. AreOuter types.now package_name texts.value) }
@@ -74,7 +87,7 @@ impl<'a> Outer<'a> {
         let texts = Outer {
             imported: ImportedTexts::new(alloc)?,
             modules: module_texts(alloc, types, fronts)?,
-            names: IndexMap::new(alloc),
+            names: IndexMap::with_hasher(alloc, seed),
         };
         Ok(Box::new(alloc, texts)?)
     }

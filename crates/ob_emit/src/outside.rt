@@ -14,6 +14,7 @@ ghost use Rattle.std.specs.Prelude.{List, ℕ};
 
 use crate::fronts::front_text;
 use crate::module_texts::{external_text, module_text};
+use crate::outer_texts::outside_seed;
 use crate::own::import_at;
 use crate::path::name_of;
 use indexmap::IndexSet;
@@ -125,7 +126,7 @@ fn first_uses(
 ) -> Result<Vec<Reference>, AllocError>
     ensures { IfOk result (λ v. AreEnough types.now refs.now v.items) }
 {
-    let mut seen = IndexSet::new(alloc);
+    let mut seen = IndexSet::with_hasher(alloc, outside_seed(types, refs));
     let mut found = Vec::new(alloc);
     for reference in refs {
         if let Some(key) = outside_key(types, reference.target) {

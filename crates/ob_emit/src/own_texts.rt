@@ -13,7 +13,7 @@ ghost use Rattle.ob_emit.specs.Symbols.{is_local, own_path, symbol_at};
 
 use crate::fronts::Fronts;
 use crate::module_texts::module_text;
-use crate::outer_texts::Outer;
+use crate::outer_texts::{Outer, outside_seed};
 use crate::own::is_local;
 use crate::path::path_text;
 use crate::row_places::RowPlaces;
@@ -120,10 +120,11 @@ fn places_in<'a>(alloc: Global, types: &Types<'a>) -> Result<RowPlaces<'a>, Allo
 }
 
 impl<'a> Texts<'a> {
-    /// The texts of the symbols in a package that a module has, whatever its references are.
+    /// The texts of the symbols in a package that a module with these references has, whatever they are.
     pub(crate) fn begun(
         alloc: Global,
         types: &Types<'a>,
+        refs: &[Reference],
         package_name: &str,
     ) -> Result<Texts<'a>, AllocError>
         requires { HaveNames types.now }
@@ -134,7 +135,7 @@ impl<'a> Texts<'a> {
         let own = module_text(alloc, fronts.tree.as_str(), name)?;
         let declared = declared_texts(alloc, types, fronts.tree.as_str())?;
         let places = places_in(alloc, types)?;
-        let outer = Outer::new(alloc, types, &fronts)?;
+        let outer = Outer::new(alloc, types, &fronts, outside_seed(types, refs))?;
         Ok(Texts {
             fronts,
             own,
@@ -174,7 +175,7 @@ impl<'a> Texts<'a> {
         requires of_names { AreOfNames types.now refs.now }
         ensures { IfOk result (AreSymbolTexts types.now package_name.now) }
     {
-        let mut texts = Texts::begun(alloc, types, package_name)?;
+        let mut texts = Texts::begun(alloc, types, refs, package_name)?;
         for reference in refs {
             texts.meet(alloc, types, reference.target)?;
         }

@@ -294,7 +294,7 @@ fn bytes_behind(
     requires of_names { AreOfNames types.now refs.now }
     ensures { IfOk result (λ v. v.items ≡ replicate room 0 ++ written_document (document_of types.now path.now package_name.now refs.now)) }
 {
-    let mut texts = Texts::begun(alloc, types, package_name)?;
+    let mut texts = Texts::begun(alloc, types, refs, package_name)?;
     let most = refs.len().saturating_mul(OCCURRENCE).saturating_add(room);
     let mut bytes = Vec::with_capacity(alloc, most)?;
     bytes.resize(room, 0)?;

@@ -4,7 +4,7 @@ ghost use Rattle.std.specs.List.{slice_index_or, IsDistinct};
 ghost use Rattle.std.specs.Str.{bytes_eq};
 ghost use Rattle.digraph.specs.Chains.{IsAcyclic};
 ghost use Rattle.digraph.specs.Edges.{AreBetween, Leads};
-ghost use Rattle.ob_imports.specs.Files.{files_of, File};
+ghost use Rattle.ob_imports.specs.Files.{files_of, AreNodes, File};
 ghost use Rattle.ob_imports.specs.Graphs.{graph_with, ImportGraph};
 ghost use Rattle.ob_imports.specs.Names.{names_by, texts, IsByName};
 ghost use Rattle.ob_imports.specs.Numbering.{AreLed};
@@ -20,8 +20,6 @@ use indexmap::IndexSet;
 use std::alloc::{AllocError, Global};
 
 const MOST_MODULES: usize = 4096;
-
-const MOST_NODES: usize = 8192;
 
 const MOST_PAIRS: usize = 65536;
 
@@ -83,20 +81,33 @@ fn from_names(
     }
 }
 
-/// What files make whose modules differ in name: a graph, or the first refusal.
-fn from_files(alloc: Global, parsed: &[Parsed]) -> Result<Graph, GraphFault>
-    requires { AreFiles (files_of parsed.now) }
+/// What files make whose modules have these names: a graph, or the first refusal.
+fn from_nodes(
+    alloc: Global,
+    parsed: &[Parsed],
+    names: IndexSet<String>,
+) -> Result<Graph, GraphFault>
+    requires files { AreFiles (files_of parsed.now) }
+    requires nodes { AreNodes (files_of parsed.now) (texts names.keys) }
+    requires few { length names.keys ≤ 8192 }
     ensures { Tells result (IsGraphOutcome (files_of parsed.now)) }
 {
-    let names = nodes_of(alloc, parsed)?;
-    if names.len() > MOST_NODES {
-        return Err(GraphFault::TooMany);
-    }
     let pairs = pairs_of(alloc, parsed, &names)?;
     if pairs.len() > MOST_PAIRS {
         return Err(GraphFault::TooMany);
     }
     from_names(alloc, parsed, names, pairs)
+}
+
+/// What files make whose modules differ in name: a graph, or the first refusal.
+fn from_files(alloc: Global, parsed: &[Parsed]) -> Result<Graph, GraphFault>
+    requires { AreFiles (files_of parsed.now) }
+    ensures { Tells result (IsGraphOutcome (files_of parsed.now)) }
+{
+    match nodes_of(alloc, parsed)? {
+        None => Err(GraphFault::TooMany),
+        Some(names) => from_nodes(alloc, parsed, names),
+    }
 }
 
 /// What the files make: a graph, or the first refusal.

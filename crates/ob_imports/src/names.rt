@@ -1,14 +1,17 @@
 //! Tables of names: those of the files' modules, then the external ones by name.
-ghost use Rattle.std.specs.Prelude.{◌≡◌, ◌≤◌, ◌↔◌, ◌++◌, Contains, IfOk, List, OnOk, length, ℕ};
+ghost use Rattle.std.specs.Prelude.{◌≡◌, ◌≤◌, ◌↔◌, ◌++◌, Contains, IfNone, IfOk, IfSome, List, OnOk, length, ℕ};
 ghost use Rattle.std.specs.List.{IsDistinct};
 ghost use Rattle.std.specs.Str.{bytes_eq};
 ghost use Rattle.ob_imports.specs.Files.{files_of, names_of, AreNodes, DifferInName, IsExternal};
 ghost use Rattle.ob_imports.specs.Names.{texts, AreAscending};
 ghost use Rattle.ob_imports.specs.Numbering.{all_lacked, lacked, place_of};
+ghost use Rattle.ob_imports.specs.Outcomes.{AreFiles, HasManyNodes};
 
 use crate::Parsed;
 use indexmap::IndexSet;
 use std::alloc::{AllocError, Global};
+
+const MOST_NODES: usize = 8192;
 
 pub(crate) fn module_names(alloc: Global, parsed: &[Parsed]) -> Result<Vec<String>, AllocError>
     ensures { IfOk result (λ names. texts names.items ≡ names_of (files_of parsed.now)) }
@@ -101,15 +104,27 @@ fn others_in_order(
     Ok(others)
 }
 
-/// The names of all modules, by their numbers.
-pub(crate) fn nodes_of(alloc: Global, parsed: &[Parsed]) -> Result<IndexSet<String>, AllocError>
-    requires { DifferInName (files_of parsed.now) }
-    ensures { IfOk result (λ table. AreNodes (files_of parsed.now) (texts table.keys)) }
+/// The names of all modules, by their numbers, or none where there are too many. Names that were made to fall together are counted before
+/// they come into the table.
+pub(crate) fn nodes_of(
+    alloc: Global,
+    parsed: &[Parsed],
+) -> Result<Option<IndexSet<String>>, AllocError>
+    requires { AreFiles (files_of parsed.now) }
+    ensures named { IfOk result (λ nodes. IfSome nodes (λ table. AreNodes (files_of parsed.now) (texts table.keys))) }
+    ensures few { IfOk result (λ nodes. IfSome nodes (λ table. length table.keys ≤ 8192)) }
+    ensures many { IfOk result (λ nodes. IfNone nodes (HasManyNodes (files_of parsed.now))) }
 {
     let mut table = of_files(alloc, parsed)?;
     let others = others_in_order(alloc, parsed, &table)?;
+    if others.len() > MOST_NODES {
+        return Ok(None);
+    }
     put_names(alloc, &mut table, others.as_slice())?;
-    Ok(table)
+    if table.len() > MOST_NODES {
+        return Ok(None);
+    }
+    Ok(Some(table))
 }
 
 /// The place of a name that the table has.

@@ -41,6 +41,10 @@ rank_le Less m n h l = cc
 rank_le Equal m n h l = (refl, grind (arith, nat_tests))
 rank_le Greater m n h l = absurd (omega (arith, l))
 
+-- the entries of smaller keys end here
+abbrev pub IsEndOfSmaller : {E K : Type 0} → (K → K → Ordering) → (E → K) → List E → K → ℕ → Type 0
+IsEndOfSmaller R key es k i = IsPartitionPoint (λ e. is_lt (R (key e) k) ≡ true) (λ e. is_lt (R (key e) k) ≡ false) es i
+
 module _ {E K : Type 0} {R : K → K → Ordering} (total : IsTotalOrder R) (exact : CmpEqualImpliesEq R) (key : E → K) (place : E → ℕ) where
   abbrev pub Ranked : Type 0
   Ranked = K × ℕ
@@ -70,7 +74,7 @@ module _ {E K : Type 0} {R : K → K → Ordering} (total : IsTotalOrder R) (exa
     pub has : (d : E) → key (get_or es i d) ≡ k
     pub least : (d : E) → place (get_or es i d) ≤ n
 
-  pub stands : (es : List E) (k : K) (i : ℕ) → AreRanked R key place es → IsPartitionPoint (λ e. is_lt (R (key e) k) ≡ true) (λ e. is_lt (R (key e) k) ≡ false) es i → (e : E) → Contains es e → key e ≡ k → StandsAt es k i (place e)
+  pub stands : (es : List E) (k : K) (i : ℕ) → AreRanked R key place es → IsEndOfSmaller R key es k i → (e : E) → Contains es e → key e ≡ k → StandsAt es k i (place e)
   stands es k i s point e (j, l, is) same = record { within = omega (arith, before, l); has = λ d. exact _ _ (here d).0; least = λ d. (here d).1 }
     where
       equal : R (key e) k ≡ Equal
@@ -96,7 +100,7 @@ module _ {E K : Type 0} {R : K → K → Ordering} (total : IsTotalOrder R) (exa
           rank_le (R (key (get_or es i d)) k) (place (get_or es i d)) (place e) (point.1 i d (omega arith) (omega (arith, before, l))) (omega arith)
 
   -- so a look-up there answers the least place
-  pub found : (es : List E) (k : K) (i : ℕ) (d : E) → AreRanked R key place es → IsPartitionPoint (λ e. is_lt (R (key e) k) ≡ true) (λ e. is_lt (R (key e) k) ≡ false) es i → i < length es → is_eq (R (key (get_or es i d)) k) ≡ true
+  pub found : (es : List E) (k : K) (i : ℕ) (d : E) → AreRanked R key place es → IsEndOfSmaller R key es k i → i < length es → is_eq (R (key (get_or es i d)) k) ≡ true
       → IsLeastPlace key place es k (place (get_or es i d))
   found es k i d s point l e = record {
     entry = get_or es i d;
@@ -114,10 +118,10 @@ module _ {E K : Type 0} {R : K → K → Ordering} (total : IsTotalOrder R) (exa
       refl_at : get_or es i (get_or es i d) ≡ get_or es i d
       refl_at = get_or_from_slice_get es i (get_or es i d) (get_or es i d) (slice_get-get_or es i d l)
 
-  pub none_beyond : (es : List E) (k : K) (i : ℕ) → AreRanked R key place es → IsPartitionPoint (λ e. is_lt (R (key e) k) ≡ true) (λ e. is_lt (R (key e) k) ≡ false) es i → length es ≤ i → (e : E) → Contains es e → key e ≡ k → ⊥
+  pub none_beyond : (es : List E) (k : K) (i : ℕ) → AreRanked R key place es → IsEndOfSmaller R key es k i → length es ≤ i → (e : E) → Contains es e → key e ≡ k → ⊥
   none_beyond es k i s point l e c same = let h = (stands es k i s point e c same).within in omega (arith, h, l)
 
-  pub none_there : (es : List E) (k : K) (i : ℕ) (d : E) → AreRanked R key place es → IsPartitionPoint (λ e. is_lt (R (key e) k) ≡ true) (λ e. is_lt (R (key e) k) ≡ false) es i → is_eq (R (key (get_or es i d)) k) ≡ false
+  pub none_there : (es : List E) (k : K) (i : ℕ) (d : E) → AreRanked R key place es → IsEndOfSmaller R key es k i → is_eq (R (key (get_or es i d)) k) ≡ false
       → (e : E) → Contains es e → key e ≡ k → ⊥
   none_there es k i d s point differs e c same =
       let h : key (get_or es i d) ≡ k = (stands es k i s point e c same).has d in

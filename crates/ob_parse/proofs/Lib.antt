@@ -12,6 +12,7 @@ pub mod DeeperModules
 pub mod DeeperStatements
 pub mod DeeperTypes
 pub mod Endings
+pub mod Fronts
 pub mod Kept
 pub mod LoopEnds
 pub mod LoopProcedures
@@ -19,6 +20,7 @@ pub mod Loops
 pub mod OneFault
 pub mod OneTree
 pub mod ReadsBack
+pub mod Repetitions
 pub mod RightEnds
 pub mod Somes
 pub mod Sound
@@ -28,4 +30,5 @@ pub mod SoundStatements
 pub mod SoundTypes
 pub mod Stars
 pub mod StatementSteps
+pub mod Turns
 pub mod Whole

@@ -114,7 +114,7 @@ pub(crate) fn selected_targets(
     ensures { IfOk result (λ v. AreNamed types.now (length types.now.rows.selectors) v.items) }
 {
     let selectors = types.table().selectors();
-    let mut finder = Finder::new(alloc, types);
+    let mut finder = Finder::new(alloc, types, types.bytes(), selectors.len());
     let mut targets = Vec::with_capacity(alloc, selectors.len())?;
     let mut behind = Known::Nothing;
     for place in 0..selectors.len() {

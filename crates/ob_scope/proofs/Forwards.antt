@@ -8,14 +8,21 @@ use Rattle.std.proofs.lemmas.Bool.{cases_Bool, cases_lt, false≢true}
 use Rattle.std.proofs.lemmas.Option.{slice_get_within, slice_get-get_or, get_or_from_slice_get}
 use Rattle.std.proofs.lemmas.Slice.Eq.{bytes_eq-Decides}
 use Rattle.indexmap.specs.IndexMap.{get, IndexMap}
+use Rattle.ob_decls.specs.declared.rows.Sort.TheVariants as sorts
 use Rattle.ob_scope.specs.declared.members.Member.{Member}
 use Rattle.ob_scope.specs.declared.members.Scope.{Scope}
 use Rattle.ob_scope.specs.declared.members.Scope.TheVariants.{Block}
 use Rattle.ob_scope.specs.declared.numbering.Name.{Name}
 use Rattle.ob_scope.specs.Forward.{same_type, AreTypes, IsTypeAt, TypeKey}
-use Rattle.ob_scope.specs.Looked.{IsTypeAfter}
+use Rattle.ob_scope.specs.Looked.{IsNamedIn, IsTypeAfter}
 use Rattle.ob_scope.specs.Scope.{NoneTwice}
 use Rattle.ob_scope.specs.Sights.{name_number, AreNumbered}
+
+-- a type that has the name of the token, in the block
+pub record IsTypeOfName (name : ℕ → List ℕ) (members : List Member) (block token at : ℕ) : Type 0 where
+  pub member : Member
+  pub here : IsNamedIn name members block token (at, member)
+  pub a_type : member.sort ≡ sorts.Type
 
 -- texts of one number among the names are one
 pub number_one : (names : List Name) (a b : List ℕ) → name_number names a ≡ name_number names b → name_number names a < length names → a ≡ b
@@ -123,7 +130,7 @@ module _ {S : Type 0} (members : List Member) (numbers : List ℕ) where
         (cases_lt k i);
   }
 
-  module _ (name : ℕ → List ℕ) (names : List Name) (numbered : AreNumbered name members names numbers) (once : NoneTwice name members) (types : IndexMap TypeKey ℕ S) (are : AreTypes members numbers (length members) types)
+  module _ (name : ℕ → List ℕ) (names : List Name) (numbered : AreNumbered name members names numbers) (types : IndexMap TypeKey ℕ S) (are : AreTypes members numbers (length members) types)
       (block token number : ℕ) where
     -- a type behind a use is one of the name in the block
     type_of : (i : ℕ) → number ≡ name_number names (name token) → IsTypeAfter name members block token i → IsTypeAt members numbers (block, number) i
@@ -135,60 +142,47 @@ module _ {S : Type 0} (members : List Member) (numbers : List ℕ) where
       a_type = h.a_type;
     }
 
-    -- of a name that no member has there is none
-    pub after_unnamed : length names ≤ name_number names (name token) → (i : ℕ) → IsTypeAfter name members block token i → ⊥
-    after_unnamed past i h =
-        let within = numbered.within i h.member h.here.there in
-        let each = numbered.each i h.member h.here.there ∙ ap (name_number names) h.here.named in
-        omega (arith, each, within, past)
-
     -- where the block declares no type of the name there is none
     pub after_undeclared : number ≡ name_number names (name token) → get same_type types (block, number) ≡ None → (i : ℕ) → IsTypeAfter name members block token i → ⊥
     after_undeclared is none i h = none_there (get same_type types (block, number)) none (are.all (block, number) i (slice_get_within members i h.member h.here.there) (type_of i is h))
-
-    there_at : (at : ℕ) → get same_type types (block, number) ≡ Some at → IsTypeAt members numbers (block, number) at
-    there_at at e = are.sound (block, number) at e
-
-    pub at_within : (at : ℕ) → get same_type types (block, number) ≡ Some at → at < length members
-    at_within at e = let h = there_at at e in slice_get_within members at h.member h.there
 
     named_at : (at : ℕ) (h : IsTypeAt members numbers (block, number) at) → number ≡ name_number names (name token) → number < length names → name h.member.number ≡ name token
     named_at at h is within =
         let each = numbered.each at h.member h.there in
         number_one names (name h.member.number) (name token) (sym each ∙ h.number ∙ is) (let e = h.number in omega (arith, each, e, within))
 
-    -- the type that is found stands behind the use
-    pub after_found : (at : ℕ) (d : Member) → number ≡ name_number names (name token) → number < length names → get same_type types (block, number) ≡ Some at
-        → token < (get_or members at d).number → IsTypeAfter name members block token at
-    after_found at d is within e less =
-        let h = there_at at e in
-        let same : get_or members at d ≡ h.member = get_or_from_slice_get members at h.member d h.there in
-        record {
-          member = h.member;
-          here = record { there = h.there; placed = h.placed; named = named_at at h is within };
-          after = subst (λ (m : Member). token < m.number) same less;
-          a_type = h.a_type;
-        }
+    pub type_found : (at : ℕ) → number ≡ name_number names (name token) → number < length names → get same_type types (block, number) ≡ Some at → IsTypeOfName name members block token at
+    type_found at is within e =
+        let h = are.sound (block, number) at e in
+        record { member = h.member; here = record { there = h.there; placed = h.placed; named = named_at at h is within }; a_type = h.a_type }
 
-    -- the type that is found stands before it
-    pub after_before : (at : ℕ) (d : Member) → number ≡ name_number names (name token) → number < length names → get same_type types (block, number) ≡ Some at
-        → (get_or members at d).number ≤ token → (i : ℕ) → IsTypeAfter name members block token i → ⊥
-    after_before at d is within e past i g =
-        let h = there_at at e in
-        let same : get_or members at d ≡ h.member = get_or_from_slice_get members at h.member d h.there in
-        let before : h.member.number ≤ token = subst (λ (m : Member). m.number ≤ token) same past in
-        let place : g.member.place ≡ h.member.place = g.here.placed ∙ sym h.placed in
-        let named : name g.member.number ≡ name h.member.number = g.here.named ∙ sym (named_at at h is within) in
-        ⊎_elim
-        (λ (below : i < at). once i at g.member h.member below g.here.there h.there (place, named))
-        (λ (above : at ≤ i).
-        ⊎_elim
-        (λ (below : at < i). once at i h.member g.member below h.there g.here.there (sym place, sym named))
-        (λ (other : i ≤ at). (
-        let one : i ≡ at = omega arith in
-        let member : g.member ≡ h.member = (let f : Some g.member ≡ Some h.member = sym g.here.there ∙ ap (slice_get members) one ∙ h.there in cc) in
-        let after = g.after in
-        let number : g.member.number ≡ h.member.number = ap (λ (m : Member). m.number) member in
-        omega (arith, after, number, before)))
-        (cases_lt at i))
-        (cases_lt i at)
+module _ {name : ℕ → List ℕ} {members : List Member} {block token at : ℕ} (h : IsTypeOfName name members block token at) where
+  pub type_within : at < length members
+  type_within = slice_get_within members at h.member h.here.there
+
+  read_is : (d : Member) → get_or members at d ≡ h.member
+  read_is d = get_or_from_slice_get members at h.member d h.here.there
+
+  -- it stands behind the use
+  pub after_found : (d : Member) → token < (get_or members at d).number → IsTypeAfter name members block token at
+  after_found d less = record { member = h.member; here = h.here; after = subst (λ (m : Member). token < m.number) (read_is d) less; a_type = h.a_type }
+
+  -- it stands before it
+  pub after_before : NoneTwice name members → (d : Member) → (get_or members at d).number ≤ token → (i : ℕ) → IsTypeAfter name members block token i → ⊥
+  after_before once d past i g =
+      let before : h.member.number ≤ token = subst (λ (m : Member). m.number ≤ token) (read_is d) past in
+      let place : g.member.place ≡ h.member.place = g.here.placed ∙ sym h.here.placed in
+      let named : name g.member.number ≡ name h.member.number = g.here.named ∙ sym h.here.named in
+      ⊎_elim
+      (λ (below : i < at). once i at g.member h.member below g.here.there h.here.there (place, named))
+      (λ (above : at ≤ i).
+      ⊎_elim
+      (λ (below : at < i). once at i h.member g.member below h.here.there g.here.there (sym place, sym named))
+      (λ (other : i ≤ at). (
+      let one : i ≡ at = omega arith in
+      let member : g.member ≡ h.member = (let f : Some g.member ≡ Some h.member = sym g.here.there ∙ ap (slice_get members) one ∙ h.here.there in cc) in
+      let after = g.after in
+      let number : g.member.number ≡ h.member.number = ap (λ (m : Member). m.number) member in
+      omega (arith, after, number, before)))
+      (cases_lt at i))
+      (cases_lt i at)

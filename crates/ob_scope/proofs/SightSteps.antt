@@ -1,7 +1,7 @@
 -- A sight after one step.
 use Rattle.std.proofs.Common.{◌≡◌, ℕ, zero, suc, ◌+◌, ◌<◌, ◌≤◌, List, [], ◌∷◌, ◌++◌, length, get_or, Option, Some, None, refl, sym, ap, ◌∙◌, subst, arith}
 use Rattle.std.specs.Prelude.{slice_get, slice_index, slice_index_or, slice_set, IfNone, IfSome}
-use Rattle.std.proofs.lemmas.List.{length-set}
+use Rattle.std.proofs.lemmas.List.{get_or_default, length-set}
 use Rattle.std.proofs.lemmas.Option.{slice_get-get_or, get_or_from_slice_get}
 use Rattle.ob_decls.specs.declared.rows.Block.{Block}
 use Rattle.ob_decls.specs.Order.{AscendBy}
@@ -45,14 +45,14 @@ module _ (blocks : List Block) (members : List Member) (numbers : List ℕ) (nam
   }
 
   -- another block is entered
-  pub sight_entered : (s t : Sight) (block : ℕ) (opened : Open) → IsSight blocks members numbers names s → Enters blocks block s.«open».stack.items s.«open».fresh opened.stack.items opened.fresh
+  sight_entered : (s t : Sight) (block : ℕ) (opened : Open) → IsSight blocks members numbers names s → Enters blocks block s.«open».stack.items s.«open».fresh opened.stack.items opened.fresh
       → t.«open» ≡ opened → t.next ≡ s.next → t.latest.items ≡ s.latest.items → t.earlier.items ≡ s.earlier.items → IsSight blocks members numbers names t
   sight_entered s t block opened h e is_open is_next is_latest is_earlier =
       sight_of t opened s.next s.latest.items s.earlier.items is_open is_next is_latest is_earlier h.named h.as_many h.few e.opened
       (seen_enter blocks members numbers s.«open».stack.items opened.stack.items s.«open».fresh opened.fresh s.next s.latest.items s.earlier.items e.kept e.later h.seen)
 
   -- another member may be the last of a name
-  pub sight_start : (s t : Sight) (n : ℕ) (at : Option ℕ) → IsSight blocks members numbers names s → n < names → IsStart members numbers s.«open».stack.items s.next n at
+  sight_start : (s t : Sight) (n : ℕ) (at : Option ℕ) → IsSight blocks members numbers names s → n < names → IsStart members numbers s.«open».stack.items s.next n at
       → t.«open» ≡ s.«open» → t.next ≡ s.next → t.latest.items ≡ slice_set s.latest.items n at → t.earlier.items ≡ s.earlier.items → IsSight blocks members numbers names t
   sight_start s t n at h within start is_open is_next is_latest is_earlier =
       sight_of t s.«open» s.next (slice_set s.latest.items n at) s.earlier.items is_open is_next is_latest is_earlier (length-set s.latest.items n at ∙ h.named) h.as_many h.few h.opened
@@ -83,14 +83,14 @@ module _ (blocks : List Block) (members : List Member) (numbers : List ℕ) (nam
       ascend e.opened block e.innermost here (omega arith) (omega arith))
 
   -- what the walk from a start needs
-  pub start_within : (s : Sight) (n : ℕ) → IsSight blocks members numbers names s → IfSome (slice_index_or s.latest.items n None) (λ i. i < length members)
+  start_within : (s : Sight) (n : ℕ) → IsSight blocks members numbers names s → IfSome (slice_index_or s.latest.items n None) (λ i. i < length members)
   start_within s n h = go (slice_index_or s.latest.items n None) (h.seen.starts n).some
     where
       go : (o : Option ℕ) → ((x : ℕ) → o ≡ Some x → IsNamedAt members numbers s.next n x) → IfSome o (λ i. i < length members)
       go None f = tt
       go (Some x) f = let l : x < s.next = (f x refl).below in let few = h.few in omega arith
 
-  pub falls : (s : Sight) (i x : ℕ) → IsSight blocks members numbers names s → slice_index_or s.earlier.items i None ≡ Some x → x < i
+  falls : (s : Sight) (i x : ℕ) → IsSight blocks members numbers names s → slice_index_or s.earlier.items i None ≡ Some x → x < i
   falls s i x h e = (h.seen.older i x e).below
 
 -- ---- a look-up
@@ -106,48 +106,70 @@ abbrev pub Walks : List Member → List ℕ → List (Option ℕ) → Option ℕ
 Walks members stack earlier from at =
     (bs : List Block) (ns : List ℕ) (fresh j k : ℕ) (latest : List (Option ℕ)) → AreSeen bs members ns stack fresh j latest earlier → IsStart members ns stack j k from → IsStart members ns stack j k at
 
-pub walk_by : (members : List Member) (st su : List ℕ) (ea eb : List (Option ℕ)) (from start at : Option ℕ) → st ≡ su → ea ≡ eb → from ≡ start → Walks members st ea from at → Walks members su eb start at
+walk_by : (members : List Member) (st su : List ℕ) (ea eb : List (Option ℕ)) (from start at : Option ℕ) → st ≡ su → ea ≡ eb → from ≡ start → Walks members st ea from at → Walks members su eb start at
 walk_by members st su ea eb from start at e f g h =
     subst (λ (x : List ℕ). Walks members x eb start at) e (subst (λ (y : List (Option ℕ)). Walks members st y start at) f (subst (λ (z : Option ℕ). Walks members st ea z at) g h))
 
-module _ (name : ℕ → List ℕ) (blocks : List Block) (members : List Member) (names : List Name) (numbers : List ℕ) (numbered : AreNumbered name members names numbers) (ascend : AscendBy (λ (b : Block). b.first) blocks)
-    (block token : ℕ) (s : Sight) (h : IsSight blocks members numbers (length names) s) (front : IsFrontBefore members s.next token) (opened : Open)
-    (e : Enters blocks block s.«open».stack.items s.«open».fresh opened.stack.items opened.fresh) where
+-- a name is looked up: what was declared before it is seen, and its block is entered
+pub record IsLookUp (name : ℕ → List ℕ) (blocks : List Block) (members : List Member) (names : List Name) (numbers : List ℕ) (block token : ℕ) (s : Sight) (opened : Open) : Type 0 where
+  pub numbered : AreNumbered name members names numbers
+  pub ascend : AscendBy (λ (b : Block). b.first) blocks
+  pub sight : IsSight blocks members numbers (length names) s
+  pub front : IsFrontBefore members s.next token
+  pub entered : Enters blocks block s.«open».stack.items s.«open».fresh opened.stack.items opened.fresh
+
+module _ {name : ℕ → List ℕ} {blocks : List Block} {members : List Member} {names : List Name} {numbers : List ℕ} {block token : ℕ} {s : Sight} {opened : Open} (l : IsLookUp name blocks members names numbers block token s opened) where
   seen : AreSeen blocks members numbers opened.stack.items opened.fresh s.next s.latest.items s.earlier.items
-  seen = seen_enter blocks members numbers s.«open».stack.items opened.stack.items s.«open».fresh opened.fresh s.next s.latest.items s.earlier.items e.kept e.later h.seen
+  seen = let e = l.entered in seen_enter blocks members numbers s.«open».stack.items opened.stack.items s.«open».fresh opened.fresh s.next s.latest.items s.earlier.items e.kept e.later l.sight.seen
 
   pub look_same : (t : Sight) → t.«open» ≡ opened → t.next ≡ s.next → t.latest.items ≡ s.latest.items → t.earlier.items ≡ s.earlier.items → IsSight blocks members numbers (length names) t
-  look_same t is_open is_next is_latest is_earlier = sight_entered blocks members numbers (length names) s t block opened h e is_open is_next is_latest is_earlier
+  look_same t is_open is_next is_latest is_earlier = sight_entered blocks members numbers (length names) s t block opened l.sight l.entered is_open is_next is_latest is_earlier
 
   pub look_unnamed : length names ≤ name_number names (name token) → ResolvesToNothing name blocks members (use_in block token)
-  look_unnamed past = resolved_unnamed name blocks members names numbers numbered opened.stack.items opened.fresh s.next s.latest.items s.earlier.items seen ascend e.opened block token e.innermost front past
+  look_unnamed past =
+      let e = l.entered in
+      resolved_unnamed name blocks members names numbers l.numbered opened.stack.items opened.fresh s.next s.latest.items s.earlier.items seen l.ascend e.opened block token e.innermost l.front past
 
   pub look_ascend : AscendBy (λ (b : ℕ). b) opened.stack.items
-  look_ascend = open_ascend blocks opened.stack.items e.opened.chain
+  look_ascend = let e = l.entered in open_ascend blocks opened.stack.items e.opened.chain
 
-  -- a start from what may be the last of the name
-  pub look_start : (n : ℕ) (at : Option ℕ)
-      → Walks members opened.stack.items s.earlier.items (slice_index_or s.latest.items n None) at
-      → IsStart members numbers opened.stack.items s.next n at
-  look_start n at walk = walk blocks numbers opened.fresh s.next n s.latest.items seen (seen.starts n)
+  -- what may be the last of a name, as it is read
+  look_read : (n : ℕ) (read : Option ℕ) → n < length names → read ≡ get_or s.latest.items n read → slice_index_or s.latest.items n None ≡ read
+  look_read n read within is = get_or_default s.latest.items n None read (let named = l.sight.named in omega arith) ∙ sym is
+
+  pub look_within : (n : ℕ) (read : Option ℕ) → n < length names → read ≡ get_or s.latest.items n read → IfSome read (λ i. i < length members)
+  look_within n read within is =
+      subst (λ (o : Option ℕ). IfSome o (λ i. i < length members)) (look_read n read within is) (start_within blocks members numbers (length names) s n l.sight)
+
+  pub look_falls : (earlier : List (Option ℕ)) (i x : ℕ) → earlier ≡ s.earlier.items → slice_index_or earlier i None ≡ Some x → x < i
+  look_falls earlier i x is e = falls blocks members numbers (length names) s i x l.sight (sym (ap (λ (xs : List (Option ℕ)). slice_index_or xs i None) is) ∙ e)
+
+  -- the walk from there comes to a start
+  pub look_start : (stack : List ℕ) (earlier : List (Option ℕ)) (n : ℕ) (read at : Option ℕ) → stack ≡ opened.stack.items → earlier ≡ s.earlier.items
+      → n < length names → read ≡ get_or s.latest.items n read → Walks members stack earlier read at → IsStart members numbers opened.stack.items s.next n at
+  look_start stack earlier n read at is_stack is_earlier within is walk =
+      walk_by members stack opened.stack.items earlier s.earlier.items read (slice_index_or s.latest.items n None) at is_stack is_earlier (sym (look_read n read within is)) walk
+      blocks numbers opened.fresh s.next n s.latest.items seen (seen.starts n)
 
   pub look_sight : (t : Sight) (n : ℕ) (at : Option ℕ) → n < length names → IsStart members numbers opened.stack.items s.next n at
       → t.«open» ≡ opened → t.next ≡ s.next → t.latest.items ≡ slice_set s.latest.items n at → t.earlier.items ≡ s.earlier.items → IsSight blocks members numbers (length names) t
   look_sight t n at within start is_open is_next is_latest is_earlier =
-      sight_of blocks members numbers (length names) t opened s.next (slice_set s.latest.items n at) s.earlier.items is_open is_next is_latest is_earlier (length-set s.latest.items n at ∙ h.named) h.as_many h.few e.opened
-      (seen_start blocks members numbers opened.stack.items opened.fresh s.next s.latest.items s.earlier.items seen n at (let long = h.named in omega arith) start)
+      let entered : Sight = record s { «open» = opened } in
+      sight_start blocks members numbers (length names) entered t n at (look_same entered refl refl refl refl) within start is_open is_next is_latest is_earlier
 
   pub look_found : (n : ℕ) (at : Option ℕ) → n ≡ name_number names (name token) → IsStart members numbers opened.stack.items s.next n at
       → IfSome at (λ i. (m : Member) × (slice_get members i ≡ Some m) × IsOpenScope opened.stack.items m.place) → IfSome at (IsResolved name blocks members block token)
   look_found n None is start shown = tt
   look_found n (Some i) is start shown =
-      resolved_found name blocks members names numbers numbered opened.stack.items opened.fresh s.next s.latest.items s.earlier.items seen ascend e.opened block token e.innermost front i
+      let e = l.entered in
+      resolved_found name blocks members names numbers l.numbered opened.stack.items opened.fresh s.next s.latest.items s.earlier.items seen l.ascend e.opened block token e.innermost l.front i
       (subst (λ (k : ℕ). IsStart members numbers opened.stack.items s.next k (Some i)) is start) shown
 
   pub look_none : (n : ℕ) (at : Option ℕ) → n ≡ name_number names (name token) → IsStart members numbers opened.stack.items s.next n at → IfNone at (ResolvesToNothing name blocks members (use_in block token))
   look_none n (Some i) is start = tt
   look_none n None is start =
-      resolved_none name blocks members names numbers numbered opened.stack.items opened.fresh s.next s.latest.items s.earlier.items seen ascend e.opened block token e.innermost front
+      let e = l.entered in
+      resolved_none name blocks members names numbers l.numbered opened.stack.items opened.fresh s.next s.latest.items s.earlier.items seen l.ascend e.opened block token e.innermost l.front
       (subst (λ (k : ℕ). IsStart members numbers opened.stack.items s.next k None) is start)
 
 -- a sight by other names of its parts

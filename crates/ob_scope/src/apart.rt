@@ -70,7 +70,7 @@ fn ascend<'a>(
 }
 
 /// Whether no two members of one name are in one place, where that is told by the order in which their places begin. Names are numbered
-/// as far as it tells, since of names that were made to fall together each takes long.
+/// as far as it tells.
 pub(crate) fn are_apart<'a>(
     alloc: Global,
     text: &Text<'a>,

@@ -152,7 +152,7 @@ fn refuse_twice<'a>(
     if are_apart(alloc, text, members, named)? {
         return Ok(());
     }
-    match index_of(alloc, text, members) {
+    match index_of(alloc, text, *named.names.hasher(), members) {
         Ok(_) => Ok(()),
         Err(fault) => Err(fault_of(alloc, text, members, fault)?),
     }
@@ -195,7 +195,7 @@ fn scopes_by(
     ensures scoped { IfOk result (AreScopes text.now.bytes.now text.now.tokens.now (rows_in table.now)) }
     ensures fault { IfErr result (IsScopeFault text.now.bytes.now text.now.tokens.now (rows_in table.now)) }
 {
-    let mut named = no_names(alloc, members.len())?;
+    let mut named = no_names(alloc, text, members.len())?;
     match refuse_twice(alloc, text, members, &mut named) {
         Ok(()) => Ok(scopes_with(alloc, text, table, members, &mut named)?),
         Err(fault) => Err(fault),

@@ -8,6 +8,7 @@ use crate::members::{Member, Scope};
 use indexmap::IndexMap;
 use ob_decls::Sort;
 use std::alloc::{AllocError, Global};
+use text_hash::Seed;
 
 fn is_type(sort: Sort) -> bool
     ensures yes { result ≡ true → sort ≡ sorts.Type }
@@ -41,13 +42,14 @@ fn block_of_type(member: Member) -> Option<u32>
 /// The places of the types that blocks declare, by the block and the number of the name. A module has few types, of the many members.
 pub(crate) fn types_of(
     alloc: Global,
+    seed: Seed,
     members: &[Member],
     numbers: &[usize],
-) -> Result<IndexMap<(u32, usize), usize>, AllocError>
+) -> Result<IndexMap<(u32, usize), usize, Seed>, AllocError>
     requires { length numbers.now ≡ length members.now }
     ensures { IfOk result (AreTypes members.now numbers.now (length members.now)) }
 {
-    let mut types = IndexMap::new(alloc);
+    let mut types = IndexMap::with_hasher(alloc, seed);
     for i in 0..members.len() {
         if let Some(block) = block_of_type(members[i]) {
             types.insert((block, numbers[i]), i)?;

@@ -1,5 +1,5 @@
 //! The blocks of an Oberon-07 module, what is declared in them, and what each used name means.
-//! Stands on `ob_decls` for what a module declares and uses, on `ob_scan` and `ob_tree` below it, with `indexmap` for its index and `thiserror` for its faults.
+//! Stands on `ob_decls` for what a module declares and uses, on `ob_scan` and `ob_tree` below it, with `indexmap` and `text_hash` for its index and `thiserror` for its faults.
 //! Its contract: each use means what the scope rule gives it, or two identifiers of one name stand in one place.
 #![tactic(auto)]
 

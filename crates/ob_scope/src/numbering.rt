@@ -11,6 +11,7 @@ use crate::text::Text;
 use indexmap::IndexSet;
 use std::alloc::{AllocError, Global};
 use std::hash::{Hash, Hasher};
+use text_hash::Seed;
 
 /// A name. It is hashed as a whole, where a slice is hashed byte by byte.
 #[derive(Clone, Copy, PartialEq, Eq)]
@@ -31,17 +32,21 @@ impl Hash for Name<'_> {
 /// The names of members, in the order in which each stands first, and for each member the number of its name.
 #[derive(Drop)]
 pub(crate) struct Numbered<'a> {
-    pub(crate) names: IndexSet<Name<'a>>,
+    pub(crate) names: IndexSet<Name<'a>, Seed>,
     pub(crate) numbers: Vec<usize>,
 }
 
-/// No names, with room for the numbers of so many members.
-pub(crate) fn no_names<'a>(alloc: Global, count: usize) -> Result<Numbered<'a>, AllocError>
+/// No names of a text, with room for the numbers of so many members.
+pub(crate) fn no_names<'a>(
+    alloc: Global,
+    text: &Text<'a>,
+    count: usize,
+) -> Result<Numbered<'a>, AllocError>
     ensures names { IfOk result (λ r. r.names.keys ≡ []) }
     ensures numbers { IfOk result (λ r. r.numbers.items ≡ []) }
 {
     let numbers = Vec::with_capacity(alloc, count)?;
-    let names = IndexSet::new(alloc);
+    let names = IndexSet::with_hasher(alloc, Seed::for_keys(text.bytes, count));
     Ok(Numbered { names, numbers })
 }
 
@@ -87,7 +92,7 @@ pub(crate) fn number_rest<'a>(
 }
 
 /// The number of a name, or none where no member has it.
-pub(crate) fn name_number(names: &IndexSet<Name>, name: &[u8]) -> Option<usize>
+pub(crate) fn name_number(names: &IndexSet<Name, Seed>, name: &[u8]) -> Option<usize>
     ensures found { IfSome result (λ n. n ≡ name_number names.now.keys name.now) }
     ensures within { IfSome result (λ n. n < length names.now.keys) }
     ensures none { IfNone result (length names.now.keys ≤ name_number names.now.keys name.now) }

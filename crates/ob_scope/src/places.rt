@@ -9,6 +9,7 @@ use crate::numbering::Name;
 use crate::text::Text;
 use indexmap::IndexSet;
 use std::alloc::Global;
+use text_hash::Seed;
 
 /// A place and a name in it.
 #[derive(Clone, Copy, PartialEq, Eq, Hash)]
@@ -41,13 +42,14 @@ fn key_of<'a>(text: &Text<'a>, member: &Member) -> Key<'a>
 pub(crate) fn index_of<'a>(
     alloc: Global,
     text: &Text<'a>,
+    seed: Seed,
     members: &[Member],
-) -> Result<IndexSet<Key<'a>>, IndexFault>
+) -> Result<IndexSet<Key<'a>, Seed>, IndexFault>
     requires { AreInText text.now.bytes.now text.now.tokens.now }
     ensures index { IfOk result (λ index. IsIndex (text_at text.now.bytes.now text.now.tokens.now) members.now index.keys) }
     ensures fault { IfErr result (TellsTwice (text_at text.now.bytes.now text.now.tokens.now) members.now) }
 {
-    let Ok(mut index) = IndexSet::with_capacity(alloc, members.len()) else {
+    let Ok(mut index) = IndexSet::with_capacity_and_hasher(alloc, members.len(), seed) else {
         return Err(IndexFault::Memory);
     };
     for i in 0..members.len() {

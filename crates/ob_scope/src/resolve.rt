@@ -19,9 +19,14 @@ use crate::text::Text;
 use indexmap::IndexMap;
 use ob_decls::{Block, Used, place_of};
 use std::alloc::AllocError;
+use text_hash::Seed;
 
 /// The place of the type of this name that this block declares.
-fn type_named(types: &IndexMap<(u32, usize), usize>, block: u32, number: usize) -> Option<usize>
+fn type_named(
+    types: &IndexMap<(u32, usize), usize, Seed>,
+    block: u32,
+    number: usize,
+) -> Option<usize>
     ensures { result ≡ get same_type types.now (block, number) }
 {
     types.get(&(block, number)).copied()
@@ -30,7 +35,7 @@ fn type_named(types: &IndexMap<(u32, usize), usize>, block: u32, number: usize) 
 /// The place of the type that has the name of this token, is declared in this block and stands behind the token.
 fn type_after(
     text: &Text,
-    types: &IndexMap<(u32, usize), usize>,
+    types: &IndexMap<(u32, usize), usize, Seed>,
     members: &[Member],
     named: &Numbered,
     block: u32,
@@ -69,7 +74,7 @@ pub(crate) fn outer_of(blocks: &[Block], block: u32) -> Option<u32>
 /// The place of the member that a use means. Uses are asked for in the order of their tokens.
 pub(crate) fn meaning(
     text: &Text,
-    types: &IndexMap<(u32, usize), usize>,
+    types: &IndexMap<(u32, usize), usize, Seed>,
     blocks: &[Block],
     members: &[Member],
     named: &Numbered,

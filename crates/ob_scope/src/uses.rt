@@ -22,6 +22,7 @@ use crate::text::Text;
 use indexmap::IndexMap;
 use ob_decls::{Block, Sort, Used};
 use std::alloc::{AllocError, Global};
+use text_hash::Seed;
 
 /// What the uses of a module mean, and per member how many uses it qualifies as an import.
 #[derive(Drop)]
@@ -58,7 +59,7 @@ fn count(counts: &mut [u64], at: usize, member: Member, used: Used)
 /// Looks up each use.
 fn find_each(
     text: &Text,
-    types: &IndexMap<(u32, usize), usize>,
+    types: &IndexMap<(u32, usize), usize, Seed>,
     blocks: &[Block],
     members: &[Member],
     named: &Numbered,
@@ -101,7 +102,7 @@ fn find_each(
 fn found_with(
     alloc: Global,
     text: &Text,
-    types: &IndexMap<(u32, usize), usize>,
+    types: &IndexMap<(u32, usize), usize, Seed>,
     blocks: &[Block],
     members: &[Member],
     named: &Numbered,
@@ -152,6 +153,7 @@ pub(crate) fn found_by(
     ensures meant { IfOk result (λ f. AreMeant (text_at text.now.bytes.now text.now.tokens.now) blocks.now members.now uses.now (length uses.now) f.meanings.items) }
     ensures counted { IfOk result (λ f. AreCounted (text_at text.now.bytes.now text.now.tokens.now) blocks.now members.now uses.now (length uses.now) f.counts.items) }
 {
-    let types = types_of(alloc, members, named.numbers.as_slice())?;
+    let seed = *named.names.hasher();
+    let types = types_of(alloc, seed, members, named.numbers.as_slice())?;
     found_with(alloc, text, &types, blocks, members, named, uses)
 }

@@ -3,7 +3,6 @@ use Rattle.std.proofs.Common.{◌≡◌, ℕ, zero, suc, ◌+◌, ◌-◌, false
 use Rattle.std.specs.Global.{Box, Vec}
 use Rattle.std.specs.Prelude.{Result}
 use Rattle.ob_scan.specs.declared.token.Token.{Token}
-use Rattle.ob_scan.specs.declared.kind.Kind.TheVariants as kinds
 use Rattle.ob_tree.specs.declared.expression.Relation.{Relation}
 use Rattle.ob_tree.specs.declared.expression.Sign.{Sign}
 use Rattle.ob_tree.specs.declared.expression.AddOperator.{AddOperator}

@@ -56,9 +56,6 @@ told_between {A} ts f q c begin end r old mid last new input here result h a b =
 
 -- ---- factors
 
-abbrev pub some : Leaf × List Leaf → Option (Leaf × List Leaf)
-some x = Some x
-
 -- a factor that begins so
 pub told_factor : {A : Type 0} (ts : List Token) (f : A → Out) (p : A → Stage → Stage) (d : ℕ) (old new : Draft) (result : Result Cursor Stop) (ls : List Leaf) (o : Option (Leaf × List Leaf)) → uncons ls ≡ o →
     TabulatesBy ts f p old new result (node constructs.Factor (λ z. factor_from (expr_at d) (negated_at d) o) ls) → TabulatesBy ts f p old new result (factor_at d ls)

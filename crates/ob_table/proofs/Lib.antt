@@ -18,5 +18,6 @@ pub mod Behind
 pub mod ParameterTrees
 pub mod TypeTrees
 pub mod Parts
+pub mod StatementParts
 pub mod LabelTrees
 pub mod StatementTrees

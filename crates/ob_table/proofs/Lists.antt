@@ -2,15 +2,16 @@
 use Rattle.std.proofs.Common.{◌≡◌, ℕ, ◌≤◌, ◌<◌, ◌+◌, false, List, [], ◌∷◌, ◌++◌, length, Ok, Err, Some, None, refl, sym, ap, ◌∙◌, arith, length-append}
 use Rattle.std.specs.Global.{Vec, Global}
 use Rattle.ob_scan.specs.declared.token.Token.{Token}
-use Rattle.ob_tree.specs.Marks.{Out, each}
+use Rattle.ob_tree.specs.Marks.{Out, each, word}
 use Rattle.ob_tree.proofs.Walks.{each_push}
 use Rattle.ob_parse.specs.declared.cursor.Cursor.{Cursor}
 use Rattle.ob_parse.specs.declared.stop.Stop.{Stop}
 use Rattle.ob_parse.specs.Forms.{Read, Reader, Start, many}
 use Rattle.ob_parse.specs.Accords.{Fails, ahead}
 use Rattle.ob_parse.proofs.Arrays.{few_ahead}
-use Rattle.ob_parse.proofs.Loops.{Advances, with_front, goes_on, is_done}
+use Rattle.ob_parse.proofs.Loops.{Advances, with_front, goes_on, is_done, marked_some, marked_none}
 use Rattle.ob_parse.proofs.LoopEnds.{ends}
+use Rattle.ob_parse.proofs.Turns.{Operation, Repetition, operation_shown, operation_start}
 use Rattle.ob_decls.specs.declared.draft.Draft.{Draft}
 use Rattle.ob_decls.specs.declared.draft.Context.{Context}
 use Rattle.ob_decls.specs.Parts.{Piece, token, both}
@@ -145,3 +146,69 @@ module _ {X : Type 0} (ts : List Token) (start : Start) (r : Reader) (f : X → 
   pieces_done adv old now input here none l =
       told_as ts (λ (v : Gathered {X = X} Any). each f v.list.items) (λ v. after (pieces p v.list.items) c) (λ v. each f v.items) (λ v. after (pieces p v.items) c) (λ v. v.list) (λ v. refl) (λ v s. refl)
       old now (Ok here) _ (listing_done ts start r f (λ xs. after (pieces p xs) c) Any adv old now input here none l)
+
+-- ---- what the grammar repeats
+
+-- behind a token
+abbrev pub behind_token : {X : Type 0} → (X → Piece) → X → Piece
+behind_token p x = both token (p x)
+
+abbrev pub RepeatListing : {X : Type 0} → List Token → Repetition X → (X → Piece) → Context → Draft → Draft → Cursor → Cursor → Type 0
+RepeatListing ts r p c old now input here = PieceListing ts r.start r.read (λ x. r.marks ++ r.shown x) p c old now input here
+
+module _ {X : Type 0} (ts : List Token) (r : Repetition X) (p : X → Piece) (c : Context) where
+  pub repeat_begun : (d : Draft) (input : Cursor) → RepeatListing ts r p c d d input input
+  repeat_begun d input = pieces_begun ts r.start r.read (λ x. r.marks ++ r.shown x) p c d input
+
+  -- a turn takes tokens
+  pub repeat_shorter : (now new : Draft) (here behind next : Cursor) → r.start (ahead ts here) ≡ Some (r.marks, ahead ts behind) → Tabulates ts r.shown p c now new (Ok next) (r.read (ahead ts behind)) →
+      length (ahead ts next) < length (ahead ts here)
+  repeat_shorter now new here behind next found t = listing_smaller ts r.start r.read r.shown (λ x. after (p x) c) r.marks r.advances now new here behind next found t
+
+  pub repeat_more : (old now new : Draft) (input here behind next : Cursor) → r.start (ahead ts here) ≡ Some (r.marks, ahead ts behind) → RepeatListing ts r p c old now input here →
+      Tabulates ts r.shown p c now new (Ok next) (r.read (ahead ts behind)) → RepeatListing ts r p c old new input next
+  repeat_more old now new input here behind next found l t =
+      pieces_more ts r.start r.read (λ x. r.marks ++ r.shown x) p c r.shown (λ x. after (p x) c) (λ x. x) r.marks r.advances (λ x. refl) (λ x s. refl) old now new input here behind next found l t
+
+  pub repeat_behind : (old now mid new : Draft) (input here behind next : Cursor) → r.start (ahead ts here) ≡ Some (r.marks, ahead ts behind) → RepeatListing ts r (behind_token p) c old now input here →
+      ComesTo passed now mid → Tabulates ts r.shown p c mid new (Ok next) (r.read (ahead ts behind)) → RepeatListing ts r (behind_token p) c old new input next
+  repeat_behind old now mid new input here behind next found l h t =
+      pieces_behind ts r.start r.read (λ x. r.marks ++ r.shown x) (behind_token p) c r.shown p (λ x. x) r.marks r.advances (λ x. refl) (λ x. refl) old now mid new input here behind next found l h t
+
+  -- a turn that fails
+  pub repeat_failed : (e : Stop) (old now : Draft) (input here behind : Cursor) → r.start (ahead ts here) ≡ Some (r.marks, ahead ts behind) → RepeatListing ts r p c old now input here →
+      Fails ts e (r.read (ahead ts behind)) → Fails ts e (many r.start r.read (ahead ts input))
+  repeat_failed e old now input here behind found l h = listing_failed ts r.start r.read (λ x. r.marks ++ r.shown x) (λ xs. after (pieces p xs) c) Any e r.marks r.advances old now input here behind found l h
+
+  pub repeat_done : (old now : Draft) (input here : Cursor) → r.start (ahead ts here) ≡ None → RepeatListing ts r p c old now input here →
+      TabulatesBy ts (λ (v : Vec X). each (λ x. r.marks ++ r.shown x) v.items) (λ v. after (pieces p v.items) c) old now (Ok here) (many r.start r.read (ahead ts input))
+  repeat_done old now input here none l = pieces_done ts r.start r.read (λ x. r.marks ++ r.shown x) p c r.advances old now input here none l
+
+-- ---- operators, and what stands behind each
+
+abbrev pub OperationListing : {Op X : Type 0} → List Token → Operation Op X → (X → Piece) → Context → Draft → Draft → Cursor → Cursor → Type 0
+OperationListing ts o p c old now input here = PieceListing ts (operation_start o) o.read (operation_shown o) (λ x. both token (p x.1)) c old now input here
+
+module _ {Op X : Type 0} (ts : List Token) (o : Operation Op X) (p : X → Piece) (c : Context) where
+  pub operations_begun : (d : Draft) (input : Cursor) → OperationListing ts o p c d d input input
+  operations_begun d input = pieces_begun ts (operation_start o) o.read (operation_shown o) (λ x. both token (p x.1)) c d input
+
+  pub operation_shorter : (op : Op) (now new : Draft) (here behind next : Cursor) → Some (op, ahead ts behind) ≡ o.at (ahead ts here) → Tabulates ts o.shown p c now new (Ok next) (o.read (ahead ts behind)) →
+      length (ahead ts next) < length (ahead ts here)
+  operation_shorter op now new here behind next found t =
+      listing_smaller ts (operation_start o) o.read o.shown (λ x. after (p x) c) (word (o.kind op)) o.advances now new here behind next (marked_some o.kind op (ahead ts behind) _ found) t
+
+  pub operation_told : (op : Op) (old now mid new : Draft) (input here behind next : Cursor) → Some (op, ahead ts behind) ≡ o.at (ahead ts here) → OperationListing ts o p c old now input here →
+      ComesTo passed now mid → Tabulates ts o.shown p c mid new (Ok next) (o.read (ahead ts behind)) → OperationListing ts o p c old new input next
+  operation_told op old now mid new input here behind next found l h t =
+      pieces_behind ts (operation_start o) o.read (operation_shown o) (λ x. both token (p x.1)) c o.shown p (λ x. (op, x)) (word (o.kind op)) o.advances (λ x. refl) (λ x. refl) old now mid new input here behind next (marked_some o.kind op (ahead ts behind) _ found) l h t
+
+  pub operation_failed : (op : Op) (e : Stop) (old now : Draft) (input here behind : Cursor) → Some (op, ahead ts behind) ≡ o.at (ahead ts here) → OperationListing ts o p c old now input here →
+      Fails ts e (o.read (ahead ts behind)) → Fails ts e (many (operation_start o) o.read (ahead ts input))
+  operation_failed op e old now input here behind found l h =
+      listing_failed ts (operation_start o) o.read (operation_shown o) (λ xs. after (pieces (λ x. both token (p x.1)) xs) c) Any e (word (o.kind op)) o.advances old now input here behind (marked_some o.kind op (ahead ts behind) _ found) l h
+
+  pub operations_done : (old now : Draft) (input here : Cursor) → None ≡ o.at (ahead ts here) → OperationListing ts o p c old now input here →
+      TabulatesBy ts (λ (v : Vec (Op × X)). each (operation_shown o) v.items) (λ v. after (pieces (λ x. both token (p x.1)) v.items) c) old now (Ok here) (many (operation_start o) o.read (ahead ts input))
+  operations_done old now input here none l =
+      pieces_done ts (operation_start o) o.read (operation_shown o) (λ x. both token (p x.1)) c o.advances old now input here (marked_none o.kind _ none) l

@@ -17,12 +17,29 @@ use Rattle.ob_decls.specs.Statements.{stmt_piece}
 use Rattle.ob_decls.proofs.Steps.{after_both, after_token, after_nothing}
 use Rattle.ob_parse.specs.declared.cursor.Cursor.{Cursor}
 use Rattle.ob_parse.specs.declared.stop.Stop.{Stop}
-use Rattle.ob_parse.specs.Forms.{Read, Reader, Start, seq, prefixed, node, optional}
-use Rattle.ob_parse.specs.Accords.{ahead}
+use Rattle.ob_parse.specs.Forms.{Read, Reader, Start, expect_at, seq, prefixed, node, optional}
+use Rattle.ob_parse.specs.Accords.{Fails, ahead}
 use Rattle.ob_table.specs.StatementShapes.{then_outline, then_piece, word_outline, word_piece}
 use Rattle.ob_table.specs.Tabulating.{Tabulates, TabulatesBy}
-use Rattle.ob_table.proofs.Combine.{told_as, told_node, told_then, told_prefixed, told_behind, told_there, told_absent}
+use Rattle.ob_table.proofs.Combine.{told_as, told_node, told_then, told_prefixed, told_behind, told_there, told_absent, failed_then}
 use Rattle.ob_table.proofs.Lists.{word_after}
+
+-- a part of the grammar: its outline, what it tells, and how it is read
+pub record Part (A : Type 0) : Type 0 where
+  pub shown : A → Out
+  pub piece : A → Piece
+  pub read : Reader
+
+abbrev pub word_part : Kind → Part (Unit {0})
+word_part k = record { shown = word_outline k; piece = word_piece; read = expect_at k }
+
+-- one part, and another behind it
+abbrev pub then_part : {A B : Type 0} → Part A → Part B → Part (A × B)
+then_part p q = record { shown = then_outline p.shown q.shown; piece = then_piece p.piece q.piece; read = seq p.read q.read }
+
+-- where the first fails, both do
+pub part_failed : {A B : Type 0} (ts : List Token) (p : Part A) (q : Part B) (e : Stop) (ls : List Leaf) → Fails ts e (p.read ls) → Fails ts e (seq p.read q.read ls)
+part_failed ts p q e ls h = failed_then ts p.read q.read e ls h
 
 module _ (ts : List Token) (c : Context) where
   -- a tree of what was told
@@ -71,3 +88,14 @@ module _ (ts : List Token) (c : Context) where
       (told_node ts (λ (x : A). word k ++ f x) (λ x s. after (p x) c (passed s)) constructs.Statement (prefixed (word k) r) old new result ls
       (told_prefixed ts f (λ x s. after (p x) c (passed s)) (word k) r old new result ls
       (told_behind ts f (λ x. after (p x) c) passed old mid new result (r ls) h t)))
+
+  -- the same of parts
+  pub part_then : {A B : Type 0} (p : Part A) (q : Part B) (old mid new : Draft) (here : Cursor) (result : Result Cursor Stop) (ls : List Leaf) →
+      Tabulates ts p.shown p.piece c old mid (Ok here) (p.read ls) → Tabulates ts q.shown q.piece c mid new result (q.read (ahead ts here)) →
+      Tabulates ts (then_outline p.shown q.shown) (then_piece p.piece q.piece) c old new result (seq p.read q.read ls)
+  part_then p q old mid new here result ls a b = told_both p.shown p.piece q.shown q.piece p.read q.read old mid new here result ls a b
+
+  pub word_then : {B : Type 0} (k : Kind) (q : Part B) (old mid new : Draft) (here : Cursor) (result : Result Cursor Stop) (ls : List Leaf) →
+      TabulatesBy ts (λ (x : Unit {0}). word k) (λ x s. passed s) old mid (Ok here) (expect_at k ls) → Tabulates ts q.shown q.piece c mid new result (q.read (ahead ts here)) →
+      Tabulates ts (then_outline (word_outline k) q.shown) (then_piece word_piece q.piece) c old new result (seq (expect_at k) q.read ls)
+  word_then k q old mid new here result ls a b = part_then (word_part k) q old mid new here result ls (told_word k old mid (Ok here) (expect_at k ls) a) b

@@ -310,9 +310,6 @@ named_told ts c q r old new ls rest e h =
 
 -- ---- a type
 
-abbrev pub some : Leaf × List Leaf → Option (Leaf × List Leaf)
-some x = Some x
-
 -- a type that begins so
 pub told_type : {A : Type 0} (ts : List Token) (f : A → Out) (p : A → Stage → Stage) (d : ℕ) (old new : Draft) (result : Result Cursor Stop) (ls : List Leaf) (o : Option (Leaf × List Leaf)) → uncons ls ≡ o →
     TabulatesBy ts f p old new result (type_from (expr_at d) (type_at d) o) → TabulatesBy ts f p old new result (type_with (expr_at d) (type_at d) ls)

@@ -305,9 +305,9 @@ fn compare<R: Abort + AllocGlobal>(
         from_outside,
     };
     let (fields, absent) = (names(alloc, "f", NAMES)?, names(alloc, "w", ABSENT)?);
-    let mut climbing = Finder::new(alloc, types);
+    let mut climbing = Finder::new(alloc, types, types.bytes(), 0);
     compare_records(rt, &mut climbing, &compared, fields.as_slice())?;
-    let mut hopping = Finder::new(alloc, types);
+    let mut hopping = Finder::new(alloc, types, types.bytes(), usize::MAX);
     compare_absent(rt, &mut hopping, &compared, absent.as_slice())?;
     compare_records(rt, &mut hopping, &compared, fields.as_slice())
 }

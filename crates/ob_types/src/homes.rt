@@ -38,8 +38,8 @@ impl<'a> Model for Homes<'a> {
     ghost invariant = { λ h. AreHomes (map arc_value h.reached.now) h.table };
 }
 
-/// A place as a number of 32 bits.
-fn place(at: usize) -> Result<u32, AllocError>
+/// The place of a module as a number of 32 bits.
+pub(crate) fn module_place(at: usize) -> Result<u32, AllocError>
     ensures { IfOk result (λ n. n ≡ at) }
 {
     match u32::try_from(at) {
@@ -56,7 +56,7 @@ fn add_home<'a>(
 ) -> Result<(), AllocError>
     ensures { OnOk result ((name : Bor (List ℕ)) → get same_name homes.new name ≡ (if bytes_eq module.now.name name.now then Some at else get same_name homes.old name)) }
 {
-    let place = place(at)?;
+    let place = module_place(at)?;
     homes.insert(module.name(), place)?;
     Ok(())
 }

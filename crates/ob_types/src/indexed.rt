@@ -24,6 +24,7 @@ use crate::told::fields_told;
 use indexmap::IndexMap;
 use ob_decls::Sort;
 use std::alloc::{AllocError, Global};
+use text_hash::Seed;
 use type_search::{OwnField, Shape};
 
 /// What a module is known by, with the places of modules by their names and by import items, and the fields by their records and names.
@@ -32,7 +33,7 @@ pub(crate) struct Indexed<'a> {
     pub(crate) parts: Parts<'a>,
     pub(crate) homes: Homes<'a>,
     pub(crate) item_homes: Vec<Option<u32>>,
-    pub(crate) fields: Box<IndexMap<(u32, Name<'a>), u32>>,
+    pub(crate) fields: Box<IndexMap<(u32, Name<'a>), u32, Seed>>,
     ghost in_text: { AreInText parts.bytes.now parts.tokens.now },
     ghost few: { IsFew parts },
     ghost homes_are: { homes ≡ (world_of parts).reached },

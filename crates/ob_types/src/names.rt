@@ -14,6 +14,7 @@ use crate::parts::Parts;
 use indexmap::IndexMap;
 use ob_decls::Declared;
 use std::alloc::{AllocError, Global};
+use text_hash::Seed;
 
 /// The places of the modules that import items name, item by item.
 pub(crate) fn item_homes(
@@ -42,7 +43,7 @@ pub(crate) fn record_of(parts: &Parts<'_>, place: usize, first: u32) -> Option<u
 /// Puts a declared identifier before the others, if it is a field.
 fn add_field<'a>(
     parts: &Parts<'a>,
-    fields: &mut IndexMap<(u32, Name<'a>), u32>,
+    fields: &mut IndexMap<(u32, Name<'a>), u32, Seed>,
     place: usize,
     row: Declared,
 ) -> Result<(), AllocError>
@@ -64,12 +65,13 @@ fn add_field<'a>(
 pub(crate) fn fields_of<'a>(
     alloc: Global,
     parts: &Parts<'a>,
-) -> Result<Box<IndexMap<(u32, Name<'a>), u32>>, AllocError>
+) -> Result<Box<IndexMap<(u32, Name<'a>), u32, Seed>>, AllocError>
     requires { AreInText parts.now.bytes.now parts.now.tokens.now }
     ensures { IfOk result (λ fields. AreFields (world_of parts.now) fields.value) }
 {
-    let mut fields = Box::new(alloc, IndexMap::new(alloc))?;
     let rows = parts.table.declared();
+    let seed = Seed::for_keys(parts.bytes, rows.len());
+    let mut fields = Box::new(alloc, IndexMap::with_hasher(alloc, seed))?;
     let mut at = rows.len();
     'rows: while at > 0 {
         at -= 1;

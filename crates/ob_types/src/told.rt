@@ -8,6 +8,7 @@ ghost use Rattle.ob_types.specs.Parted.{world_of};
 ghost use Rattle.ob_types.specs.Shapes.{field_of};
 ghost use Rattle.ob_types.specs.Told.{TellsDeclaration, TellsModule, TellsOwn, TellsReached, TellsRow};
 
+use crate::homes::module_place;
 use crate::names::record_of;
 use crate::nodes::Record;
 use crate::parts::Parts;
@@ -95,16 +96,6 @@ fn add_module<'a>(
             Some(declaration) => add_declaration(fields, reached, &declaration)?,
         }
         place = behind(place)?;
-    }
-}
-
-/// The place of a module as a number of 32 bits.
-fn module_place(at: usize) -> Result<u32, AllocError>
-    ensures { IfOk result (λ n. n ≡ at) }
-{
-    match u32::try_from(at) {
-        Ok(place) => Ok(place),
-        Err(_) => Err(AllocError),
     }
 }
 

@@ -12,6 +12,7 @@ use crate::sought::Sought;
 use indexmap::IndexMap;
 use std::alloc::{AllocError, Global};
 use std::marker::Model;
+use text_hash::Seed;
 
 /// Searches in a graph of types. What they come to by names and pointers is kept, so that each declaration is passed once, however many
 /// searches come to it. Once searches for fields climbed far, all records are put in a line, along which they hop. A contract sees the graph.
@@ -27,7 +28,7 @@ pub struct Finder<'a, G: TypeGraph> {
     /// All records in a line, once searches climbed far.
     line: Option<Box<Line<'a, G::Record>>>,
     /// What names mean in records.
-    found: IndexMap<(G::Record, Name<'a>), Option<G::Field>>,
+    found: IndexMap<(G::Record, Name<'a>), Option<G::Field>, Seed>,
     /// The names of which something may be kept there, and how far searches climbed.
     sought: Sought,
 }
@@ -46,8 +47,9 @@ impl<'a, G: TypeGraph> Model for Finder<'a, G> {
 }
 
 impl<'a, G: TypeGraph> Finder<'a, G> {
-    /// Searches in this graph.
-    pub fn new(alloc: Global, graph: &'a G) -> Finder<'a, G>
+    /// Searches in this graph, at most so many of them for fields: their names stand in this text, whose author chooses them. Text and number
+    /// are for speed alone.
+    pub fn new(alloc: Global, graph: &'a G, text: &[u8], most: usize) -> Finder<'a, G>
         ensures { result ≡ graph.now }
     {
         Finder {
@@ -56,7 +58,7 @@ impl<'a, G: TypeGraph> Finder<'a, G> {
             by_pointers: IndexMap::new(alloc),
             aboves: IndexMap::new(alloc),
             line: None,
-            found: IndexMap::new(alloc),
+            found: IndexMap::with_hasher(alloc, Seed::for_keys(text, most)),
             sought: Sought::none(alloc),
         }
     }

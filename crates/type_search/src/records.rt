@@ -16,6 +16,7 @@ use crate::sought::Sought;
 use crate::way::{Way, comes_back, no_way, pass};
 use indexmap::IndexMap;
 use std::alloc::AllocError;
+use text_hash::Seed;
 
 /// The record that a type is.
 fn shape_record<N: Copy + Drop, D: Copy + Drop, R: Copy + Drop>(shape: Shape<N, D, R>) -> Option<R>
@@ -67,7 +68,7 @@ fn record_above<G: TypeGraph>(
 /// something may be kept.
 fn field_here<'a, G: TypeGraph>(
     graph: &G,
-    found: &IndexMap<(G::Record, Name<'a>), Option<G::Field>>,
+    found: &IndexMap<(G::Record, Name<'a>), Option<G::Field>, Seed>,
     is_kept: bool,
     record: G::Record,
     name: &'a [u8],
@@ -163,7 +164,7 @@ fn field_of<'a, G: TypeGraph>(
     kept: &mut IndexMap<G::Declaration, Option<G::Node>>,
     aboves: &mut IndexMap<G::Record, Option<G::Record>>,
     line: &Option<Box<Line<'a, G::Record>>>,
-    found: &IndexMap<(G::Record, Name<'a>), Option<G::Field>>,
+    found: &IndexMap<(G::Record, Name<'a>), Option<G::Field>, Seed>,
     is_kept: bool,
     way: &mut Way<G::Record>,
     from: G::Record,
@@ -193,7 +194,7 @@ fn field_of<'a, G: TypeGraph>(
 /// Keeps what a name means in these records.
 fn keep_field<'a, G: TypeGraph>(
     graph: &G,
-    found: &mut IndexMap<(G::Record, Name<'a>), Option<G::Field>>,
+    found: &mut IndexMap<(G::Record, Name<'a>), Option<G::Field>, Seed>,
     marks: &[G::Record],
     name: &'a [u8],
     field: Option<G::Field>,
@@ -214,7 +215,7 @@ fn field_passed<'a, G: TypeGraph>(
     kept: &mut IndexMap<G::Declaration, Option<G::Node>>,
     aboves: &mut IndexMap<G::Record, Option<G::Record>>,
     line: &Option<Box<Line<'a, G::Record>>>,
-    found: &mut IndexMap<(G::Record, Name<'a>), Option<G::Field>>,
+    found: &mut IndexMap<(G::Record, Name<'a>), Option<G::Field>, Seed>,
     sought: &mut Sought,
     way: &mut Way<G::Record>,
     from: G::Record,
@@ -243,7 +244,7 @@ fn field_kept<'a, G: TypeGraph>(
     kept: &mut IndexMap<G::Declaration, Option<G::Node>>,
     aboves: &mut IndexMap<G::Record, Option<G::Record>>,
     line: &Option<Box<Line<'a, G::Record>>>,
-    found: &mut IndexMap<(G::Record, Name<'a>), Option<G::Field>>,
+    found: &mut IndexMap<(G::Record, Name<'a>), Option<G::Field>, Seed>,
     sought: &mut Sought,
     from: G::Record,
     name: &'a [u8],
@@ -272,7 +273,7 @@ pub(crate) fn find_in<'a, G: TypeGraph>(
     kept: &mut IndexMap<G::Declaration, Option<G::Node>>,
     aboves: &mut IndexMap<G::Record, Option<G::Record>>,
     line: &Option<Box<Line<'a, G::Record>>>,
-    found: &mut IndexMap<(G::Record, Name<'a>), Option<G::Field>>,
+    found: &mut IndexMap<(G::Record, Name<'a>), Option<G::Field>, Seed>,
     sought: &mut Sought,
     from: G::Node,
     name: &'a [u8],

@@ -9,7 +9,7 @@ use Rattle.ob_emit.proofs.outside.first_uses.Goals as goal
 use Rattle.ob_emit.proofs.outside.first_uses.Goals.{in-Some+in_ok-insert+then-branch+in_ok-push, in-Some+in_ok-insert+else-branch, in_default}
 
 pub loop-reference-init : goal.loop-reference-init
-loop-reference-init c = none_yet c.args.types.now c.args.refs.now _ _ c.new-seen.ensures.empty c.new-found.ensures.items
+loop-reference-init c = none_yet c.args.types.now c.args.refs.now _ _ c.with_hasher-seen.ensures.empty c.new-found.ensures.items
 
 pub loop-reference-preserved : goal.loop-reference-preserved
 loop-reference-preserved c =

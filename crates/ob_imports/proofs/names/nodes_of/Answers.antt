@@ -1,5 +1,7 @@
 -- The files' names, and what they import beside them.
-use Rattle.std.proofs.Common.{refl}
+use Rattle.std.proofs.Common.{◌≡◌, ◌+◌, ◌++◌, length, refl, arith}
+use Rattle.std.specs.String.{string_bytes}
+use Rattle.std.proofs.lemmas.List.{length-append, length-map}
 use Rattle.ob_imports.specs.Files.{files_of}
 use Rattle.ob_imports.specs.Names.{texts}
 use Rattle.ob_imports.specs.Numbering.{all_lacked}
@@ -11,10 +13,39 @@ put_names-requires c =
     let files = files_of c.args.parsed.now in
     let keys = texts c.in_ok-table.table.keys in
     rw c.as_slice.ensures.value (together_apart files keys (all_lacked keys files) (texts c.in_ok-others.others.items) c.in_ok-table.ensures refl
-    c.in_ok-others.ensures.ascending c.in_ok-others.ensures.same c.requires)
+    c.in_ok-others.ensures.ascending c.in_ok-others.ensures.same c.requires.differ)
 
-pub returns : goal.returns
-returns c =
+pub returns-then-len-gt-MOST_NODES-clause-many : goal.returns-then-len-gt-MOST_NODES-clause-many
+returns-then-len-gt-MOST_NODES-clause-many c =
+    let files = files_of c.args.parsed.now in
+    let keys = texts c.in_ok-table.table.keys in
+    let others = texts c.in_ok-others.others.items in
+    let long : length others ≡ length c.in_ok-others.others.items = length-map c.in_ok-others.others.items string_bytes in
+    let both : length (keys ++ others) ≡ length keys + length others = length-append keys others in
+    record {
+      are_files = c.requires;
+      names = keys ++ others;
+      nodes = are_nodes files keys (all_lacked keys files) others c.in_ok-table.ensures refl c.in_ok-others.ensures.ascending c.in_ok-others.ensures.same (keys ++ others) refl;
+      many = (let l = c.len.ensures in let more = c.if-len-gt-MOST_NODES.true in omega arith);
+    }
+
+pub returns-then-len-gt-MOST_NODES-2-clause-many : goal.returns-then-len-gt-MOST_NODES-2-clause-many
+returns-then-len-gt-MOST_NODES-2-clause-many c =
+    let files = files_of c.args.parsed.now in
+    let keys = texts c.in_ok-table.table.keys in
+    let named = texts c.put_names.new.table.keys in
+    let long : length named ≡ length c.put_names.new.table.keys = length-map c.put_names.new.table.keys string_bytes in
+    record {
+      are_files = c.requires;
+      names = named;
+      nodes =
+          are_nodes files keys (all_lacked keys files) (texts c.in_ok-others.others.items) c.in_ok-table.ensures refl
+          c.in_ok-others.ensures.ascending c.in_ok-others.ensures.same named (rw c.as_slice.ensures.value at c.in_ok-put_names.ensures);
+      many = (let l = c.len-2.ensures.len in let more = c.if-len-gt-MOST_NODES-2.true in omega arith);
+    }
+
+pub returns-clause-named : goal.returns-clause-named
+returns-clause-named c =
     let files = files_of c.args.parsed.now in
     let keys = texts c.in_ok-table.table.keys in
     are_nodes files keys (all_lacked keys files) (texts c.in_ok-others.others.items) c.in_ok-table.ensures refl

@@ -1,48 +1,24 @@
-use Rattle.std.proofs.Common.{ℕ, ◌++◌, [], refl, sym, ◌∙◌}
+use Rattle.std.proofs.Common.{sym, ◌∙◌}
 use Rattle.std.proofs.lemmas.Result.{err_from_is_err_and}
-use Rattle.ob_scan.specs.declared.kind.Kind.TheVariants as kinds
-use Rattle.ob_tree.specs.declared.declaration.TypeDecl.{TypeDecl}
-use Rattle.ob_tree.specs.Marks.{Out, word, each}
-use Rattle.ob_tree.specs.Declaring.{type_decl_outline}
-use Rattle.ob_parse.specs.Forms.{Reader, many, begins}
-use Rattle.ob_parse.specs.Accords.{ahead}
-use Rattle.ob_parse.specs.ReadTypes.{type_at}
-use Rattle.ob_parse.specs.ReadModules.{is_identifier, with_semicolon, type_decl_with}
-use Rattle.ob_parse.proofs.SoundTypes.{type_at_sound}
-use Rattle.ob_parse.proofs.Kept.{kept, unkept}
-use Rattle.ob_parse.proofs.Loops.{Advances, pushed, smaller, is_done, has_begun, has_not_begun, type_decl_advances}
-use Rattle.ob_parse.proofs.LoopEnds.{ends}
+use Rattle.ob_parse.specs.ReadModules.{is_identifier}
+use Rattle.ob_parse.proofs.Loops.{has_begun, has_not_begun}
+use Rattle.ob_parse.proofs.Repetitions.{named_types}
+use Rattle.ob_parse.proofs.Turns.{turn_shorter, turn_kept, turn_failed, turns_done}
 use Rattle.ob_parse.proofs.declarations.named_types.Goals as goal
-
-abbrev declared_at : ℕ → Reader
-declared_at d = with_semicolon (type_decl_with (type_at d))
-
-abbrev shown : TypeDecl → Out
-shown d = type_decl_outline d ++ word kinds.Semicolon
-
-advances : (d : ℕ) → Advances (begins is_identifier) (declared_at d)
-advances d = type_decl_advances d _ (type_at_sound d)
 
 pub more-smaller : goal.more-smaller
 more-smaller c =
-    let k = kept c.args.tokens.now shown c.ended_named_type.result (λ x. x) _ _ _ _ c.ended_named_type.ensures c.in_ok-here.ensures in
-    smaller (begins is_identifier) (declared_at c.args.depth) (advances c.args.depth) (ahead c.args.tokens.now c.more.here) _ _
-    (has_begun is_identifier _ (sym c.begins_declaration.ensures ∙ c.more-test.true)) k.is_read
+    turn_shorter c.args.tokens.now (named_types c.args.depth) c.ended_named_type.result (λ x. x) c.more.here c.more.here _ _ _ (has_begun is_identifier _ (sym c.begins_declaration.ensures ∙ c.more-test.true)) c.ended_named_type.ensures c.in_ok-here.ensures
 
 pub more-preserved : goal.more-preserved
 more-preserved c =
-    let k = kept c.args.tokens.now shown c.ended_named_type.result (λ x. x) _ _ _ _ c.ended_named_type.ensures c.in_ok-here.ensures in
-    pushed (begins is_identifier) (declared_at c.args.depth) (advances c.args.depth) shown c.more.declared.items _ k.item (ahead c.args.tokens.now c.more.here) ([], ahead c.args.tokens.now c.more.here) _ _
-    k.items (has_begun is_identifier _ (sym c.begins_declaration.ensures ∙ c.more-test.true)) k.is_read refl c.more.invariant
+    turn_kept c.args.tokens.now (named_types c.args.depth) c.ended_named_type.result (λ x. x) c.more.here c.more.here _ _ _ _ (has_begun is_identifier _ (sym c.begins_declaration.ensures ∙ c.more-test.true)) c.ended_named_type.ensures c.in_ok-here.ensures c.more.invariant
 
 pub returns-in_err-here : goal.returns-in_err-here
 returns-in_err-here c =
     let p = err_from_is_err_and c.from_residual.result c.from_residual.ensures.1 in
-    rw (p.1, p.2) (ends (begins is_identifier) (declared_at c.args.depth) (advances c.args.depth) c.args.tokens.now c.in_err-here.field-0.0
-    (each shown c.more.declared.items) (ahead c.args.tokens.now c.more.here) _ (many (begins is_identifier) (declared_at c.args.depth) (ahead c.args.tokens.now c.args.input))
-    (has_begun is_identifier _ (sym c.begins_declaration.ensures ∙ c.more-test.true)) (unkept c.args.tokens.now shown c.ended_named_type.result (λ x. x) _ _ _ _ c.ended_named_type.ensures c.in_err-here.ensures) c.more.invariant)
+    rw (p.1, p.2) (turn_failed c.args.tokens.now (named_types c.args.depth) c.ended_named_type.result (λ x. x) c.more.here c.more.here _ _ c.in_err-here.field-0.0 _ (has_begun is_identifier _ (sym c.begins_declaration.ensures ∙ c.more-test.true)) c.ended_named_type.ensures c.in_err-here.ensures c.more.invariant)
 
 pub returns : goal.returns
-returns c = is_done (begins is_identifier) (declared_at c.args.depth) (advances c.args.depth) (each shown c.more.declared.items) (ahead c.args.tokens.now c.more.here)
-    (many (begins is_identifier) (declared_at c.args.depth) (ahead c.args.tokens.now c.args.input))
-    (has_not_begun is_identifier _ (sym c.begins_declaration.ensures ∙ c.more-test.false)) c.more.invariant
+returns c =
+    turns_done c.args.tokens.now (named_types c.args.depth) c.more.declared.items c.more.here _ (has_not_begun is_identifier _ (sym c.begins_declaration.ensures ∙ c.more-test.false)) c.more.invariant

@@ -1,131 +1,92 @@
-use Rattle.std.proofs.Common.{refl, ℕ, sym, ap, ◌∙◌, arith}
+use Rattle.std.proofs.Common.{sym, ap, ◌∙◌, arith, refl}
 use Rattle.std.proofs.lemmas.Result.{err_from_is_err_and}
-use Rattle.ob_scan.specs.declared.kind.Kind.{Kind}
 use Rattle.ob_scan.specs.declared.kind.Kind.TheVariants as kinds
-use Rattle.ob_tree.specs.Marks.{each_after}
+use Rattle.ob_tree.specs.declared.token.Leaf.TheVariants as leafs
 use Rattle.ob_tree.specs.Statements.{branch_outline, case_outline, stmt_outline, block_outline}
-use Rattle.ob_parse.specs.Forms.{accept_at, many, begins, name_at, several}
-use Rattle.ob_parse.specs.Accords.{ahead, skipped}
-use Rattle.ob_parse.specs.ReadExpressions.{expr_at}
-use Rattle.ob_parse.specs.ReadStatements.{block_at, branch_with, case_with, statement_at, block_with, cases_with, for_with, if_with, repeat_with, statement_with, while_with}
-use Rattle.ob_parse.proofs.LoopEnds.{ends}
-use Rattle.ob_parse.proofs.Kept.{kept, unkept}
-use Rattle.ob_parse.proofs.Loops.{Advances, pushed_after, smaller, is_done, accept_advances}
-use Rattle.ob_parse.proofs.SoundExpressions.{expr_at_sound}
-use Rattle.ob_parse.proofs.SoundStatements.{block_at_sound, branch_sound, case_sound, statement_at_sound}
+use Rattle.ob_parse.specs.Forms.{accept_at, name_at, several}
+use Rattle.ob_parse.specs.Accords.{skipped, ahead}
+use Rattle.ob_parse.specs.ReadStatements.{branch_with, case_with, statement_at, block_with, cases_with, for_with, if_with, repeat_with, statement_with, while_with, block_at, label_first}
 use Rattle.ob_parse.proofs.StatementSteps.{made}
 use Rattle.ob_parse.proofs.Boxes.{gives_boxed}
 use Rattle.ob_parse.proofs.Somes.{gives_some}
+use Rattle.ob_parse.proofs.Repetitions.{statements, branches, cases}
+use Rattle.ob_parse.proofs.Turns.{turn_shorter, turn_kept, turn_failed, turns_done}
+use Rattle.ob_parse.specs.ReadExpressions.{expr_at}
+use Rattle.ob_parse.proofs.Loops.{has_begun, has_not_begun}
+use Rattle.ob_tree.proofs.StatementLayers.{if_made, while_made, repeat_made, case_made, block_made, branch_made, labelled_made, nothing_made}
+use Rattle.ob_parse.proofs.Fronts.{leaf_stands, word_stands, statement_seen}
 use Rattle.ob_parse.proofs.statements.+statements.Goals as goal
-
-semicolon_adv : (d : ℕ) → Advances (accept_at kinds.Semicolon) (statement_at d)
-semicolon_adv d = accept_advances d kinds.Semicolon _ (statement_at_sound d)
-
-elsif_adv : (d : ℕ) (k : Kind) → Advances (accept_at kinds.Elsif) (branch_with (expr_at d) (block_at d) k)
-elsif_adv d k = accept_advances d kinds.Elsif _ (branch_sound d _ _ k (expr_at_sound d) (block_at_sound d))
-
-bar_adv : (d : ℕ) → Advances (accept_at kinds.Bar) (case_with (block_at d))
-bar_adv d = accept_advances d kinds.Bar _ (case_sound d _ (block_at_sound d))
 
 pub more_statements-more-smaller : goal.more_statements-more-smaller
 more_statements-more-smaller t c =
-    let k = kept c.args.tokens.now stmt_outline c.statement.result (λ b. b.value) _ _ _ _ c.statement.ensures c.in_ok-here.ensures in
-    smaller (accept_at kinds.Semicolon) (statement_at c.args.depth) (semicolon_adv c.args.depth) (ahead c.args.tokens.now c.more.here) _ _
-    (sym c.in-Some.ensures) k.is_read
+    turn_shorter c.args.tokens.now (statements c.args.depth) c.statement.result (λ b. b.value) c.more.here c.in-Some.after _ _ _ (sym c.in-Some.ensures) c.statement.ensures c.in_ok-here.ensures
 
 pub more_statements-more-preserved : goal.more_statements-more-preserved
 more_statements-more-preserved t c =
-    let k = kept c.args.tokens.now stmt_outline c.statement.result (λ b. b.value) _ _ _ _ c.statement.ensures c.in_ok-here.ensures in
-    pushed_after (accept_at kinds.Semicolon) (statement_at c.args.depth) (semicolon_adv c.args.depth)
-    stmt_outline kinds.Semicolon c.more.rest.items _ k.item (ahead c.args.tokens.now c.more.here) (ahead c.args.tokens.now c.in-Some.after) _ _ k.items
-    (sym c.in-Some.ensures) k.is_read refl c.more.invariant
+    turn_kept c.args.tokens.now (statements c.args.depth) c.statement.result (λ b. b.value) c.more.here c.in-Some.after _ _ _ _ (sym c.in-Some.ensures) c.statement.ensures c.in_ok-here.ensures c.more.invariant
 
 pub more_statements-returns-in_err-here : goal.more_statements-returns-in_err-here
 more_statements-returns-in_err-here t c =
     let p = err_from_is_err_and c.from_residual.result c.from_residual.ensures.1 in
-    rw (p.1, p.2) (ends (accept_at kinds.Semicolon) (statement_at c.args.depth) (semicolon_adv c.args.depth) c.args.tokens.now c.in_err-here.field-0.0
-    (each_after kinds.Semicolon stmt_outline c.more.rest.items) (ahead c.args.tokens.now c.more.here) _ (many (accept_at kinds.Semicolon) (statement_at c.args.depth) (ahead c.args.tokens.now c.args.input))
-    (sym c.in-Some.ensures) (unkept c.args.tokens.now stmt_outline c.statement.result (λ b. b.value) _ _ _ _ c.statement.ensures c.in_err-here.ensures) c.more.invariant)
+    rw (p.1, p.2) (turn_failed c.args.tokens.now (statements c.args.depth) c.statement.result (λ b. b.value) c.more.here c.in-Some.after _ _ c.in_err-here.field-0.0 _ (sym c.in-Some.ensures) c.statement.ensures c.in_err-here.ensures c.more.invariant)
 
 pub more_statements-returns : goal.more_statements-returns
 more_statements-returns t c =
-    is_done (accept_at kinds.Semicolon) (statement_at c.args.depth) (semicolon_adv c.args.depth)
-    (each_after kinds.Semicolon stmt_outline c.more.rest.items) (ahead c.args.tokens.now c.more.here) (many (accept_at kinds.Semicolon) (statement_at c.args.depth) (ahead c.args.tokens.now c.args.input))
-    (sym c.accept.ensures ∙ ap (skipped c.args.tokens.now kinds.Semicolon) c.in_default.is) c.more.invariant
+    turns_done c.args.tokens.now (statements c.args.depth) c.more.rest.items c.more.here _ (sym c.accept.ensures ∙ ap (skipped c.args.tokens.now kinds.Semicolon) c.in_default.is) c.more.invariant
 
 pub more_branches-more-smaller : goal.more_branches-more-smaller
 more_branches-more-smaller t c =
-    let k = kept c.args.tokens.now (λ b. branch_outline b c.args.keyword) c.branch-alloc.result (λ b. b.value) _ _ _ _ c.branch-alloc.ensures c.in_ok-here.ensures in
-    smaller (accept_at kinds.Elsif) (branch_with (expr_at c.args.depth) (block_at c.args.depth) c.args.keyword) (elsif_adv c.args.depth c.args.keyword) (ahead c.args.tokens.now c.more.here) _ _
-    (sym c.in-Some.ensures) k.is_read
+    turn_shorter c.args.tokens.now (branches c.args.depth c.args.keyword) c.branch-alloc.result (λ b. b.value) c.more.here c.in-Some.after _ _ _ (sym c.in-Some.ensures) c.branch-alloc.ensures c.in_ok-here.ensures
 
 pub more_branches-more-preserved : goal.more_branches-more-preserved
 more_branches-more-preserved t c =
-    let k = kept c.args.tokens.now (λ b. branch_outline b c.args.keyword) c.branch-alloc.result (λ b. b.value) _ _ _ _ c.branch-alloc.ensures c.in_ok-here.ensures in
-    pushed_after (accept_at kinds.Elsif) (branch_with (expr_at c.args.depth) (block_at c.args.depth) c.args.keyword) (elsif_adv c.args.depth c.args.keyword)
-    (λ b. branch_outline b c.args.keyword) kinds.Elsif c.more.rest.items _ k.item (ahead c.args.tokens.now c.more.here) (ahead c.args.tokens.now c.in-Some.after) _ _ k.items
-    (sym c.in-Some.ensures) k.is_read refl c.more.invariant
+    turn_kept c.args.tokens.now (branches c.args.depth c.args.keyword) c.branch-alloc.result (λ b. b.value) c.more.here c.in-Some.after _ _ _ _ (sym c.in-Some.ensures) c.branch-alloc.ensures c.in_ok-here.ensures c.more.invariant
 
 pub more_branches-returns-in_err-here : goal.more_branches-returns-in_err-here
 more_branches-returns-in_err-here t c =
     let p = err_from_is_err_and c.from_residual.result c.from_residual.ensures.1 in
-    rw (p.1, p.2) (ends (accept_at kinds.Elsif) (branch_with (expr_at c.args.depth) (block_at c.args.depth) c.args.keyword) (elsif_adv c.args.depth c.args.keyword) c.args.tokens.now c.in_err-here.field-0.0
-    (each_after kinds.Elsif (λ b. branch_outline b c.args.keyword) c.more.rest.items) (ahead c.args.tokens.now c.more.here) _
-    (many (accept_at kinds.Elsif) (branch_with (expr_at c.args.depth) (block_at c.args.depth) c.args.keyword) (ahead c.args.tokens.now c.args.input))
-    (sym c.in-Some.ensures) (unkept c.args.tokens.now (λ b. branch_outline b c.args.keyword) c.branch-alloc.result (λ b. b.value) _ _ _ _ c.branch-alloc.ensures c.in_err-here.ensures) c.more.invariant)
+    rw (p.1, p.2) (turn_failed c.args.tokens.now (branches c.args.depth c.args.keyword) c.branch-alloc.result (λ b. b.value) c.more.here c.in-Some.after _ _ c.in_err-here.field-0.0 _ (sym c.in-Some.ensures) c.branch-alloc.ensures c.in_err-here.ensures c.more.invariant)
 
 pub more_branches-returns : goal.more_branches-returns
 more_branches-returns t c =
-    is_done (accept_at kinds.Elsif) (branch_with (expr_at c.args.depth) (block_at c.args.depth) c.args.keyword) (elsif_adv c.args.depth c.args.keyword)
-    (each_after kinds.Elsif (λ b. branch_outline b c.args.keyword) c.more.rest.items) (ahead c.args.tokens.now c.more.here)
-    (many (accept_at kinds.Elsif) (branch_with (expr_at c.args.depth) (block_at c.args.depth) c.args.keyword) (ahead c.args.tokens.now c.args.input))
-    (sym c.accept.ensures ∙ ap (skipped c.args.tokens.now kinds.Elsif) c.in_default.is) c.more.invariant
+    turns_done c.args.tokens.now (branches c.args.depth c.args.keyword) c.more.rest.items c.more.here _ (sym c.accept.ensures ∙ ap (skipped c.args.tokens.now kinds.Elsif) c.in_default.is) c.more.invariant
 
 pub more_cases-more-smaller : goal.more_cases-more-smaller
 more_cases-more-smaller t c =
-    let k = kept c.args.tokens.now case_outline c.case.result (λ b. b.value) _ _ _ _ c.case.ensures c.in_ok-here.ensures in
-    smaller (accept_at kinds.Bar) (case_with (block_at c.args.depth)) (bar_adv c.args.depth) (ahead c.args.tokens.now c.more.here) _ _
-    (sym c.in-Some.ensures) k.is_read
+    turn_shorter c.args.tokens.now (cases c.args.depth) c.case.result (λ b. b.value) c.more.here c.in-Some.after _ _ _ (sym c.in-Some.ensures) c.case.ensures c.in_ok-here.ensures
 
 pub more_cases-more-preserved : goal.more_cases-more-preserved
 more_cases-more-preserved t c =
-    let k = kept c.args.tokens.now case_outline c.case.result (λ b. b.value) _ _ _ _ c.case.ensures c.in_ok-here.ensures in
-    pushed_after (accept_at kinds.Bar) (case_with (block_at c.args.depth)) (bar_adv c.args.depth)
-    case_outline kinds.Bar c.more.rest.items _ k.item (ahead c.args.tokens.now c.more.here) (ahead c.args.tokens.now c.in-Some.after) _ _ k.items
-    (sym c.in-Some.ensures) k.is_read refl c.more.invariant
+    turn_kept c.args.tokens.now (cases c.args.depth) c.case.result (λ b. b.value) c.more.here c.in-Some.after _ _ _ _ (sym c.in-Some.ensures) c.case.ensures c.in_ok-here.ensures c.more.invariant
 
 pub more_cases-returns-in_err-here : goal.more_cases-returns-in_err-here
 more_cases-returns-in_err-here t c =
     let p = err_from_is_err_and c.from_residual.result c.from_residual.ensures.1 in
-    rw (p.1, p.2) (ends (accept_at kinds.Bar) (case_with (block_at c.args.depth)) (bar_adv c.args.depth) c.args.tokens.now c.in_err-here.field-0.0
-    (each_after kinds.Bar case_outline c.more.rest.items) (ahead c.args.tokens.now c.more.here) _ (many (accept_at kinds.Bar) (case_with (block_at c.args.depth)) (ahead c.args.tokens.now c.args.input))
-    (sym c.in-Some.ensures) (unkept c.args.tokens.now case_outline c.case.result (λ b. b.value) _ _ _ _ c.case.ensures c.in_err-here.ensures) c.more.invariant)
+    rw (p.1, p.2) (turn_failed c.args.tokens.now (cases c.args.depth) c.case.result (λ b. b.value) c.more.here c.in-Some.after _ _ c.in_err-here.field-0.0 _ (sym c.in-Some.ensures) c.case.ensures c.in_err-here.ensures c.more.invariant)
 
 pub more_cases-returns : goal.more_cases-returns
 more_cases-returns t c =
-    is_done (accept_at kinds.Bar) (case_with (block_at c.args.depth)) (bar_adv c.args.depth)
-    (each_after kinds.Bar case_outline c.more.rest.items) (ahead c.args.tokens.now c.more.here) (many (accept_at kinds.Bar) (case_with (block_at c.args.depth)) (ahead c.args.tokens.now c.args.input))
-    (sym c.accept.ensures ∙ ap (skipped c.args.tokens.now kinds.Bar) c.in_default.is) c.more.invariant
+    turns_done c.args.tokens.now (cases c.args.depth) c.more.rest.items c.more.here _ (sym c.accept.ensures ∙ ap (skipped c.args.tokens.now kinds.Bar) c.in_default.is) c.more.invariant
 
 pub block-returns : goal.block-returns
 unfolding block_with several
-block-returns t c = gives_boxed c.args.tokens.now block_outline _ _ c.boxed.result _ c.boxed.ensures.of c.boxed.ensures.refused (grind (arith, made))
+block-returns t c = gives_boxed c.args.tokens.now block_outline _ _ c.boxed.result _ c.boxed.ensures.of c.boxed.ensures.refused (rw (c.in_ok-first.ensures, c.in_ok-rest.ensures, block_made c.into_inner.result c.in_ok-rest.rest, c.into_inner.ensures) refl)
 
 pub branch-returns : goal.branch-returns
 unfolding branch_with
-branch-returns t c = gives_boxed c.args.tokens.now (λ b. branch_outline b c.args.keyword) _ _ c.boxed.result _ c.boxed.ensures.of c.boxed.ensures.refused (grind (arith, made))
+branch-returns t c = gives_boxed c.args.tokens.now (λ b. branch_outline b c.args.keyword) _ _ c.boxed.result _ c.boxed.ensures.of c.boxed.ensures.refused (rw (c.in_ok-condition.ensures, c.in_ok-input.ensures, c.in_ok-body.ensures, branch_made c.into_inner.result c.into_inner-2.result c.args.keyword, c.into_inner.ensures, c.into_inner-2.ensures) refl)
 
 pub case-returns : goal.case-returns
-unfolding case_with begins
-case-returns t c = gives_boxed c.args.tokens.now case_outline _ _ c.boxed-2.result _ c.boxed-2.ensures.of c.boxed-2.ensures.refused (grind (arith, made))
+unfolding case_with
+case-returns t c = gives_boxed c.args.tokens.now case_outline _ _ c.boxed-2.result _ c.boxed-2.ensures.of c.boxed-2.ensures.refused (rw (has_begun label_first (ahead c.args.tokens.now c.args.input) (sym c.begins_label.ensures ∙ c.if-not-begins_label.false), c.in_ok-labels.ensures, c.in_ok-input.ensures, c.in_ok-body.ensures, labelled_made c.in_ok-labels.labels c.in_ok-body.body) refl)
 
 pub case-returns-then-not-begins_label : goal.case-returns-then-not-begins_label
-unfolding case_with begins
-case-returns-then-not-begins_label t c = gives_boxed c.args.tokens.now case_outline _ _ c.boxed.result _ c.boxed.ensures.of c.boxed.ensures.refused (grind (arith, made))
+unfolding case_with
+case-returns-then-not-begins_label t c = gives_boxed c.args.tokens.now case_outline _ _ c.boxed.result _ c.boxed.ensures.of c.boxed.ensures.refused (rw (has_not_begun label_first (ahead c.args.tokens.now c.args.input) (sym c.begins_label.ensures ∙ c.if-not-begins_label.true), nothing_made) refl)
 
 pub case_statement-returns : goal.case_statement-returns
 unfolding cases_with
-case_statement-returns t c = grind (arith, made)
+case_statement-returns t c = rw (c.in_ok-value.ensures, c.in_ok-input.ensures, c.in_ok-first.ensures, case_made c.into_inner.result c.in_ok-first.first c.in_ok-first.rest, c.into_inner.ensures) refl
 
 pub for_statement-returns : goal.for_statement-returns
 unfolding for_with name_at
@@ -133,11 +94,11 @@ for_statement-returns t c = grind (arith, made)
 
 pub if_statement-returns : goal.if_statement-returns
 unfolding if_with
-if_statement-returns t c = grind (arith, made)
+if_statement-returns t c = rw (c.in_ok-first.ensures, c.in_ok-rest.ensures, c.in_ok-otherwise.ensures, c.in_ok-input.ensures, if_made c.in_ok-first.first c.in_ok-rest.rest c.in_ok-otherwise.otherwise) refl
 
 pub repeat_statement-returns : goal.repeat_statement-returns
 unfolding repeat_with
-repeat_statement-returns t c = grind (arith, made)
+repeat_statement-returns t c = rw (c.in_ok-body.ensures, c.in_ok-input.ensures, c.in_ok-condition.ensures, repeat_made c.in_ok-body.body c.into_inner.result, c.into_inner.ensures) refl
 
 pub statement-returns : goal.statement-returns
 unfolding statement_at
@@ -148,28 +109,22 @@ unfolding statement_at
 statement-returns-then-depth-eq0 t c = grind arith
 
 pub statement_within-returns-in-Some-Name-default : goal.statement_within-returns-in-Some-Name-default
-unfolding statement_with
-statement_within-returns-in-Some-Name-default t c = grind (arith, made)
+statement_within-returns-in-Some-Name-default t c = rw (statement_seen (expr_at c.args.depth) (block_at c.args.depth) _ _ (leaf_stands c.args.tokens.now _ c.args.input c.in-Some-Name-default.rest _ (leafs.Name c.in-Some-Name-default.number) c.in-Some-Name-default.is c.in-Some-Name-default.field-0-0-is c.next.ensures)) c.assignment.ensures
 
 pub statement_within-returns-in-Some-Word-Case-default : goal.statement_within-returns-in-Some-Word-Case-default
-unfolding statement_with
-statement_within-returns-in-Some-Word-Case-default t c = grind (arith, made)
+statement_within-returns-in-Some-Word-Case-default t c = rw (statement_seen (expr_at c.args.depth) (block_at c.args.depth) _ _ (word_stands c.args.tokens.now _ c.args.input c.in-Some-Word-Case-default.rest _ _ kinds.Case c.in-Some-Word-Case-default.is c.in-Some-Word-Case-default.field-0-0-is c.in-Some-Word-Case-default.field-0-0-0-is c.next.ensures)) c.case_statement.ensures
 
 pub statement_within-returns-in-Some-Word-For-default : goal.statement_within-returns-in-Some-Word-For-default
-unfolding statement_with
-statement_within-returns-in-Some-Word-For-default t c = grind (arith, made)
+statement_within-returns-in-Some-Word-For-default t c = rw (statement_seen (expr_at c.args.depth) (block_at c.args.depth) _ _ (word_stands c.args.tokens.now _ c.args.input c.in-Some-Word-For-default.rest _ _ kinds.For c.in-Some-Word-For-default.is c.in-Some-Word-For-default.field-0-0-is c.in-Some-Word-For-default.field-0-0-0-is c.next.ensures)) c.for_statement.ensures
 
 pub statement_within-returns-in-Some-Word-If-default : goal.statement_within-returns-in-Some-Word-If-default
-unfolding statement_with
-statement_within-returns-in-Some-Word-If-default t c = grind (arith, made)
+statement_within-returns-in-Some-Word-If-default t c = rw (statement_seen (expr_at c.args.depth) (block_at c.args.depth) _ _ (word_stands c.args.tokens.now _ c.args.input c.in-Some-Word-If-default.rest _ _ kinds.If c.in-Some-Word-If-default.is c.in-Some-Word-If-default.field-0-0-is c.in-Some-Word-If-default.field-0-0-0-is c.next.ensures)) c.if_statement.ensures
 
 pub statement_within-returns-in-Some-Word-Repeat-default : goal.statement_within-returns-in-Some-Word-Repeat-default
-unfolding statement_with
-statement_within-returns-in-Some-Word-Repeat-default t c = grind (arith, made)
+statement_within-returns-in-Some-Word-Repeat-default t c = rw (statement_seen (expr_at c.args.depth) (block_at c.args.depth) _ _ (word_stands c.args.tokens.now _ c.args.input c.in-Some-Word-Repeat-default.rest _ _ kinds.Repeat c.in-Some-Word-Repeat-default.is c.in-Some-Word-Repeat-default.field-0-0-is c.in-Some-Word-Repeat-default.field-0-0-0-is c.next.ensures)) c.repeat_statement.ensures
 
 pub statement_within-returns-in-Some-Word-While-default : goal.statement_within-returns-in-Some-Word-While-default
-unfolding statement_with
-statement_within-returns-in-Some-Word-While-default t c = grind (arith, made)
+statement_within-returns-in-Some-Word-While-default t c = rw (statement_seen (expr_at c.args.depth) (block_at c.args.depth) _ _ (word_stands c.args.tokens.now _ c.args.input c.in-Some-Word-While-default.rest _ _ kinds.While c.in-Some-Word-While-default.is c.in-Some-Word-While-default.field-0-0-is c.in-Some-Word-While-default.field-0-0-0-is c.next.ensures)) c.while_statement.ensures
 
 pub statement_within-returns-in_default : goal.statement_within-returns-in_default
 unfolding statement_with
@@ -177,7 +132,7 @@ statement_within-returns-in_default t c = grind (arith, made)
 
 pub while_statement-returns : goal.while_statement-returns
 unfolding while_with
-while_statement-returns t c = grind (arith, made)
+while_statement-returns t c = rw (c.in_ok-first.ensures, c.in_ok-rest.ensures, c.in_ok-input.ensures, while_made c.in_ok-first.first c.in_ok-rest.rest) refl
 
 pub block_behind-returns-in-Some : goal.block_behind-returns-in-Some
 block_behind-returns-in-Some t c =

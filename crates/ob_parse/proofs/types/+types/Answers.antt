@@ -1,68 +1,51 @@
-use Rattle.std.proofs.Common.{ℕ, refl, sym, ap, ◌∙◌, arith}
+use Rattle.std.proofs.Common.{sym, ap, ◌∙◌, arith, refl}
 use Rattle.std.proofs.lemmas.Result.{err_from_is_err_and}
 use Rattle.ob_scan.specs.declared.kind.Kind.TheVariants as kinds
-use Rattle.ob_tree.specs.declared.declaration.VarDecl.{VarDecl}
-use Rattle.ob_tree.specs.Constructs as constructs
-use Rattle.ob_tree.specs.Marks.{Out, construct, each_after}
+use Rattle.ob_tree.specs.declared.token.Leaf.TheVariants as leafs
+use Rattle.ob_tree.specs.declared.declaration.Record.{roll-Record}
 use Rattle.ob_tree.specs.Types.{var_outline, fields_outline, type_outline}
-use Rattle.ob_parse.specs.Forms.{Reader, many, node, limit_at, unless}
-use Rattle.ob_parse.specs.Accords.{ahead, skipped}
-use Rattle.ob_parse.specs.ReadTypes.{field_start, var_with, type_at, fields_with, record_with, type_with}
-use Rattle.ob_parse.proofs.Kept.{kept, unkept}
-use Rattle.ob_parse.proofs.Loops.{Advances, pushed_after, smaller, is_done, field_advances}
-use Rattle.ob_parse.proofs.LoopEnds.{ends}
-use Rattle.ob_parse.proofs.Sound.{sound_flat}
-use Rattle.ob_parse.proofs.SoundTypes.{var_sound, type_at_sound}
-use Rattle.ob_tree.proofs.TypeLayers.{types_made}
+use Rattle.ob_parse.specs.Forms.{limit_at, unless}
+use Rattle.ob_parse.specs.Accords.{skipped}
+use Rattle.ob_parse.specs.ReadTypes.{var_with, type_at, fields_with, record_with, type_with}
+use Rattle.ob_tree.proofs.TypeLayers.{types_made, array_made, pointer_made, record_of_made, record_made, fields_made, var_made}
 use Rattle.ob_parse.proofs.Boxes.{gives_boxed}
 use Rattle.ob_parse.proofs.Somes.{gives_some, not_closed}
+use Rattle.ob_parse.proofs.Repetitions.{field_lists}
+use Rattle.ob_parse.proofs.Turns.{turn_shorter, turn_kept, turn_failed, turns_done}
+use Rattle.ob_parse.specs.ReadExpressions.{expr_at}
+use Rattle.ob_parse.proofs.Fronts.{leaf_stands, word_stands, type_seen}
 use Rattle.ob_parse.proofs.types.+types.Goals as goal
-
-abbrev field_at : ℕ → Reader
-field_at d = node constructs.FieldList (var_with (type_at d))
-
-abbrev field_outline : VarDecl → Out
-field_outline v = construct constructs.FieldList (var_outline v)
-
-advances : (d : ℕ) → Advances field_start (field_at d)
-advances d = field_advances d _ (sound_flat d _ _ refl (var_sound d _ (type_at_sound d)))
 
 pub more_fields-more-smaller : goal.more_fields-more-smaller
 more_fields-more-smaller t c =
-    let k = kept c.args.tokens.now field_outline c.field_list.result (λ b. b.value) _ _ _ _ c.field_list.ensures c.in_ok-here.ensures in
-    smaller field_start (field_at c.args.depth) (advances c.args.depth) (ahead c.args.tokens.now c.more.here) _ _ (sym c.in-Some.ensures) k.is_read
+    turn_shorter c.args.tokens.now (field_lists c.args.depth) c.field_list.result (λ b. b.value) c.more.here c.in-Some.after _ _ _ (sym c.in-Some.ensures) c.field_list.ensures c.in_ok-here.ensures
 
 pub more_fields-more-preserved : goal.more_fields-more-preserved
 more_fields-more-preserved t c =
-    let k = kept c.args.tokens.now field_outline c.field_list.result (λ b. b.value) _ _ _ _ c.field_list.ensures c.in_ok-here.ensures in
-    pushed_after field_start (field_at c.args.depth) (advances c.args.depth) field_outline kinds.Semicolon c.more.rest.items _ k.item
-    (ahead c.args.tokens.now c.more.here) (ahead c.args.tokens.now c.in-Some.after) _ _ k.items (sym c.in-Some.ensures) k.is_read refl c.more.invariant
+    turn_kept c.args.tokens.now (field_lists c.args.depth) c.field_list.result (λ b. b.value) c.more.here c.in-Some.after _ _ _ _ (sym c.in-Some.ensures) c.field_list.ensures c.in_ok-here.ensures c.more.invariant
 
 pub more_fields-returns-in_err-here : goal.more_fields-returns-in_err-here
 more_fields-returns-in_err-here t c =
     let p = err_from_is_err_and c.from_residual.result c.from_residual.ensures.1 in
-    rw (p.1, p.2) (ends field_start (field_at c.args.depth) (advances c.args.depth) c.args.tokens.now c.in_err-here.field-0.0
-    (each_after kinds.Semicolon field_outline c.more.rest.items) (ahead c.args.tokens.now c.more.here) _
-    (many field_start (field_at c.args.depth) (ahead c.args.tokens.now c.args.input)) (sym c.in-Some.ensures) (unkept c.args.tokens.now field_outline c.field_list.result (λ b. b.value) _ _ _ _ c.field_list.ensures c.in_err-here.ensures) c.more.invariant)
+    rw (p.1, p.2) (turn_failed c.args.tokens.now (field_lists c.args.depth) c.field_list.result (λ b. b.value) c.more.here c.in-Some.after _ _ c.in_err-here.field-0.0 _ (sym c.in-Some.ensures) c.field_list.ensures c.in_err-here.ensures c.more.invariant)
 
 pub more_fields-returns : goal.more_fields-returns
-more_fields-returns t c = is_done field_start (field_at c.args.depth) (advances c.args.depth)
-    (each_after kinds.Semicolon field_outline c.more.rest.items) (ahead c.args.tokens.now c.more.here) (many field_start (field_at c.args.depth) (ahead c.args.tokens.now c.args.input))
-    (sym (sym (ap (skipped c.args.tokens.now kinds.Semicolon) c.in_default.is) ∙ c.next_fields.ensures)) c.more.invariant
+more_fields-returns t c =
+    turns_done c.args.tokens.now (field_lists c.args.depth) c.more.rest.items c.more.here _ (sym c.next_fields.ensures ∙ ap (skipped c.args.tokens.now kinds.Semicolon) c.in_default.is) c.more.invariant
 
 pub array-returns : goal.array-returns
-array-returns t c = grind (arith, types_made)
+array-returns t c = rw (c.in_ok-lengths.ensures, c.in_ok-rest.ensures, c.in_ok-of.ensures, array_made c.in_ok-lengths.lengths c.in_ok-of.of) refl
 
 pub fields-returns : goal.fields-returns
 unfolding fields_with
-fields-returns t c = gives_boxed c.args.tokens.now fields_outline _ _ c.boxed.result _ c.boxed.ensures.of c.boxed.ensures.refused (grind (arith, types_made))
+fields-returns t c = gives_boxed c.args.tokens.now fields_outline _ _ c.boxed.result _ c.boxed.ensures.of c.boxed.ensures.refused (rw (c.in_ok-first.ensures, c.in_ok-rest.ensures, sym c.skip-closing_semicolon.ensures, fields_made c.into_inner.result c.in_ok-rest.rest c.skip-closing_semicolon.result.0, c.into_inner.ensures) refl)
 
 pub pointer-returns : goal.pointer-returns
-pointer-returns t c = grind (arith, types_made)
+pointer-returns t c = rw (c.in_ok-rest.ensures, c.in_ok-to.ensures, pointer_made c.in_ok-to.to) refl
 
 pub record-returns : goal.record-returns
 unfolding record_with
-record-returns t c = grind (arith, types_made)
+record-returns t c = rw (c.in_ok-base.ensures, c.in_ok-fields.ensures, c.in_ok-here.ensures, record_of_made (roll-Record (record { base = c.in_ok-base.base; fields = c.in_ok-fields.fields })), record_made c.in_ok-base.base c.in_ok-fields.fields) refl
 
 pub some_fields-returns : goal.some_fields-returns
 some_fields-returns t c =
@@ -81,24 +64,19 @@ unfolding type_at limit_at
 type_form-returns-then-depth-eq0 t c = grind arith
 
 pub type_within-returns-in-Some-Name-default : goal.type_within-returns-in-Some-Name-default
-unfolding type_with
-type_within-returns-in-Some-Name-default t c = grind (arith, types_made)
+type_within-returns-in-Some-Name-default t c = rw (type_seen (expr_at c.args.depth) (type_at c.args.depth) _ _ (leaf_stands c.args.tokens.now _ c.args.input c.in-Some-Name-default.rest _ (leafs.Name c.in-Some-Name-default.head) c.in-Some-Name-default.is c.in-Some-Name-default.field-0-0-is c.next.ensures)) c.named.ensures
 
 pub type_within-returns-in-Some-Word-Array-default : goal.type_within-returns-in-Some-Word-Array-default
-unfolding type_with
-type_within-returns-in-Some-Word-Array-default t c = grind (arith, types_made)
+type_within-returns-in-Some-Word-Array-default t c = rw (type_seen (expr_at c.args.depth) (type_at c.args.depth) _ _ (word_stands c.args.tokens.now _ c.args.input c.in-Some-Word-Array-default.rest _ _ kinds.Array c.in-Some-Word-Array-default.is c.in-Some-Word-Array-default.field-0-0-is c.in-Some-Word-Array-default.field-0-0-0-is c.next.ensures)) c.array.ensures
 
 pub type_within-returns-in-Some-Word-Pointer-default : goal.type_within-returns-in-Some-Word-Pointer-default
-unfolding type_with
-type_within-returns-in-Some-Word-Pointer-default t c = grind (arith, types_made)
+type_within-returns-in-Some-Word-Pointer-default t c = rw (type_seen (expr_at c.args.depth) (type_at c.args.depth) _ _ (word_stands c.args.tokens.now _ c.args.input c.in-Some-Word-Pointer-default.rest _ _ kinds.Pointer c.in-Some-Word-Pointer-default.is c.in-Some-Word-Pointer-default.field-0-0-is c.in-Some-Word-Pointer-default.field-0-0-0-is c.next.ensures)) c.pointer.ensures
 
 pub type_within-returns-in-Some-Word-Procedure-default : goal.type_within-returns-in-Some-Word-Procedure-default
-unfolding type_with
-type_within-returns-in-Some-Word-Procedure-default t c = grind (arith, types_made)
+type_within-returns-in-Some-Word-Procedure-default t c = rw (type_seen (expr_at c.args.depth) (type_at c.args.depth) _ _ (word_stands c.args.tokens.now _ c.args.input c.in-Some-Word-Procedure-default.rest _ _ kinds.Procedure c.in-Some-Word-Procedure-default.is c.in-Some-Word-Procedure-default.field-0-0-is c.in-Some-Word-Procedure-default.field-0-0-0-is c.next.ensures)) c.procedure.ensures
 
 pub type_within-returns-in-Some-Word-Record-default : goal.type_within-returns-in-Some-Word-Record-default
-unfolding type_with
-type_within-returns-in-Some-Word-Record-default t c = grind (arith, types_made)
+type_within-returns-in-Some-Word-Record-default t c = rw (type_seen (expr_at c.args.depth) (type_at c.args.depth) _ _ (word_stands c.args.tokens.now _ c.args.input c.in-Some-Word-Record-default.rest _ _ kinds.Record c.in-Some-Word-Record-default.is c.in-Some-Word-Record-default.field-0-0-is c.in-Some-Word-Record-default.field-0-0-0-is c.next.ensures)) c.record.ensures
 
 pub type_within-returns-in_default : goal.type_within-returns-in_default
 unfolding type_with
@@ -106,4 +84,4 @@ type_within-returns-in_default t c = grind (arith, types_made)
 
 pub var_declaration-returns : goal.var_declaration-returns
 unfolding var_with
-var_declaration-returns t c = gives_boxed c.args.tokens.now var_outline _ _ c.boxed.result _ c.boxed.ensures.of c.boxed.ensures.refused (grind (arith, types_made))
+var_declaration-returns t c = gives_boxed c.args.tokens.now var_outline _ _ c.boxed.result _ c.boxed.ensures.of c.boxed.ensures.refused (rw (c.in_ok-names.ensures, c.in_ok-here.ensures, c.in_ok-form.ensures, var_made c.in_ok-names.names c.into_inner-form.result, c.into_inner-form.ensures) refl)

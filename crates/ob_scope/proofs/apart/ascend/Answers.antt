@@ -11,6 +11,7 @@ use Rattle.ob_scope.proofs.Aparts.{apart_all, apart_more, apart_none}
 use Rattle.ob_scope.proofs.Elements.{slice_there}
 use Rattle.ob_scope.proofs.Numberings.{last_within, numbered_none, numbers_long}
 use Rattle.ob_scope.proofs.apart.ascend.Goals as goal
+use Rattle.ob_scope.proofs.apart.ascend.Goals.{In_ok-number}
 
 pub loop-i-init : goal.loop-i-init
 loop-i-init c =
@@ -30,43 +31,25 @@ within name members i n room names more numbers later less room_is few before af
     let here : n < length more = last_within name members i n at.0 more numbers later (numbers_long name members i names numbers (omega arith) before) is at.1 after in
     omega (arith, here)
 
-pub slice_copy_out-pass : goal.slice_copy_out-pass
-slice_copy_out-pass c =
+low : (c : In_ok-number) → c.in_ok-number.number < length c.loop-i.passed
+low c =
     let name = text_at c.args.text.now.bytes.now c.args.text.now.tokens.now in
     let l = c.loop-i.invariant in
     let e = c.in_ok-number.ensures in
     within name c.args.members.now c.loop-i.i c.in_ok-number.number (length c.loop-i.passed) c.loop-i.named.names.keys c.number_next.new.named.names.keys c.loop-i.named.numbers.items c.number_next.new.named.numbers.items
     c.loop-i-test.true l.as_many l.few l.numbered e.numbered e.number e.grown
+
+pub slice_copy_out-pass : goal.slice_copy_out-pass
+slice_copy_out-pass c = low (goal.at.slice_copy_out-pass c).In_ok-number
 
 pub bounds-passed-number : goal.bounds-passed-number
-bounds-passed-number c =
-    let name = text_at c.args.text.now.bytes.now c.args.text.now.tokens.now in
-    let l = c.loop-i.invariant in
-    let e = c.in_ok-number.ensures in
-    within name c.args.members.now c.loop-i.i c.in_ok-number.number (length c.loop-i.passed) c.loop-i.named.names.keys c.number_next.new.named.names.keys c.loop-i.named.numbers.items c.number_next.new.named.numbers.items
-    c.loop-i-test.true l.as_many l.few l.numbered e.numbered e.number e.grown
+bounds-passed-number c = low (goal.at.bounds-passed-number c).In_ok-number
 
 pub offset_bounds-passed-number : goal.offset_bounds-passed-number
-offset_bounds-passed-number c =
-    let name = text_at c.args.text.now.bytes.now c.args.text.now.tokens.now in
-    let l = c.loop-i.invariant in
-    let e = c.in_ok-number.ensures in
-    let here : c.in_ok-number.number < length c.loop-i.passed =
-    within name c.args.members.now c.loop-i.i c.in_ok-number.number (length c.loop-i.passed) c.loop-i.named.names.keys c.number_next.new.named.names.keys c.loop-i.named.numbers.items c.number_next.new.named.numbers.items
-    c.loop-i-test.true l.as_many l.few l.numbered e.numbered e.number e.grown
-    in
-    grind (arith, elements)
+offset_bounds-passed-number c = let here = low (goal.at.offset_bounds-passed-number c).In_ok-number in grind (arith, elements)
 
 pub offset_bounds-passed-number-in-Some : goal.offset_bounds-passed-number-in-Some
-offset_bounds-passed-number-in-Some c =
-    let name = text_at c.args.text.now.bytes.now c.args.text.now.tokens.now in
-    let l = c.loop-i.invariant in
-    let e = c.in_ok-number.ensures in
-    let here : c.in_ok-number.number < length c.loop-i.passed =
-    within name c.args.members.now c.loop-i.i c.in_ok-number.number (length c.loop-i.passed) c.loop-i.named.names.keys c.number_next.new.named.names.keys c.loop-i.named.numbers.items c.number_next.new.named.numbers.items
-    c.loop-i-test.true l.as_many l.few l.numbered e.numbered e.number e.grown
-    in
-    grind (arith, elements)
+offset_bounds-passed-number-in-Some c = let here = low (goal.at.offset_bounds-passed-number-in-Some c).In_ok-number in grind (arith, elements)
 
 pub loop-i-preserved : goal.loop-i-preserved
 loop-i-preserved c =

@@ -1,21 +1,14 @@
-use Rattle.std.proofs.Common.{◌≡◌, ◌+◌, ◌-◌, ◌++◌, suc, true, false, length, map, [], ◌∷◌, Some, None, Ok, refl, sym, ap, ◌∙◌, arith}
-use Rattle.ob_scan.specs.declared.kind.Kind.{Kind}
+use Rattle.std.proofs.Common.{◌≡◌, ◌+◌, ◌-◌, ◌++◌, suc, true, false, length, map, [], ◌∷◌, None, Ok, refl, sym, ap, ◌∙◌, arith}
 use Rattle.ob_scan.specs.declared.kind.Kind.TheVariants as kinds
-use Rattle.ob_tree.specs.declared.token.Leaf.{Leaf}
 use Rattle.ob_tree.specs.declared.token.Leaf.TheVariants as leafs
-use Rattle.ob_tree.specs.declared.expression.AddOperator.{AddOperator}
-use Rattle.ob_tree.specs.declared.expression.MulOperator.{MulOperator}
-use Rattle.ob_tree.specs.declared.expression.Term.{Term}
-use Rattle.ob_tree.specs.declared.expression.Factor.{Factor}
 use Rattle.ob_tree.specs.declared.expression.Factor.TheVariants as factors
-use Rattle.ob_tree.specs.declared.expression.Element.{Element}
 use Rattle.ob_tree.specs.declared.expression.Expr.{Expr}
 use Rattle.ob_tree.specs.declared.expression.Selector.{Selector}
 use Rattle.ob_tree.specs.Constructs as constructs
 use Rattle.ob_tree.specs.Marks.{Value, word}
-use Rattle.ob_tree.specs.Expressions.{relation_kind, add_kind, mul_kind, term_outline, factor_outline, element_outline, expr_outline, selector_outline}
+use Rattle.ob_tree.specs.Expressions.{relation_kind, factor_outline, expr_outline, selector_outline}
 use Rattle.ob_tree.proofs.ExpressionLayers.{expressions_made, value_made, nil_made, true_made, false_made}
-use Rattle.ob_decls.specs.Drafts.{after, passed}
+use Rattle.ob_decls.specs.Drafts.{after}
 use Rattle.ob_decls.specs.Parts.{token, both, each}
 use Rattle.ob_decls.specs.Expressions.{term_piece, factor_piece, element_piece, expr_piece, selected}
 use Rattle.ob_decls.specs.Settling.{settling}
@@ -25,19 +18,21 @@ use Rattle.ob_parse.specs.declared.cursor.Cursor.{Cursor}
 use Rattle.ob_parse.specs.Front.{uncons, front}
 use Rattle.ob_parse.specs.Forms.{accept_at, expect_at, begins, optional, several, unless, limit_at}
 use Rattle.ob_parse.specs.Accords.{ahead, seen, skipped}
-use Rattle.ob_parse.specs.ReadExpressions.{relation_start, add_start, mul_start, element_with, selector_first, selector_with, designator_with, factor_with, expr_at, term_at, factor_at, negated_at}
-use Rattle.ob_parse.proofs.Loops.{mul_advances, add_advances, accept_advances, selector_advances, marked_some, marked_none, has_begun, has_not_begun}
+use Rattle.ob_parse.specs.ReadExpressions.{relation_start, element_with, selector_first, selector_with, designator_with, factor_with, expr_at, negated_at}
+use Rattle.ob_parse.proofs.Loops.{accept_advances, selector_advances, marked_some, marked_none, has_begun, has_not_begun}
 use Rattle.ob_parse.proofs.Somes.{not_closed}
-use Rattle.ob_parse.proofs.SoundExpressions.{expr_at_sound, element_sound, factor_at_sound, term_at_sound}
+use Rattle.ob_parse.proofs.SoundExpressions.{expr_at_sound}
 use Rattle.ob_table.specs.Shapes.{compared_outline, compared_piece, set_outline, set_piece, high_outline, high_piece, arguments_outline, arguments_piece}
 use Rattle.ob_table.specs.Choosing.{dot_at, picked_outline, picking}
 use Rattle.ob_table.proofs.Combine.{told_absent, failed_prefixed}
 use Rattle.ob_table.proofs.CallTrees.{list_told, further_begun, further_more, further_done, some_arguments_told, call_told}
 use Rattle.ob_table.proofs.DesignatorTrees.{FirstNamed, chosen_begun, chosen_next, chosen_all, none_chosen, selector_so, index_told, designator_told}
-use Rattle.ob_table.proofs.Lists.{Any, pieces_begun, pieces_behind, pieces_done, listing_smaller, listing_failed}
+use Rattle.ob_table.proofs.Lists.{listing_smaller, listing_failed, behind_token, repeat_begun, repeat_shorter, repeat_behind, repeat_failed, repeat_done, operations_begun, operation_shorter, operation_told, operation_failed, operations_done}
 use Rattle.ob_table.proofs.ExpressionTrees.{expr_deeper, compared_told, sum_told, sum_failed, term_told, term_failed}
-use Rattle.ob_table.proofs.FactorTrees.{some, told_factor, leaf_told, name_told, set_told, group_told, not_told, between_failed, closed, some_elements_told, element_list_told, element_told, element_failed, several_failed, high_told}
+use Rattle.ob_table.proofs.FactorTrees.{told_factor, leaf_told, name_told, set_told, group_told, not_told, between_failed, closed, some_elements_told, element_list_told, element_told, element_failed, several_failed, high_told}
 use Rattle.ob_table.proofs.Operands.{lone_factor_told, operated_told, factor_fails, factors_fail, terms_fail}
+use Rattle.ob_parse.proofs.Repetitions.{elements, factor_operations, term_operations}
+use Rattle.ob_parse.proofs.Fronts.{leaf_stands, word_stands}
 use Rattle.ob_table.proofs.expressions.+expressions.Goals as goal
 
 pub expression-returns-then-depth-eq0 : goal.expression-returns-then-depth-eq0
@@ -91,131 +86,108 @@ pub term-returns-in-Err : goal.term-returns-in-Err
 term-returns-in-Err t c = term_failed c.args.source.now.tokens.now c.args.depth _ c.args.input c.in-Err.ensures
 
 pub more_terms-more-init : goal.more_terms-more-init
-more_terms-more-init t c = pieces_begun c.args.source.now.tokens.now add_start (term_at c.args.depth) (λ p. word (add_kind p.0) ++ term_outline p.1) (λ p. both token (term_piece p.1)) c.args.inside _ c.args.input
+more_terms-more-init t c = operations_begun c.args.source.now.tokens.now (term_operations c.args.depth) term_piece c.args.inside _ c.args.input
 
 pub more_terms-more-smaller : goal.more_terms-more-smaller
 more_terms-more-smaller t c =
-    listing_smaller c.args.source.now.tokens.now add_start (term_at c.args.depth) term_outline (λ x. after (term_piece x) c.args.inside) (word (add_kind c.in-Some.field-0-0)) (add_advances c.args.depth _ (term_at_sound c.args.depth)) _ _ c.more.here c.in-Some.behind c.in-Ok.next
-    (marked_some add_kind c.in-Some.field-0-0 (ahead c.args.source.now.tokens.now c.in-Some.behind) _ (sym (ap (seen c.args.source.now.tokens.now) c.in-Some.is) ∙ c.add_operator.ensures)) c.in-Ok.ensures
+    operation_shorter c.args.source.now.tokens.now (term_operations c.args.depth) term_piece c.args.inside c.in-Some.field-0-0 _ _ c.more.here c.in-Some.behind c.in-Ok.next (sym (ap (seen c.args.source.now.tokens.now) c.in-Some.is) ∙ c.add_operator.ensures) c.in-Ok.ensures
 
 pub more_terms-more-preserved : goal.more_terms-more-preserved
 more_terms-more-preserved t c =
-    pieces_behind {X = AddOperator × Term} c.args.source.now.tokens.now add_start (term_at c.args.depth) (λ p. word (add_kind p.0) ++ term_outline p.1) (λ p. both token (term_piece p.1)) c.args.inside term_outline term_piece (λ x. (c.in-Some.field-0-0, x)) (word (add_kind c.in-Some.field-0-0)) (add_advances c.args.depth _ (term_at_sound c.args.depth)) (λ x. refl) (λ x. refl)
-    _ _ _ _ c.args.input c.more.here c.in-Some.behind c.in-Ok.next (marked_some add_kind c.in-Some.field-0-0 (ahead c.args.source.now.tokens.now c.in-Some.behind) _ (sym (ap (seen c.args.source.now.tokens.now) c.in-Some.is) ∙ c.add_operator.ensures)) c.more.invariant c.pass.ensures c.in-Ok.ensures
+    operation_told c.args.source.now.tokens.now (term_operations c.args.depth) term_piece c.args.inside c.in-Some.field-0-0 _ _ _ _ c.args.input c.more.here c.in-Some.behind c.in-Ok.next (sym (ap (seen c.args.source.now.tokens.now) c.in-Some.is) ∙ c.add_operator.ensures) c.more.invariant c.pass.ensures c.in-Ok.ensures
 
 pub more_terms-returns-in-Err : goal.more_terms-returns-in-Err
 more_terms-returns-in-Err t c =
-    listing_failed c.args.source.now.tokens.now add_start (term_at c.args.depth) (λ p. word (add_kind p.0) ++ term_outline p.1) (λ xs. after (each (λ p. both token (term_piece p.1)) xs) c.args.inside) Any c.in-Err.stop (word (add_kind c.in-Some.field-0-0)) (add_advances c.args.depth _ (term_at_sound c.args.depth)) _ _ c.args.input c.more.here c.in-Some.behind
-    (marked_some add_kind c.in-Some.field-0-0 (ahead c.args.source.now.tokens.now c.in-Some.behind) _ (sym (ap (seen c.args.source.now.tokens.now) c.in-Some.is) ∙ c.add_operator.ensures)) c.more.invariant c.in-Err.ensures
+    operation_failed c.args.source.now.tokens.now (term_operations c.args.depth) term_piece c.args.inside c.in-Some.field-0-0 c.in-Err.stop _ _ c.args.input c.more.here c.in-Some.behind (sym (ap (seen c.args.source.now.tokens.now) c.in-Some.is) ∙ c.add_operator.ensures) c.more.invariant c.in-Err.ensures
 
 pub more_terms-returns : goal.more_terms-returns
 more_terms-returns t c =
-    pieces_done c.args.source.now.tokens.now add_start (term_at c.args.depth) (λ p. word (add_kind p.0) ++ term_outline p.1) (λ p. both token (term_piece p.1)) c.args.inside (add_advances c.args.depth _ (term_at_sound c.args.depth)) _ _ c.args.input c.more.here (marked_none add_kind _ (sym (ap (seen c.args.source.now.tokens.now) c.in_default.is) ∙ c.add_operator.ensures)) c.more.invariant
+    operations_done c.args.source.now.tokens.now (term_operations c.args.depth) term_piece c.args.inside _ _ c.args.input c.more.here (sym (ap (seen c.args.source.now.tokens.now) c.in_default.is) ∙ c.add_operator.ensures) c.more.invariant
 
 pub more_factors-more-init : goal.more_factors-more-init
-more_factors-more-init t c = pieces_begun c.args.source.now.tokens.now mul_start (factor_at c.args.depth) (λ p. word (mul_kind p.0) ++ factor_outline p.1) (λ p. both token (factor_piece p.1)) c.args.inside _ c.args.input
+more_factors-more-init t c = operations_begun c.args.source.now.tokens.now (factor_operations c.args.depth) factor_piece c.args.inside _ c.args.input
 
 pub more_factors-more-smaller : goal.more_factors-more-smaller
 more_factors-more-smaller t c =
-    listing_smaller c.args.source.now.tokens.now mul_start (factor_at c.args.depth) factor_outline (λ x. after (factor_piece x) c.args.inside) (word (mul_kind c.in-Some.field-0-0)) (mul_advances c.args.depth _ (factor_at_sound c.args.depth)) _ _ c.more.here c.in-Some.behind c.in-Ok.next
-    (marked_some mul_kind c.in-Some.field-0-0 (ahead c.args.source.now.tokens.now c.in-Some.behind) _ (sym (ap (seen c.args.source.now.tokens.now) c.in-Some.is) ∙ c.mul_operator.ensures)) c.in-Ok.ensures
+    operation_shorter c.args.source.now.tokens.now (factor_operations c.args.depth) factor_piece c.args.inside c.in-Some.field-0-0 _ _ c.more.here c.in-Some.behind c.in-Ok.next (sym (ap (seen c.args.source.now.tokens.now) c.in-Some.is) ∙ c.mul_operator.ensures) c.in-Ok.ensures
 
 pub more_factors-more-preserved : goal.more_factors-more-preserved
 more_factors-more-preserved t c =
-    pieces_behind {X = MulOperator × Factor} c.args.source.now.tokens.now mul_start (factor_at c.args.depth) (λ p. word (mul_kind p.0) ++ factor_outline p.1) (λ p. both token (factor_piece p.1)) c.args.inside factor_outline factor_piece (λ x. (c.in-Some.field-0-0, x)) (word (mul_kind c.in-Some.field-0-0)) (mul_advances c.args.depth _ (factor_at_sound c.args.depth)) (λ x. refl) (λ x. refl)
-    _ _ _ _ c.args.input c.more.here c.in-Some.behind c.in-Ok.next (marked_some mul_kind c.in-Some.field-0-0 (ahead c.args.source.now.tokens.now c.in-Some.behind) _ (sym (ap (seen c.args.source.now.tokens.now) c.in-Some.is) ∙ c.mul_operator.ensures)) c.more.invariant c.pass.ensures c.in-Ok.ensures
+    operation_told c.args.source.now.tokens.now (factor_operations c.args.depth) factor_piece c.args.inside c.in-Some.field-0-0 _ _ _ _ c.args.input c.more.here c.in-Some.behind c.in-Ok.next (sym (ap (seen c.args.source.now.tokens.now) c.in-Some.is) ∙ c.mul_operator.ensures) c.more.invariant c.pass.ensures c.in-Ok.ensures
 
 pub more_factors-returns-in-Err : goal.more_factors-returns-in-Err
 more_factors-returns-in-Err t c =
-    listing_failed c.args.source.now.tokens.now mul_start (factor_at c.args.depth) (λ p. word (mul_kind p.0) ++ factor_outline p.1) (λ xs. after (each (λ p. both token (factor_piece p.1)) xs) c.args.inside) Any c.in-Err.stop (word (mul_kind c.in-Some.field-0-0)) (mul_advances c.args.depth _ (factor_at_sound c.args.depth)) _ _ c.args.input c.more.here c.in-Some.behind
-    (marked_some mul_kind c.in-Some.field-0-0 (ahead c.args.source.now.tokens.now c.in-Some.behind) _ (sym (ap (seen c.args.source.now.tokens.now) c.in-Some.is) ∙ c.mul_operator.ensures)) c.more.invariant c.in-Err.ensures
+    operation_failed c.args.source.now.tokens.now (factor_operations c.args.depth) factor_piece c.args.inside c.in-Some.field-0-0 c.in-Err.stop _ _ c.args.input c.more.here c.in-Some.behind (sym (ap (seen c.args.source.now.tokens.now) c.in-Some.is) ∙ c.mul_operator.ensures) c.more.invariant c.in-Err.ensures
 
 pub more_factors-returns : goal.more_factors-returns
 more_factors-returns t c =
-    pieces_done c.args.source.now.tokens.now mul_start (factor_at c.args.depth) (λ p. word (mul_kind p.0) ++ factor_outline p.1) (λ p. both token (factor_piece p.1)) c.args.inside (mul_advances c.args.depth _ (factor_at_sound c.args.depth)) _ _ c.args.input c.more.here (marked_none mul_kind _ (sym (ap (seen c.args.source.now.tokens.now) c.in_default.is) ∙ c.mul_operator.ensures)) c.more.invariant
+    operations_done c.args.source.now.tokens.now (factor_operations c.args.depth) factor_piece c.args.inside _ _ c.args.input c.more.here (sym (ap (seen c.args.source.now.tokens.now) c.in_default.is) ∙ c.mul_operator.ensures) c.more.invariant
 
 pub more_elements-more-init : goal.more_elements-more-init
-more_elements-more-init t c = pieces_begun c.args.source.now.tokens.now (accept_at kinds.Comma) (element_with (expr_at c.args.depth)) (λ e. word kinds.Comma ++ element_outline e) (λ e. both token (element_piece e)) c.args.inside _ c.args.input
+more_elements-more-init t c = repeat_begun c.args.source.now.tokens.now (elements c.args.depth) (behind_token element_piece) c.args.inside _ c.args.input
 
 pub more_elements-more-smaller : goal.more_elements-more-smaller
 more_elements-more-smaller t c =
-    listing_smaller c.args.source.now.tokens.now (accept_at kinds.Comma) (element_with (expr_at c.args.depth)) element_outline (λ x. after (element_piece x) c.args.inside) (word kinds.Comma) (accept_advances c.args.depth kinds.Comma _ (element_sound c.args.depth _ (expr_at_sound c.args.depth))) _ _ c.more.here c.in-Some.behind c.in-Ok.next
-    (sym c.accept.ensures ∙ ap (skipped c.args.source.now.tokens.now kinds.Comma) c.in-Some.is) c.in-Ok.ensures
+    repeat_shorter c.args.source.now.tokens.now (elements c.args.depth) element_piece c.args.inside _ _ c.more.here c.in-Some.behind c.in-Ok.next (sym c.accept.ensures ∙ ap (skipped c.args.source.now.tokens.now kinds.Comma) c.in-Some.is) c.in-Ok.ensures
 
 pub more_elements-more-preserved : goal.more_elements-more-preserved
 more_elements-more-preserved t c =
-    pieces_behind {X = Element} c.args.source.now.tokens.now (accept_at kinds.Comma) (element_with (expr_at c.args.depth)) (λ e. word kinds.Comma ++ element_outline e) (λ e. both token (element_piece e)) c.args.inside element_outline element_piece (λ x. x) (word kinds.Comma) (accept_advances c.args.depth kinds.Comma _ (element_sound c.args.depth _ (expr_at_sound c.args.depth))) (λ x. refl) (λ x. refl)
-    _ _ _ _ c.args.input c.more.here c.in-Some.behind c.in-Ok.next (sym c.accept.ensures ∙ ap (skipped c.args.source.now.tokens.now kinds.Comma) c.in-Some.is) c.more.invariant c.pass.ensures c.in-Ok.ensures
+    repeat_behind c.args.source.now.tokens.now (elements c.args.depth) element_piece c.args.inside _ _ _ _ c.args.input c.more.here c.in-Some.behind c.in-Ok.next (sym c.accept.ensures ∙ ap (skipped c.args.source.now.tokens.now kinds.Comma) c.in-Some.is) c.more.invariant c.pass.ensures c.in-Ok.ensures
 
 pub more_elements-returns-in-Err : goal.more_elements-returns-in-Err
 more_elements-returns-in-Err t c =
-    listing_failed c.args.source.now.tokens.now (accept_at kinds.Comma) (element_with (expr_at c.args.depth)) (λ e. word kinds.Comma ++ element_outline e) (λ xs. after (each (λ e. both token (element_piece e)) xs) c.args.inside) Any c.in-Err.stop (word kinds.Comma) (accept_advances c.args.depth kinds.Comma _ (element_sound c.args.depth _ (expr_at_sound c.args.depth))) _ _ c.args.input c.more.here c.in-Some.behind
-    (sym c.accept.ensures ∙ ap (skipped c.args.source.now.tokens.now kinds.Comma) c.in-Some.is) c.more.invariant c.in-Err.ensures
+    repeat_failed c.args.source.now.tokens.now (elements c.args.depth) (behind_token element_piece) c.args.inside c.in-Err.stop _ _ c.args.input c.more.here c.in-Some.behind (sym c.accept.ensures ∙ ap (skipped c.args.source.now.tokens.now kinds.Comma) c.in-Some.is) c.more.invariant c.in-Err.ensures
 
 pub more_elements-returns : goal.more_elements-returns
 more_elements-returns t c =
-    pieces_done c.args.source.now.tokens.now (accept_at kinds.Comma) (element_with (expr_at c.args.depth)) (λ e. word kinds.Comma ++ element_outline e) (λ e. both token (element_piece e)) c.args.inside (accept_advances c.args.depth kinds.Comma _ (element_sound c.args.depth _ (expr_at_sound c.args.depth))) _ _ c.args.input c.more.here (sym c.accept.ensures ∙ ap (skipped c.args.source.now.tokens.now kinds.Comma) c.in_default.is) c.more.invariant
+    repeat_done c.args.source.now.tokens.now (elements c.args.depth) (behind_token element_piece) c.args.inside _ _ c.args.input c.more.here (sym c.accept.ensures ∙ ap (skipped c.args.source.now.tokens.now kinds.Comma) c.in_default.is) c.more.invariant
 
 pub factor-returns-in-Some-Name-default : goal.factor-returns-in-Some-Name-default
 factor-returns-in-Some-Name-default t c =
-    let e : uncons (ahead c.args.source.now.tokens.now c.args.input) ≡ Some (leafs.Name c.in-Some-Name-default.number, ahead c.args.source.now.tokens.now c.in-Some-Name-default.rest) =
-    sym c.next.ensures ∙ ap (seen c.args.source.now.tokens.now) c.in-Some-Name-default.is ∙ ap (λ (l : Leaf). some (l, ahead c.args.source.now.tokens.now c.in-Some-Name-default.rest)) c.in-Some-Name-default.field-0-0-is in
+    let e = leaf_stands c.args.source.now.tokens.now _ c.args.input c.in-Some-Name-default.rest _ (leafs.Name c.in-Some-Name-default.number) c.in-Some-Name-default.is c.in-Some-Name-default.field-0-0-is c.next.ensures in
     told_factor c.args.source.now.tokens.now factor_outline (λ x. after (factor_piece x) c.args.inside) c.args.depth _ _ _ _ _ e (name_told c.args.source.now.tokens.now c.args.inside (λ z. designator_with (expr_at c.args.depth) c.in-Some-Name-default.number (ahead c.args.source.now.tokens.now c.in-Some-Name-default.rest)) _ _ _ (ahead c.args.source.now.tokens.now c.args.input) c.designator.ensures)
 
 pub factor-returns-in-Some-Value-default : goal.factor-returns-in-Some-Value-default
 factor-returns-in-Some-Value-default t c =
-    let e : uncons (ahead c.args.source.now.tokens.now c.args.input) ≡ Some (leafs.Value c.in-Some-Value-default.field-0-0-0 c.in-Some-Value-default.field-0-0-1, ahead c.args.source.now.tokens.now c.in-Some-Value-default.rest) =
-    sym c.next.ensures ∙ ap (seen c.args.source.now.tokens.now) c.in-Some-Value-default.is ∙ ap (λ (l : Leaf). some (l, ahead c.args.source.now.tokens.now c.in-Some-Value-default.rest)) c.in-Some-Value-default.field-0-0-is in
+    let e = leaf_stands c.args.source.now.tokens.now _ c.args.input c.in-Some-Value-default.rest _ (leafs.Value c.in-Some-Value-default.field-0-0-0 c.in-Some-Value-default.field-0-0-1) c.in-Some-Value-default.is c.in-Some-Value-default.field-0-0-is c.next.ensures in
     told_factor c.args.source.now.tokens.now factor_outline (λ x. after (factor_piece x) c.args.inside) c.args.depth _ _ (Ok c.pass_token.result) _ _ e
     (leaf_told c.args.source.now.tokens.now c.args.inside _ _ c.pass_token.result (λ z. Ok (Value c.in-Some-Value-default.field-0-0-0 c.in-Some-Value-default.field-0-0-1 ∷ [], ahead c.args.source.now.tokens.now c.in-Some-Value-default.rest)) (ahead c.args.source.now.tokens.now c.args.input) (Value c.in-Some-Value-default.field-0-0-0 c.in-Some-Value-default.field-0-0-1 ∷ []) (factors.Value c.in-Some-Value-default.field-0-0-0 c.in-Some-Value-default.field-0-0-1)
     (ap (λ (i : Cursor). Ok (Value c.in-Some-Value-default.field-0-0-0 c.in-Some-Value-default.field-0-0-1 ∷ [], ahead c.args.source.now.tokens.now i)) (sym c.pass_token.ensures.cursor)) (value_made c.in-Some-Value-default.field-0-0-0 c.in-Some-Value-default.field-0-0-1) (told.value_made c.in-Some-Value-default.field-0-0-0 c.in-Some-Value-default.field-0-0-1) c.pass_token.ensures.passed)
 
 pub factor-returns-in-Some-Word-Nil-default : goal.factor-returns-in-Some-Word-Nil-default
 factor-returns-in-Some-Word-Nil-default t c =
-    let e : uncons (ahead c.args.source.now.tokens.now c.args.input) ≡ Some (leafs.Word kinds.Nil, ahead c.args.source.now.tokens.now c.in-Some-Word-Nil-default.rest) =
-    sym c.next.ensures ∙ ap (seen c.args.source.now.tokens.now) c.in-Some-Word-Nil-default.is ∙ ap (λ (l : Leaf). some (l, ahead c.args.source.now.tokens.now c.in-Some-Word-Nil-default.rest)) c.in-Some-Word-Nil-default.field-0-0-is
-    ∙ ap (λ (k : Kind). some (leafs.Word k, ahead c.args.source.now.tokens.now c.in-Some-Word-Nil-default.rest)) c.in-Some-Word-Nil-default.field-0-0-0-is in
+    let e = word_stands c.args.source.now.tokens.now _ c.args.input c.in-Some-Word-Nil-default.rest _ _ kinds.Nil c.in-Some-Word-Nil-default.is c.in-Some-Word-Nil-default.field-0-0-is c.in-Some-Word-Nil-default.field-0-0-0-is c.next.ensures in
     told_factor c.args.source.now.tokens.now factor_outline (λ x. after (factor_piece x) c.args.inside) c.args.depth _ _ (Ok c.pass_token-in-Some-Word-Nil-default.result) _ _ e
     (leaf_told c.args.source.now.tokens.now c.args.inside _ _ c.pass_token-in-Some-Word-Nil-default.result (λ z. Ok (word kinds.Nil, ahead c.args.source.now.tokens.now c.in-Some-Word-Nil-default.rest)) (ahead c.args.source.now.tokens.now c.args.input) (word kinds.Nil) factors.Nil
     (ap (λ (i : Cursor). Ok (word kinds.Nil, ahead c.args.source.now.tokens.now i)) (sym c.pass_token-in-Some-Word-Nil-default.ensures.cursor)) nil_made told.nil_made c.pass_token-in-Some-Word-Nil-default.ensures.passed)
 
 pub factor-returns-in-Some-Word-True-default : goal.factor-returns-in-Some-Word-True-default
 factor-returns-in-Some-Word-True-default t c =
-    let e : uncons (ahead c.args.source.now.tokens.now c.args.input) ≡ Some (leafs.Word kinds.True, ahead c.args.source.now.tokens.now c.in-Some-Word-True-default.rest) =
-    sym c.next.ensures ∙ ap (seen c.args.source.now.tokens.now) c.in-Some-Word-True-default.is ∙ ap (λ (l : Leaf). some (l, ahead c.args.source.now.tokens.now c.in-Some-Word-True-default.rest)) c.in-Some-Word-True-default.field-0-0-is
-    ∙ ap (λ (k : Kind). some (leafs.Word k, ahead c.args.source.now.tokens.now c.in-Some-Word-True-default.rest)) c.in-Some-Word-True-default.field-0-0-0-is in
+    let e = word_stands c.args.source.now.tokens.now _ c.args.input c.in-Some-Word-True-default.rest _ _ kinds.True c.in-Some-Word-True-default.is c.in-Some-Word-True-default.field-0-0-is c.in-Some-Word-True-default.field-0-0-0-is c.next.ensures in
     told_factor c.args.source.now.tokens.now factor_outline (λ x. after (factor_piece x) c.args.inside) c.args.depth _ _ (Ok c.pass_token-in-Some-Word-True-default.result) _ _ e
     (leaf_told c.args.source.now.tokens.now c.args.inside _ _ c.pass_token-in-Some-Word-True-default.result (λ z. Ok (word kinds.True, ahead c.args.source.now.tokens.now c.in-Some-Word-True-default.rest)) (ahead c.args.source.now.tokens.now c.args.input) (word kinds.True) factors.True
     (ap (λ (i : Cursor). Ok (word kinds.True, ahead c.args.source.now.tokens.now i)) (sym c.pass_token-in-Some-Word-True-default.ensures.cursor)) true_made told.true_made c.pass_token-in-Some-Word-True-default.ensures.passed)
 
 pub factor-returns-in-Some-Word-False-default : goal.factor-returns-in-Some-Word-False-default
 factor-returns-in-Some-Word-False-default t c =
-    let e : uncons (ahead c.args.source.now.tokens.now c.args.input) ≡ Some (leafs.Word kinds.False, ahead c.args.source.now.tokens.now c.in-Some-Word-False-default.rest) =
-    sym c.next.ensures ∙ ap (seen c.args.source.now.tokens.now) c.in-Some-Word-False-default.is ∙ ap (λ (l : Leaf). some (l, ahead c.args.source.now.tokens.now c.in-Some-Word-False-default.rest)) c.in-Some-Word-False-default.field-0-0-is
-    ∙ ap (λ (k : Kind). some (leafs.Word k, ahead c.args.source.now.tokens.now c.in-Some-Word-False-default.rest)) c.in-Some-Word-False-default.field-0-0-0-is in
+    let e = word_stands c.args.source.now.tokens.now _ c.args.input c.in-Some-Word-False-default.rest _ _ kinds.False c.in-Some-Word-False-default.is c.in-Some-Word-False-default.field-0-0-is c.in-Some-Word-False-default.field-0-0-0-is c.next.ensures in
     told_factor c.args.source.now.tokens.now factor_outline (λ x. after (factor_piece x) c.args.inside) c.args.depth _ _ (Ok c.pass_token-in-Some-Word-False-default.result) _ _ e
     (leaf_told c.args.source.now.tokens.now c.args.inside _ _ c.pass_token-in-Some-Word-False-default.result (λ z. Ok (word kinds.False, ahead c.args.source.now.tokens.now c.in-Some-Word-False-default.rest)) (ahead c.args.source.now.tokens.now c.args.input) (word kinds.False) factors.False
     (ap (λ (i : Cursor). Ok (word kinds.False, ahead c.args.source.now.tokens.now i)) (sym c.pass_token-in-Some-Word-False-default.ensures.cursor)) false_made told.false_made c.pass_token-in-Some-Word-False-default.ensures.passed)
 
 pub factor-returns-in-Some-Word-LeftBrace-default : goal.factor-returns-in-Some-Word-LeftBrace-default
 factor-returns-in-Some-Word-LeftBrace-default t c =
-    let e : uncons (ahead c.args.source.now.tokens.now c.args.input) ≡ Some (leafs.Word kinds.LeftBrace, ahead c.args.source.now.tokens.now c.in-Some-Word-LeftBrace-default.rest) =
-    sym c.next.ensures ∙ ap (seen c.args.source.now.tokens.now) c.in-Some-Word-LeftBrace-default.is ∙ ap (λ (l : Leaf). some (l, ahead c.args.source.now.tokens.now c.in-Some-Word-LeftBrace-default.rest)) c.in-Some-Word-LeftBrace-default.field-0-0-is
-    ∙ ap (λ (k : Kind). some (leafs.Word k, ahead c.args.source.now.tokens.now c.in-Some-Word-LeftBrace-default.rest)) c.in-Some-Word-LeftBrace-default.field-0-0-0-is in
+    let e = word_stands c.args.source.now.tokens.now _ c.args.input c.in-Some-Word-LeftBrace-default.rest _ _ kinds.LeftBrace c.in-Some-Word-LeftBrace-default.is c.in-Some-Word-LeftBrace-default.field-0-0-is c.in-Some-Word-LeftBrace-default.field-0-0-0-is c.next.ensures in
     told_factor c.args.source.now.tokens.now factor_outline (λ x. after (factor_piece x) c.args.inside) c.args.depth _ _ _ _ _ e c.set.ensures
 
 pub factor-returns-in-Some-Word-LeftParen-default : goal.factor-returns-in-Some-Word-LeftParen-default
 factor-returns-in-Some-Word-LeftParen-default t c =
-    let e : uncons (ahead c.args.source.now.tokens.now c.args.input) ≡ Some (leafs.Word kinds.LeftParen, ahead c.args.source.now.tokens.now c.in-Some-Word-LeftParen-default.rest) =
-    sym c.next.ensures ∙ ap (seen c.args.source.now.tokens.now) c.in-Some-Word-LeftParen-default.is ∙ ap (λ (l : Leaf). some (l, ahead c.args.source.now.tokens.now c.in-Some-Word-LeftParen-default.rest)) c.in-Some-Word-LeftParen-default.field-0-0-is
-    ∙ ap (λ (k : Kind). some (leafs.Word k, ahead c.args.source.now.tokens.now c.in-Some-Word-LeftParen-default.rest)) c.in-Some-Word-LeftParen-default.field-0-0-0-is in
+    let e = word_stands c.args.source.now.tokens.now _ c.args.input c.in-Some-Word-LeftParen-default.rest _ _ kinds.LeftParen c.in-Some-Word-LeftParen-default.is c.in-Some-Word-LeftParen-default.field-0-0-is c.in-Some-Word-LeftParen-default.field-0-0-0-is c.next.ensures in
     told_factor c.args.source.now.tokens.now factor_outline (λ x. after (factor_piece x) c.args.inside) c.args.depth _ _ _ _ _ e c.group.ensures
 
 pub factor-returns-in-Some-Word-Tilde-default : goal.factor-returns-in-Some-Word-Tilde-default
 factor-returns-in-Some-Word-Tilde-default t c =
-    let e : uncons (ahead c.args.source.now.tokens.now c.args.input) ≡ Some (leafs.Word kinds.Tilde, ahead c.args.source.now.tokens.now c.in-Some-Word-Tilde-default.rest) =
-    sym c.next.ensures ∙ ap (seen c.args.source.now.tokens.now) c.in-Some-Word-Tilde-default.is ∙ ap (λ (l : Leaf). some (l, ahead c.args.source.now.tokens.now c.in-Some-Word-Tilde-default.rest)) c.in-Some-Word-Tilde-default.field-0-0-is
-    ∙ ap (λ (k : Kind). some (leafs.Word k, ahead c.args.source.now.tokens.now c.in-Some-Word-Tilde-default.rest)) c.in-Some-Word-Tilde-default.field-0-0-0-is in
+    let e = word_stands c.args.source.now.tokens.now _ c.args.input c.in-Some-Word-Tilde-default.rest _ _ kinds.Tilde c.in-Some-Word-Tilde-default.is c.in-Some-Word-Tilde-default.field-0-0-is c.in-Some-Word-Tilde-default.field-0-0-0-is c.next.ensures in
     told_factor c.args.source.now.tokens.now factor_outline (λ x. after (factor_piece x) c.args.inside) c.args.depth _ _ _ _ _ e c.negated.ensures
 
 pub factor-returns-in_default : goal.factor-returns-in_default
@@ -308,30 +280,22 @@ selectors-returns t c =
 
 pub selector-returns-in-Some-Word-Dot-default : goal.selector-returns-in-Some-Word-Dot-default
 selector-returns-in-Some-Word-Dot-default t c =
-    let e : uncons (ahead c.args.source.now.tokens.now c.args.input) ≡ Some (leafs.Word kinds.Dot, ahead c.args.source.now.tokens.now c.in-Some-Word-Dot-default.rest) =
-    sym c.next.ensures ∙ ap (seen c.args.source.now.tokens.now) c.in-Some-Word-Dot-default.is ∙ ap (λ (l : Leaf). some (l, ahead c.args.source.now.tokens.now c.in-Some-Word-Dot-default.rest)) c.in-Some-Word-Dot-default.field-0-0-is
-    ∙ ap (λ (k : Kind). some (leafs.Word k, ahead c.args.source.now.tokens.now c.in-Some-Word-Dot-default.rest)) c.in-Some-Word-Dot-default.field-0-0-0-is in
+    let e = word_stands c.args.source.now.tokens.now _ c.args.input c.in-Some-Word-Dot-default.rest _ _ kinds.Dot c.in-Some-Word-Dot-default.is c.in-Some-Word-Dot-default.field-0-0-is c.in-Some-Word-Dot-default.field-0-0-0-is c.next.ensures in
     selector_so c.args.source.now.tokens.now c.args.inside c.args.head c.args.place (expr_at c.args.depth) _ _ c.field.result c.args.input true _ e refl c.field.ensures
 
 pub selector-returns-in-Some-Word-LeftBracket-default : goal.selector-returns-in-Some-Word-LeftBracket-default
 selector-returns-in-Some-Word-LeftBracket-default t c =
-    let e : uncons (ahead c.args.source.now.tokens.now c.args.input) ≡ Some (leafs.Word kinds.LeftBracket, ahead c.args.source.now.tokens.now c.in-Some-Word-LeftBracket-default.rest) =
-    sym c.next.ensures ∙ ap (seen c.args.source.now.tokens.now) c.in-Some-Word-LeftBracket-default.is ∙ ap (λ (l : Leaf). some (l, ahead c.args.source.now.tokens.now c.in-Some-Word-LeftBracket-default.rest)) c.in-Some-Word-LeftBracket-default.field-0-0-is
-    ∙ ap (λ (k : Kind). some (leafs.Word k, ahead c.args.source.now.tokens.now c.in-Some-Word-LeftBracket-default.rest)) c.in-Some-Word-LeftBracket-default.field-0-0-0-is in
+    let e = word_stands c.args.source.now.tokens.now _ c.args.input c.in-Some-Word-LeftBracket-default.rest _ _ kinds.LeftBracket c.in-Some-Word-LeftBracket-default.is c.in-Some-Word-LeftBracket-default.field-0-0-is c.in-Some-Word-LeftBracket-default.field-0-0-0-is c.next.ensures in
     selector_so c.args.source.now.tokens.now c.args.inside c.args.head c.args.place (expr_at c.args.depth) _ _ c.index.result c.args.input false _ e refl c.index.ensures
 
 pub selector-returns-in-Some-Word-Caret-default : goal.selector-returns-in-Some-Word-Caret-default
 selector-returns-in-Some-Word-Caret-default t c =
-    let e : uncons (ahead c.args.source.now.tokens.now c.args.input) ≡ Some (leafs.Word kinds.Caret, ahead c.args.source.now.tokens.now c.in-Some-Word-Caret-default.rest) =
-    sym c.next.ensures ∙ ap (seen c.args.source.now.tokens.now) c.in-Some-Word-Caret-default.is ∙ ap (λ (l : Leaf). some (l, ahead c.args.source.now.tokens.now c.in-Some-Word-Caret-default.rest)) c.in-Some-Word-Caret-default.field-0-0-is
-    ∙ ap (λ (k : Kind). some (leafs.Word k, ahead c.args.source.now.tokens.now c.in-Some-Word-Caret-default.rest)) c.in-Some-Word-Caret-default.field-0-0-0-is in
+    let e = word_stands c.args.source.now.tokens.now _ c.args.input c.in-Some-Word-Caret-default.rest _ _ kinds.Caret c.in-Some-Word-Caret-default.is c.in-Some-Word-Caret-default.field-0-0-is c.in-Some-Word-Caret-default.field-0-0-0-is c.next.ensures in
     selector_so c.args.source.now.tokens.now c.args.inside c.args.head c.args.place (expr_at c.args.depth) _ _ (Ok c.target.result) c.args.input false _ e refl c.target.ensures
 
 pub selector-returns-in-Some-Word-LeftParen-default : goal.selector-returns-in-Some-Word-LeftParen-default
 selector-returns-in-Some-Word-LeftParen-default t c =
-    let e : uncons (ahead c.args.source.now.tokens.now c.args.input) ≡ Some (leafs.Word kinds.LeftParen, ahead c.args.source.now.tokens.now c.in-Some-Word-LeftParen-default.rest) =
-    sym c.next.ensures ∙ ap (seen c.args.source.now.tokens.now) c.in-Some-Word-LeftParen-default.is ∙ ap (λ (l : Leaf). some (l, ahead c.args.source.now.tokens.now c.in-Some-Word-LeftParen-default.rest)) c.in-Some-Word-LeftParen-default.field-0-0-is
-    ∙ ap (λ (k : Kind). some (leafs.Word k, ahead c.args.source.now.tokens.now c.in-Some-Word-LeftParen-default.rest)) c.in-Some-Word-LeftParen-default.field-0-0-0-is in
+    let e = word_stands c.args.source.now.tokens.now _ c.args.input c.in-Some-Word-LeftParen-default.rest _ _ kinds.LeftParen c.in-Some-Word-LeftParen-default.is c.in-Some-Word-LeftParen-default.field-0-0-is c.in-Some-Word-LeftParen-default.field-0-0-0-is c.next.ensures in
     selector_so c.args.source.now.tokens.now c.args.inside c.args.head c.args.place (expr_at c.args.depth) _ _ c.call.result c.args.input false _ e refl c.call.ensures
 
 pub selector-returns-in_default : goal.selector-returns-in_default

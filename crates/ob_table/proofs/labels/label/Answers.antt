@@ -1,32 +1,26 @@
-use Rattle.std.proofs.Common.{◌≡◌, [], ◌∷◌, Some, Ok, sym, ap, ◌∙◌, arith}
-use Rattle.ob_tree.specs.declared.expression.Literal.{Literal}
+use Rattle.std.proofs.Common.{[], ◌∷◌, Ok, sym, ap, ◌∙◌, arith}
 use Rattle.ob_tree.specs.declared.expression.Literal.TheVariants as literals
-use Rattle.ob_tree.specs.declared.token.Leaf.{Leaf}
 use Rattle.ob_tree.specs.declared.token.Leaf.TheVariants as leafs
 use Rattle.ob_tree.specs.declared.statement.Label.TheVariants as labels
 use Rattle.ob_tree.specs.Marks.{Value}
 use Rattle.ob_tree.proofs.StatementLayers as shown
 use Rattle.ob_decls.proofs.StatementLayers as told
 use Rattle.ob_parse.specs.declared.cursor.Cursor.{Cursor}
-use Rattle.ob_parse.specs.Front.{uncons}
-use Rattle.ob_parse.specs.Accords.{ahead, seen}
+use Rattle.ob_parse.specs.Accords.{ahead}
 use Rattle.ob_parse.specs.ReadStatements.{case_label_at}
-use Rattle.ob_table.proofs.FactorTrees.{some}
 use Rattle.ob_table.proofs.LabelTrees.{label_seen, value_told, name_told}
+use Rattle.ob_parse.proofs.Fronts.{leaf_stands, value_stands}
 use Rattle.ob_table.proofs.labels.label.Goals as goal
 
 pub returns-in-Some-Name-default : goal.returns-in-Some-Name-default
 returns-in-Some-Name-default c =
-    let e : uncons (ahead c.args.tokens.now c.args.input) ≡ Some (leafs.Name c.in-Some-Name-default.number, ahead c.args.tokens.now c.in-Some-Name-default.rest) =
-    sym c.next.ensures ∙ ap (seen c.args.tokens.now) c.in-Some-Name-default.is ∙ ap (λ (l : Leaf). some (l, ahead c.args.tokens.now c.in-Some-Name-default.rest)) c.in-Some-Name-default.field-0-0-is in
+    let e = leaf_stands c.args.tokens.now _ c.args.input c.in-Some-Name-default.rest _ (leafs.Name c.in-Some-Name-default.number) c.in-Some-Name-default.is c.in-Some-Name-default.field-0-0-is c.next.ensures in
     name_told c.args.tokens.now c.args.inside _ _ _ _ _ (label_seen _ _ e) c.qualident_after.ensures
 
 pub returns-in-Some-Value-Integer-default-default : goal.returns-in-Some-Value-Integer-default-default
 returns-in-Some-Value-Integer-default-default c =
     let at = c.in-Some-Value-Integer-default-default in
-    let e : uncons (ahead c.args.tokens.now c.args.input) ≡ Some (leafs.Value literals.Integer at.field-0-0-1, ahead c.args.tokens.now at.rest) =
-    sym c.next.ensures ∙ ap (seen c.args.tokens.now) at.is ∙ ap (λ (l : Leaf). some (l, ahead c.args.tokens.now at.rest)) at.field-0-0-is
-    ∙ ap (λ (k : Literal). some (leafs.Value k at.field-0-0-1, ahead c.args.tokens.now at.rest)) at.field-0-0-0-is in
+    let e = value_stands c.args.tokens.now _ c.args.input at.rest _ _ literals.Integer at.field-0-0-1 at.is at.field-0-0-is at.field-0-0-0-is c.next.ensures in
     value_told c.args.tokens.now c.args.inside _ _ c.pass_token.result (case_label_at (ahead c.args.tokens.now c.args.input)) (Value literals.Integer at.field-0-0-1 ∷ []) (labels.Integer at.field-0-0-1)
     (label_seen _ _ e ∙ ap (λ (i : Cursor). Ok (Value literals.Integer at.field-0-0-1 ∷ [], ahead c.args.tokens.now i)) (sym c.pass_token.ensures.cursor))
     (shown.integer_label at.field-0-0-1) (told.integer_label at.field-0-0-1) c.pass_token.ensures.passed
@@ -35,9 +29,7 @@ pub returns-in-Some-Value-Text-default-default : goal.returns-in-Some-Value-Text
 returns-in-Some-Value-Text-default-default c =
     let at = c.in-Some-Value-Text-default-default in
     let passed = c.pass_token-in-Some-Value-Text-default-default in
-    let e : uncons (ahead c.args.tokens.now c.args.input) ≡ Some (leafs.Value literals.Text at.field-0-0-1, ahead c.args.tokens.now at.rest) =
-    sym c.next.ensures ∙ ap (seen c.args.tokens.now) at.is ∙ ap (λ (l : Leaf). some (l, ahead c.args.tokens.now at.rest)) at.field-0-0-is
-    ∙ ap (λ (k : Literal). some (leafs.Value k at.field-0-0-1, ahead c.args.tokens.now at.rest)) at.field-0-0-0-is in
+    let e = value_stands c.args.tokens.now _ c.args.input at.rest _ _ literals.Text at.field-0-0-1 at.is at.field-0-0-is at.field-0-0-0-is c.next.ensures in
     value_told c.args.tokens.now c.args.inside _ _ passed.result (case_label_at (ahead c.args.tokens.now c.args.input)) (Value literals.Text at.field-0-0-1 ∷ []) (labels.Text at.field-0-0-1)
     (label_seen _ _ e ∙ ap (λ (i : Cursor). Ok (Value literals.Text at.field-0-0-1 ∷ [], ahead c.args.tokens.now i)) (sym passed.ensures.cursor))
     (shown.text_label at.field-0-0-1) (told.text_label at.field-0-0-1) passed.ensures.passed

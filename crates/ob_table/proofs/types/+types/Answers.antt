@@ -1,34 +1,25 @@
-use Rattle.std.proofs.Common.{◌≡◌, ℕ, ◌++◌, Ok, Some, refl, sym, ap, ◌∙◌, arith}
-use Rattle.ob_scan.specs.declared.kind.Kind.{Kind}
+use Rattle.std.proofs.Common.{Ok, sym, ap, ◌∙◌, arith}
 use Rattle.ob_scan.specs.declared.kind.Kind.TheVariants as kinds
-use Rattle.ob_tree.specs.declared.token.Leaf.{Leaf}
 use Rattle.ob_tree.specs.declared.token.Leaf.TheVariants as leafs
-use Rattle.ob_tree.specs.declared.declaration.VarDecl.{VarDecl}
 use Rattle.ob_tree.specs.Constructs as constructs
 use Rattle.ob_tree.specs.Marks.{word}
 use Rattle.ob_tree.specs.Types.{type_outline}
 use Rattle.ob_decls.specs.Drafts.{after}
-use Rattle.ob_decls.specs.Parts.{both, each, token}
 use Rattle.ob_decls.specs.Types.{type_piece}
-use Rattle.ob_parse.specs.Front.{uncons}
 use Rattle.ob_parse.specs.Forms.{accept_at, expect_at, limit_at, many, nothing, optional, seq, several, unless}
-use Rattle.ob_parse.specs.Accords.{ahead, seen, skipped}
+use Rattle.ob_parse.specs.Accords.{ahead, skipped}
 use Rattle.ob_parse.specs.ReadExpressions.{expr_at}
 use Rattle.ob_parse.specs.ReadTypes.{field_start, fields_with, type_at, type_with, var_with}
-use Rattle.ob_parse.proofs.Loops.{Advances, field_advances}
 use Rattle.ob_parse.proofs.Somes.{not_closed}
-use Rattle.ob_parse.proofs.Sound.{sound_flat}
-use Rattle.ob_parse.proofs.SoundTypes.{var_sound, type_at_sound}
 use Rattle.ob_table.specs.TypeShapes.{field_outline, field_piece, further_outline, more_fields_piece, skipped_outline, skipped_piece}
 use Rattle.ob_table.proofs.Behind.{pair_told, word_told, absent_told}
 use Rattle.ob_table.proofs.Combine.{failed_node, failed_then}
 use Rattle.ob_table.proofs.FactorTrees.{between_failed, closed}
-use Rattle.ob_table.proofs.Lists.{Any, pieces_begun, pieces_behind, pieces_done, listing_smaller, listing_failed}
-use Rattle.ob_table.proofs.TypeTrees.{some, told_type, type_deeper, var_told, var_failed, field_at, field_told, fields_told, fields_failed, parts_told, record_told, record_failed, array_told, pointer_told, boxed_outline, boxed_piece, some_fields_told}
+use Rattle.ob_table.proofs.TypeTrees.{told_type, type_deeper, var_told, var_failed, field_at, field_told, fields_told, fields_failed, parts_told, record_told, record_failed, array_told, pointer_told, boxed_outline, boxed_piece, some_fields_told}
+use Rattle.ob_parse.proofs.Repetitions.{field_lists}
+use Rattle.ob_parse.proofs.Fronts.{leaf_stands, word_stands}
+use Rattle.ob_table.proofs.Lists.{behind_token, repeat_begun, repeat_shorter, repeat_behind, repeat_failed, repeat_done}
 use Rattle.ob_table.proofs.types.+types.Goals as goal
-
-advances : (d : ℕ) → Advances field_start (field_at d)
-advances d = field_advances d _ (sound_flat d _ _ refl (var_sound d _ (type_at_sound d)))
 
 pub type_form-returns-then-depth-eq0 : goal.type_form-returns-then-depth-eq0
 unfolding type_at limit_at
@@ -39,36 +30,27 @@ type_form-returns t c = rw (type_deeper c.args.depth (ahead c.args.source.now.to
 
 pub type_within-returns-in-Some-Name-default : goal.type_within-returns-in-Some-Name-default
 type_within-returns-in-Some-Name-default t c =
-    let e : uncons (ahead c.args.source.now.tokens.now c.args.input) ≡ Some (leafs.Name c.in-Some-Name-default.head, ahead c.args.source.now.tokens.now c.in-Some-Name-default.rest) =
-    sym c.next.ensures ∙ ap (seen c.args.source.now.tokens.now) c.in-Some-Name-default.is ∙ ap (λ (l : Leaf). some (l, ahead c.args.source.now.tokens.now c.in-Some-Name-default.rest)) c.in-Some-Name-default.field-0-0-is in
+    let e = leaf_stands c.args.source.now.tokens.now _ c.args.input c.in-Some-Name-default.rest _ (leafs.Name c.in-Some-Name-default.head) c.in-Some-Name-default.is c.in-Some-Name-default.field-0-0-is c.next.ensures in
     told_type c.args.source.now.tokens.now type_outline (λ x. after (type_piece x) c.args.inside) c.args.depth _ _ _ _ _ e c.named.ensures
 
 pub type_within-returns-in-Some-Word-Array-default : goal.type_within-returns-in-Some-Word-Array-default
 type_within-returns-in-Some-Word-Array-default t c =
-    let e : uncons (ahead c.args.source.now.tokens.now c.args.input) ≡ Some (leafs.Word kinds.Array, ahead c.args.source.now.tokens.now c.in-Some-Word-Array-default.rest) =
-    sym c.next.ensures ∙ ap (seen c.args.source.now.tokens.now) c.in-Some-Word-Array-default.is ∙ ap (λ (l : Leaf). some (l, ahead c.args.source.now.tokens.now c.in-Some-Word-Array-default.rest)) c.in-Some-Word-Array-default.field-0-0-is
-    ∙ ap (λ (k : Kind). some (leafs.Word k, ahead c.args.source.now.tokens.now c.in-Some-Word-Array-default.rest)) c.in-Some-Word-Array-default.field-0-0-0-is in
+    let e = word_stands c.args.source.now.tokens.now _ c.args.input c.in-Some-Word-Array-default.rest _ _ kinds.Array c.in-Some-Word-Array-default.is c.in-Some-Word-Array-default.field-0-0-is c.in-Some-Word-Array-default.field-0-0-0-is c.next.ensures in
     told_type c.args.source.now.tokens.now type_outline (λ x. after (type_piece x) c.args.inside) c.args.depth _ _ _ _ _ e c.array.ensures
 
 pub type_within-returns-in-Some-Word-Record-default : goal.type_within-returns-in-Some-Word-Record-default
 type_within-returns-in-Some-Word-Record-default t c =
-    let e : uncons (ahead c.args.source.now.tokens.now c.args.input) ≡ Some (leafs.Word kinds.Record, ahead c.args.source.now.tokens.now c.in-Some-Word-Record-default.rest) =
-    sym c.next.ensures ∙ ap (seen c.args.source.now.tokens.now) c.in-Some-Word-Record-default.is ∙ ap (λ (l : Leaf). some (l, ahead c.args.source.now.tokens.now c.in-Some-Word-Record-default.rest)) c.in-Some-Word-Record-default.field-0-0-is
-    ∙ ap (λ (k : Kind). some (leafs.Word k, ahead c.args.source.now.tokens.now c.in-Some-Word-Record-default.rest)) c.in-Some-Word-Record-default.field-0-0-0-is in
+    let e = word_stands c.args.source.now.tokens.now _ c.args.input c.in-Some-Word-Record-default.rest _ _ kinds.Record c.in-Some-Word-Record-default.is c.in-Some-Word-Record-default.field-0-0-is c.in-Some-Word-Record-default.field-0-0-0-is c.next.ensures in
     told_type c.args.source.now.tokens.now type_outline (λ x. after (type_piece x) c.args.inside) c.args.depth _ _ _ _ _ e c.record.ensures
 
 pub type_within-returns-in-Some-Word-Pointer-default : goal.type_within-returns-in-Some-Word-Pointer-default
 type_within-returns-in-Some-Word-Pointer-default t c =
-    let e : uncons (ahead c.args.source.now.tokens.now c.args.input) ≡ Some (leafs.Word kinds.Pointer, ahead c.args.source.now.tokens.now c.in-Some-Word-Pointer-default.rest) =
-    sym c.next.ensures ∙ ap (seen c.args.source.now.tokens.now) c.in-Some-Word-Pointer-default.is ∙ ap (λ (l : Leaf). some (l, ahead c.args.source.now.tokens.now c.in-Some-Word-Pointer-default.rest)) c.in-Some-Word-Pointer-default.field-0-0-is
-    ∙ ap (λ (k : Kind). some (leafs.Word k, ahead c.args.source.now.tokens.now c.in-Some-Word-Pointer-default.rest)) c.in-Some-Word-Pointer-default.field-0-0-0-is in
+    let e = word_stands c.args.source.now.tokens.now _ c.args.input c.in-Some-Word-Pointer-default.rest _ _ kinds.Pointer c.in-Some-Word-Pointer-default.is c.in-Some-Word-Pointer-default.field-0-0-is c.in-Some-Word-Pointer-default.field-0-0-0-is c.next.ensures in
     told_type c.args.source.now.tokens.now type_outline (λ x. after (type_piece x) c.args.inside) c.args.depth _ _ _ _ _ e c.pointer.ensures
 
 pub type_within-returns-in-Some-Word-Procedure-default : goal.type_within-returns-in-Some-Word-Procedure-default
 type_within-returns-in-Some-Word-Procedure-default t c =
-    let e : uncons (ahead c.args.source.now.tokens.now c.args.input) ≡ Some (leafs.Word kinds.Procedure, ahead c.args.source.now.tokens.now c.in-Some-Word-Procedure-default.rest) =
-    sym c.next.ensures ∙ ap (seen c.args.source.now.tokens.now) c.in-Some-Word-Procedure-default.is ∙ ap (λ (l : Leaf). some (l, ahead c.args.source.now.tokens.now c.in-Some-Word-Procedure-default.rest)) c.in-Some-Word-Procedure-default.field-0-0-is
-    ∙ ap (λ (k : Kind). some (leafs.Word k, ahead c.args.source.now.tokens.now c.in-Some-Word-Procedure-default.rest)) c.in-Some-Word-Procedure-default.field-0-0-0-is in
+    let e = word_stands c.args.source.now.tokens.now _ c.args.input c.in-Some-Word-Procedure-default.rest _ _ kinds.Procedure c.in-Some-Word-Procedure-default.is c.in-Some-Word-Procedure-default.field-0-0-is c.in-Some-Word-Procedure-default.field-0-0-0-is c.next.ensures in
     told_type c.args.source.now.tokens.now type_outline (λ x. after (type_piece x) c.args.inside) c.args.depth _ _ _ _ _ e c.procedure.ensures
 
 pub type_within-returns-in_default : goal.type_within-returns-in_default
@@ -136,27 +118,23 @@ pub fields_behind-returns-in-Err : goal.fields_behind-returns-in-Err
 fields_behind-returns-in-Err t c = failed_then c.args.source.now.tokens.now (many field_start (field_at c.args.depth)) (optional (accept_at kinds.Semicolon) nothing) _ _ c.in-Err.ensures
 
 pub more_fields-more-init : goal.more_fields-more-init
-more_fields-more-init t c = pieces_begun {X = VarDecl} c.args.source.now.tokens.now field_start (field_at c.args.depth) (λ v. word kinds.Semicolon ++ field_outline v) (λ v. both token (field_piece v)) c.args.inside _ c.args.input
+more_fields-more-init t c = repeat_begun c.args.source.now.tokens.now (field_lists c.args.depth) (behind_token field_piece) c.args.inside _ c.args.input
 
 pub more_fields-more-smaller : goal.more_fields-more-smaller
 more_fields-more-smaller t c =
-    listing_smaller {A = VarDecl} c.args.source.now.tokens.now field_start (field_at c.args.depth) field_outline (λ v. after (field_piece v) c.args.inside) (word kinds.Semicolon) (advances c.args.depth) _ _ c.more.here c.in-Some.behind c.in-Ok.next
-    (sym c.next_fields.ensures ∙ ap (skipped c.args.source.now.tokens.now kinds.Semicolon) c.in-Some.is) c.in-Ok.ensures
+    repeat_shorter c.args.source.now.tokens.now (field_lists c.args.depth) field_piece c.args.inside _ _ c.more.here c.in-Some.behind c.in-Ok.next (sym c.next_fields.ensures ∙ ap (skipped c.args.source.now.tokens.now kinds.Semicolon) c.in-Some.is) c.in-Ok.ensures
 
 pub more_fields-more-preserved : goal.more_fields-more-preserved
 more_fields-more-preserved t c =
-    pieces_behind {X = VarDecl} c.args.source.now.tokens.now field_start (field_at c.args.depth) (λ v. word kinds.Semicolon ++ field_outline v) (λ v. both token (field_piece v)) c.args.inside field_outline field_piece (λ v. v) (word kinds.Semicolon) (advances c.args.depth) (λ v. refl) (λ v. refl)
-    _ _ _ _ c.args.input c.more.here c.in-Some.behind c.in-Ok.next (sym c.next_fields.ensures ∙ ap (skipped c.args.source.now.tokens.now kinds.Semicolon) c.in-Some.is) c.more.invariant c.pass.ensures c.in-Ok.ensures
+    repeat_behind c.args.source.now.tokens.now (field_lists c.args.depth) field_piece c.args.inside _ _ _ _ c.args.input c.more.here c.in-Some.behind c.in-Ok.next (sym c.next_fields.ensures ∙ ap (skipped c.args.source.now.tokens.now kinds.Semicolon) c.in-Some.is) c.more.invariant c.pass.ensures c.in-Ok.ensures
 
 pub more_fields-returns-in-Err : goal.more_fields-returns-in-Err
 more_fields-returns-in-Err t c =
-    listing_failed {X = VarDecl} c.args.source.now.tokens.now field_start (field_at c.args.depth) (λ v. word kinds.Semicolon ++ field_outline v) (λ xs. after (each (λ v. both token (field_piece v)) xs) c.args.inside) Any c.in-Err.stop (word kinds.Semicolon) (advances c.args.depth) _ _ c.args.input c.more.here c.in-Some.behind
-    (sym c.next_fields.ensures ∙ ap (skipped c.args.source.now.tokens.now kinds.Semicolon) c.in-Some.is) c.more.invariant c.in-Err.ensures
+    repeat_failed c.args.source.now.tokens.now (field_lists c.args.depth) (behind_token field_piece) c.args.inside c.in-Err.stop _ _ c.args.input c.more.here c.in-Some.behind (sym c.next_fields.ensures ∙ ap (skipped c.args.source.now.tokens.now kinds.Semicolon) c.in-Some.is) c.more.invariant c.in-Err.ensures
 
 pub more_fields-returns : goal.more_fields-returns
 more_fields-returns t c =
-    pieces_done {X = VarDecl} c.args.source.now.tokens.now field_start (field_at c.args.depth) (λ v. word kinds.Semicolon ++ field_outline v) (λ v. both token (field_piece v)) c.args.inside (advances c.args.depth) _ _ c.args.input c.more.here
-    (sym c.next_fields.ensures ∙ ap (skipped c.args.source.now.tokens.now kinds.Semicolon) c.in_default.is) c.more.invariant
+    repeat_done c.args.source.now.tokens.now (field_lists c.args.depth) (behind_token field_piece) c.args.inside _ _ c.args.input c.more.here (sym c.next_fields.ensures ∙ ap (skipped c.args.source.now.tokens.now kinds.Semicolon) c.in_default.is) c.more.invariant
 
 pub field_list-returns-in-Ok : goal.field_list-returns-in-Ok
 field_list-returns-in-Ok t c =

@@ -11,5 +11,5 @@ invariant_of-result g c =
       keeps_none shape true same c.new-2.result c.new-2.ensures.empty,
       above_none shape (g.G.TypeGraph.base_of c.args.graph.now) g.G.Record.PartialEq.eq g.met.G.TypeGraph.told_apart c.new-3.result c.new-3.ensures.empty,
       tt,
-      found_none shape (g.G.TypeGraph.base_of c.args.graph.now) (g.G.TypeGraph.field_of c.args.graph.now) g.G.Record.PartialEq.eq g.met.G.TypeGraph.told_apart c.new-4.result c.new-4.ensures.empty,
+      found_none shape (g.G.TypeGraph.base_of c.args.graph.now) (g.G.TypeGraph.field_of c.args.graph.now) g.G.Record.PartialEq.eq g.met.G.TypeGraph.told_apart c.with_hasher.result c.with_hasher.ensures.empty,
     )

@@ -1,0 +1,38 @@
+//! The types of a module of a tree.
+ghost use Rattle.std.specs.Prelude.{◌≡◌, map, IfOk};
+ghost use Rattle.std.specs.Arc.{arc_value};
+ghost use Rattle.std.specs.Bool.{OnTrue};
+ghost use Rattle.ob_decls.specs.Declaring.{rows_in};
+ghost use Rattle.ob_scan.specs.Spelling.{AreInText};
+ghost use Rattle.ob_types.specs.Homes.{AreByName};
+ghost use Rattle.ob_types.specs.World.{world};
+
+use ob_interface::Interface;
+use ob_types::Types;
+use oscip_tree::{ModuleParts, Source};
+use std::alloc::{AllocError, Global};
+use std::sync::Arc;
+
+/// The types of a module, by its parts and the interfaces of what it reaches, told whether it is known that the names of these
+/// ascend.
+pub(crate) fn module_types<'a>(
+    alloc: Global,
+    source: &'a Source,
+    parts: &'a ModuleParts,
+    reached: &'a [Arc<Interface>],
+    by_name: bool,
+) -> Result<Types<'a>, AllocError>
+    requires in_text { AreInText source.now.bytes.items parts.now.tokens }
+    requires by_name { OnTrue by_name (AreByName (map arc_value reached.now)) }
+    ensures { IfOk result (λ t. t ≡ world source.now.bytes.items parts.now.tokens (rows_in parts.now.table) parts.now.scopes (map arc_value reached.now)) }
+{
+    Types::with_order(
+        alloc,
+        source.bytes.as_slice(),
+        parts.tokens.as_slice(),
+        &parts.table,
+        &parts.scopes,
+        reached,
+        by_name,
+    )
+}

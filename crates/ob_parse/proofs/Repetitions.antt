@@ -1,0 +1,120 @@
+-- What the grammar repeats, of at most so many levels.
+use Rattle.std.proofs.Common.{ℕ, zero, Bool, false, ◌++◌, [], refl}
+use Rattle.ob_scan.specs.declared.kind.Kind.{Kind}
+use Rattle.ob_scan.specs.declared.kind.Kind.TheVariants as kinds
+use Rattle.ob_tree.specs.declared.declaration.ConstDecl.{ConstDecl}
+use Rattle.ob_tree.specs.declared.declaration.ImportItem.{ImportItem}
+use Rattle.ob_tree.specs.declared.declaration.ParameterSection.{ParameterSection}
+use Rattle.ob_tree.specs.declared.declaration.ProcDecl.{ProcDecl}
+use Rattle.ob_tree.specs.declared.declaration.TypeDecl.{TypeDecl}
+use Rattle.ob_tree.specs.declared.declaration.VarDecl.{VarDecl}
+use Rattle.ob_tree.specs.declared.expression.AddOperator.{AddOperator}
+use Rattle.ob_tree.specs.declared.expression.Element.{Element}
+use Rattle.ob_tree.specs.declared.expression.Expr.{Expr}
+use Rattle.ob_tree.specs.declared.expression.Factor.{Factor}
+use Rattle.ob_tree.specs.declared.expression.MulOperator.{MulOperator}
+use Rattle.ob_tree.specs.declared.expression.Selector.{Selector}
+use Rattle.ob_tree.specs.declared.expression.Term.{Term}
+use Rattle.ob_tree.specs.declared.name.Identdef.{Identdef}
+use Rattle.ob_tree.specs.declared.role.Role.TheVariants.{Declares}
+use Rattle.ob_tree.specs.declared.statement.Branch.{Branch}
+use Rattle.ob_tree.specs.declared.statement.Case.{Case}
+use Rattle.ob_tree.specs.declared.statement.LabelRange.{LabelRange}
+use Rattle.ob_tree.specs.declared.statement.Stmt.{Stmt}
+use Rattle.ob_tree.specs.declared.token.Leaf.{Leaf}
+use Rattle.ob_tree.specs.Constructs as constructs
+use Rattle.ob_tree.specs.Marks.{Out, construct, declared, word}
+use Rattle.ob_tree.specs.Names.{identdef_outline}
+use Rattle.ob_tree.specs.Expressions.{add_kind, mul_kind, element_outline, expr_outline, factor_outline, selector_outline, term_outline}
+use Rattle.ob_tree.specs.Statements.{branch_outline, case_outline, label_range_outline, stmt_outline}
+use Rattle.ob_tree.specs.Types.{section_outline, var_outline}
+use Rattle.ob_tree.specs.Declaring.{const_outline, import_outline, procedure_outline, type_decl_outline, variable_outline}
+use Rattle.ob_parse.specs.Front.{is_word}
+use Rattle.ob_parse.specs.Forms.{Reader, accept_at, begins, name_at, node}
+use Rattle.ob_parse.specs.ReadNames.{identdef_at}
+use Rattle.ob_parse.specs.ReadExpressions.{add_at, mul_at, element_with, expr_at, factor_at, selector_first, selector_with, term_at}
+use Rattle.ob_parse.specs.ReadStatements.{block_at, branch_with, case_with, label_range_at, statement_at}
+use Rattle.ob_parse.specs.ReadTypes.{field_start, section_at, type_at, var_with}
+use Rattle.ob_parse.specs.ReadModules.{const_with, import_item_at, is_identifier, procedure_at, type_decl_with, variable_with, with_semicolon}
+use Rattle.ob_parse.proofs.Sound.{Sound, name_sound, role_takes, sound_flat}
+use Rattle.ob_parse.proofs.SoundExpressions.{element_sound, expr_at_sound, factor_at_sound, identdef_sound, term_at_sound}
+use Rattle.ob_parse.proofs.SoundStatements.{block_at_sound, branch_sound, case_sound, label_range_sound, statement_at_sound}
+use Rattle.ob_parse.proofs.SoundTypes.{section_sound, type_at_sound, var_sound}
+use Rattle.ob_parse.proofs.SoundModules.{import_sound}
+use Rattle.ob_parse.proofs.Loops.{Advances, accept_advances, add_advances, mul_advances, const_advances, field_advances, selector_advances, type_decl_advances, variable_advances}
+use Rattle.ob_parse.proofs.LoopProcedures.{procedure_advances}
+use Rattle.ob_parse.proofs.Turns.{Operation, Repetition}
+
+-- each behind a token of this kind
+abbrev pub each_behind : {T : Type 0} → Kind → (d : ℕ) (r : Reader) → Sound d r → (T → Out) → Repetition T
+each_behind k d r sound f = record { marks = word k; start = accept_at k; read = r; advances = accept_advances d k r sound; shown = f }
+
+-- each where a token of these stands
+abbrev pub each_at : {T : Type 0} → (p : Leaf → Bool) (r : Reader) → Advances (begins p) r → (T → Out) → Repetition T
+each_at p r more f = record { marks = []; start = begins p; read = r; advances = more; shown = f }
+
+-- a declaration, and its semicolon
+abbrev pub ended : {T : Type 0} → (T → Out) → T → Out
+ended f x = f x ++ word kinds.Semicolon
+
+abbrev pub expressions : ℕ → Repetition Expr
+expressions d = each_behind kinds.Comma d (expr_at d) (expr_at_sound d) expr_outline
+
+abbrev pub elements : ℕ → Repetition Element
+elements d = each_behind kinds.Comma d (element_with (expr_at d)) (element_sound d _ (expr_at_sound d)) element_outline
+
+abbrev pub selectors : ℕ → Repetition Selector
+selectors d = each_at selector_first (selector_with (expr_at d)) (selector_advances d _ (expr_at_sound d)) selector_outline
+
+abbrev pub statements : ℕ → Repetition Stmt
+statements d = each_behind kinds.Semicolon d (statement_at d) (statement_at_sound d) stmt_outline
+
+abbrev pub branches : ℕ → Kind → Repetition Branch
+branches d k = each_behind kinds.Elsif d (branch_with (expr_at d) (block_at d) k) (branch_sound d _ _ k (expr_at_sound d) (block_at_sound d)) (λ b. branch_outline b k)
+
+abbrev pub cases : ℕ → Repetition Case
+cases d = each_behind kinds.Bar d (case_with (block_at d)) (case_sound d _ (block_at_sound d)) case_outline
+
+abbrev pub label_ranges : Repetition LabelRange
+label_ranges = each_behind kinds.Comma zero label_range_at (label_range_sound zero) label_range_outline
+
+abbrev pub declared_names : Repetition Identdef
+declared_names = each_behind kinds.Comma zero identdef_at (identdef_sound zero) identdef_outline
+
+abbrev pub parameter_names : Repetition ℕ
+parameter_names = each_behind kinds.Comma zero (name_at (declared false)) (name_sound zero (declared false) (λ n. role_takes zero (Declares false) n)) (declared false)
+
+abbrev pub sections : Repetition ParameterSection
+sections = each_behind kinds.Semicolon zero section_at (section_sound zero) section_outline
+
+abbrev pub field_lists : ℕ → Repetition VarDecl
+field_lists d = record {
+  marks = word kinds.Semicolon;
+  start = field_start;
+  read = node constructs.FieldList (var_with (type_at d));
+  advances = field_advances d _ (sound_flat d _ _ refl (var_sound d _ (type_at_sound d)));
+  shown = λ v. construct constructs.FieldList (var_outline v);
+}
+
+abbrev pub imports : Repetition ImportItem
+imports = each_behind kinds.Comma zero import_item_at (import_sound zero) import_outline
+
+abbrev pub constants : ℕ → Repetition ConstDecl
+constants d = each_at is_identifier (with_semicolon (const_with (expr_at d))) (const_advances d _ (expr_at_sound d)) (ended const_outline)
+
+abbrev pub named_types : ℕ → Repetition TypeDecl
+named_types d = each_at is_identifier (with_semicolon (type_decl_with (type_at d))) (type_decl_advances d _ (type_at_sound d)) (ended type_decl_outline)
+
+abbrev pub variables : ℕ → Repetition VarDecl
+variables d = each_at is_identifier (with_semicolon (variable_with (type_at d))) (variable_advances d _ (type_at_sound d)) (ended variable_outline)
+
+abbrev pub procedures : ℕ → Repetition ProcDecl
+procedures d = each_at (is_word kinds.Procedure) (with_semicolon (procedure_at d)) (procedure_advances d) (ended procedure_outline)
+
+-- ---- operators, and what stands behind each
+
+abbrev pub term_operations : ℕ → Operation AddOperator Term
+term_operations d = record { kind = add_kind; at = add_at; read = term_at d; advances = add_advances d _ (term_at_sound d); shown = term_outline }
+
+abbrev pub factor_operations : ℕ → Operation MulOperator Factor
+factor_operations d = record { kind = mul_kind; at = mul_at; read = factor_at d; advances = mul_advances d _ (factor_at_sound d); shown = factor_outline }

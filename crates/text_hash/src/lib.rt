@@ -1,0 +1,8 @@
+//! Seeds of hashers, for tables whose keys the author of a text chooses.
+//! Stands on std alone.
+//! Its contract: a small table has the seed of all texts, and a large one that which its text's digest gives. Of how keys spread no clause speaks.
+#![tactic(auto)]
+
+mod seed;
+
+pub use seed::Seed;
