@@ -1,9 +1,10 @@
 -- Residual arcs are followed along trails.
 use Rattle.std.proofs.Common.{◌≡◌, ℕ, ◌+◌, ◌*◌, ◌/◌, ◌%◌, ◌<◌, Bool, true, false, cond, List, [], ◌∷◌, ◌++◌, length, replicate, set, refl, sym, ◌∙◌, subst, arith, inl, inr, length-set}
-use Rattle.std.specs.Prelude.{All, ◌==◌}
+use Rattle.std.specs.Prelude.{All, Contains, ◌==◌}
 use Rattle.std.proofs.lemmas.Bool.{eq-eqb, eqb-true, false_from_ne_true}
+use Rattle.std.proofs.lemmas.List.Elements.{Contains-push}
 use Rattle.digraph.specs.Trails.{IsLast}
-use Rattle.digraph.proofs.SpreadMarks.{follow_ends, follow_marked, follow_starts, follow_unmarked, spread_starts}
+use Rattle.digraph.proofs.SpreadMarks.{follow_ends, follow_marked, follow_starts, follow_unmarked, mark_within, spread_starts}
 use Rattle.cut_residual.specs.declared.arc.Arc.{Arc}
 use Rattle.cut_residual.specs.declared.arc.ResidualArc.{ResidualArc}
 use Rattle.cut_residual.specs.Graphs.{arc_of, head, is_seen, no_arc, tail, AreClosed, AreReached, Graph, HasArc, HasResidual}
@@ -84,6 +85,10 @@ module _ (arcs : List Arc) (start : ℕ) (seen : List Bool) (waiting : List ℕ)
         }
 
 -- ---- the whole
+
+-- what waits last is a node
+pub last_low : (seen : List Bool) (waiting rest : List ℕ) (v : ℕ) → ((x : ℕ) → Contains waiting x → is_seen seen x ≡ true) → waiting ≡ rest ++ v ∷ [] → v < length seen
+last_low seen waiting rest v waits e = mark_within seen v (waits v (subst (λ (w : List ℕ). Contains w v) (sym e) (Contains-push rest v)))
 
 pub spreading_starts : (arcs : List Arc) (start nodes : ℕ) → start < nodes → IsSpreading arcs start (set (replicate nodes false) start true) (start ∷ [])
 spreading_starts arcs start nodes low =

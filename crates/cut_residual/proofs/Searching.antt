@@ -1,10 +1,11 @@
 -- A search from a node over what is left of the arcs.
-use Rattle.std.proofs.Common.{◌≡◌, ◌≢◌, ℕ, ◌+◌, ◌≤◌, ◌<◌, Bool, true, false, cond, List, [], ◌∷◌, ◌++◌, length, get_or, set, replicate, refl, sym, ap, ◌∙◌, subst, arith, inl, inr, length-set, get_or-set_same, get_or-set_other}
+use Rattle.std.proofs.Common.{◌≡◌, ℕ, ◌+◌, ◌≤◌, ◌<◌, Bool, true, false, cond, List, [], ◌∷◌, ◌++◌, length, get_or, set, replicate, refl, sym, ap, ◌∙◌, subst, arith, inl, inr, length-set}
 use Rattle.std.specs.Prelude.{◌↔◌, Contains}
-use Rattle.std.proofs.lemmas.Bool.{cases_Bool, cases_eq, cases_lt, both_ways}
-use Rattle.std.proofs.lemmas.List.{get_or-replicate, get_or_default, get_or_past, get_or_push, get_or_append_left, length-replicate, length_push}
+use Rattle.std.proofs.lemmas.Bool.{cases_Bool, cases_eq, both_ways}
+use Rattle.std.proofs.lemmas.List.{get_or-replicate, get_or_default, get_or_push, get_or_append_left, length-replicate, length_push}
 use Rattle.std.proofs.lemmas.List.Folds.{sum_by-replicate}
 use Rattle.std.proofs.lemmas.List.Sums.{sum_by-set}
+use Rattle.digraph.proofs.SpreadMarks.{mark_before, mark_here, mark_kept, start_alone, start_marked}
 use Rattle.cut_residual.specs.declared.arc.ResidualArc.{ResidualArc}
 use Rattle.cut_residual.specs.declared.found.Visit.{Visit}
 use Rattle.cut_residual.specs.Graphs.{no_residual_arc, AreClosed, Graph, HasResidual, HasArc, head, is_seen, tail}
@@ -19,22 +20,15 @@ tree_more g start seen places place s tree in_place known leaves in_to on =
     let new : Visit = record { node = head g.arcs (s); step = s; parent = place } in
     let size = tree.size in
     let in_seen : to < length seen = omega arith in
-    let marked : get_or (set seen to true) to false ≡ true = get_or-set_same seen to true false in_seen in
-    let kept : (m : ℕ) → is_seen seen m ≡ true → is_seen (set seen to true) m ≡ true = λ m h. elim (cases_eq m to) [
-      | inl e ↦ rw e marked
-      | inr ne ↦ get_or-set_other seen to m true false ne ∙ h
-    ] in
-    let old : (m : ℕ) → m ≢ to → is_seen (set seen to true) m ≡ true → is_seen seen m ≡ true =
-    λ m ne h. sym (get_or-set_other seen to m true false ne) ∙ h in
     let len : length (places ++ new ∷ []) ≡ length places + 1 = length_push places new in
     let same : (p : ℕ) → p < length places → get_or (places ++ new ∷ []) p no_place ≡ get_or places p no_place = λ p h. get_or_append_left places (new ∷ []) no_place p h in
-    let last : get_or (places ++ new ∷ []) (length places) no_place ≡ new = get_or_push places new no_place (length places) refl in
+    let last : (p : ℕ) → p ≡ length places → get_or (places ++ new ∷ []) p no_place ≡ new = λ p e. get_or_push places new no_place p (sym e) in
     record {
       size = length-set seen to true ∙ tree.size;
       first = ap (λ v. v.node) (same 0 (omega arith)) ∙ tree.first;
       found = λ p h in_p. elim (cases_eq p (length places)) [
         | inl e ↦
-            let p_is : get_or (places ++ new ∷ []) p no_place ≡ new = ap (λ v. get_or (places ++ new ∷ []) v no_place) e ∙ last in
+            let p_is = last p e in
             let place_is = same place in_place in
             record {
               earlier = rw p_is (omega arith);
@@ -59,7 +53,7 @@ tree_more g start seen places place s tree in_place known leaves in_to on =
       ];
       once = λ p q h in_q e. elim (cases_eq q (length places)) [
         | inl at_end ↦
-            let q_is : get_or (places ++ new ∷ []) q no_place ≡ new = ap (λ v. get_or (places ++ new ∷ []) v no_place) at_end ∙ last in
+            let q_is = last q at_end in
             let p_is = same p (omega arith) in
             let node_is : (get_or places p no_place).node ≡ to = ap (λ v. v.node) (sym p_is) ∙ e ∙ ap (λ v. v.node) q_is in
             both_ways _ on.1 (subst (λ v. is_seen seen v ≡ true) node_is (tree.listed p (omega arith)).1)
@@ -67,15 +61,15 @@ tree_more g start seen places place s tree in_place known leaves in_to on =
       ];
       listed = λ p h. elim (cases_eq p (length places)) [
         | inl e ↦
-            let p_is : get_or (places ++ new ∷ []) p no_place ≡ new = ap (λ v. get_or (places ++ new ∷ []) v no_place) e ∙ last in
-            rw p_is (in_to, marked)
-        | inr ne ↦ let l = tree.listed p (omega arith) in rw (same p (omega arith)) (l.0, kept _ l.1)
+            let p_is = last p e in
+            rw p_is (in_to, mark_here seen to in_seen)
+        | inr ne ↦ let l = tree.listed p (omega arith) in rw (same p (omega arith)) (l.0, mark_kept seen to _ in_seen l.1)
       ];
       placed = λ m h. elim (cases_eq m to) [
-        | inl e ↦ (length places, omega arith, ap (λ v. v.node) last ∙ sym e)
-        | inr ne ↦ let at_p = tree.placed m (old m ne h) in (at_p.0, omega arith, ap (λ v. v.node) (same at_p.0 at_p.1) ∙ at_p.2)
+        | inl e ↦ (length places, omega arith, ap (λ v. v.node) (last (length places) refl) ∙ sym e)
+        | inr ne ↦ let at_p = tree.placed m (mark_before seen to m ne h) in (at_p.0, omega arith, ap (λ v. v.node) (same at_p.0 at_p.1) ∙ at_p.2)
       ];
-      started = kept start tree.started;
+      started = mark_kept seen to start in_seen tree.started;
     }
 
 module _ (g : Graph) (start : ℕ) (seen : List Bool) (places : List Visit) (place : ℕ) (group : List ResidualArc) (k : ℕ) (z : Searching g start seen places place group k) where
@@ -101,19 +95,10 @@ module _ (g : Graph) (start : ℕ) (seen : List Bool) (places : List Visit) (pla
   searching_yes in_place known leaves in_to on =
       let s = get_or group k no_residual_arc in
       let to = head g.arcs s in
-      let new : Visit = record { node = head g.arcs (get_or group k no_residual_arc); step = get_or group k no_residual_arc; parent = place } in
+      let new : Visit = record { node = to; step = s; parent = place } in
       let size = z.tree.size in
       let in_seen : to < length seen = omega arith in
-      let marked : get_or (set seen to true) to false ≡ true = get_or-set_same seen to true false in_seen in
-      let kept : (m : ℕ) → is_seen seen m ≡ true → is_seen (set seen to true) m ≡ true = λ m h. elim (cases_eq m to) [
-        | inl e ↦ rw e marked
-        | inr ne ↦ get_or-set_other seen to m true false ne ∙ h
-      ] in
-      let old : (m : ℕ) → m ≢ to → is_seen (set seen to true) m ≡ true → is_seen seen m ≡ true =
-      λ m ne h. sym (get_or-set_other seen to m true false ne) ∙ h in
       let len : length (places ++ new ∷ []) ≡ length places + 1 = length_push places new in
-      let same : (p : ℕ) → p < length places → get_or (places ++ new ∷ []) p no_place ≡ get_or places p no_place = λ p h. get_or_append_left places (new ∷ []) no_place p h in
-      let last : get_or (places ++ new ∷ []) (length places) no_place ≡ new = get_or_push places new no_place (length places) refl in
       record {
         tree = tree_more g start seen places place s z.tree in_place known leaves in_to on;
         counted =
@@ -122,10 +107,10 @@ module _ (g : Graph) (start : ℕ) (seen : List Bool) (places : List Visit) (pla
             let counted = z.counted in
             omega arith;
         before = λ p s h in_p known at_p left.
-            kept _ (z.before p s h (omega arith) known (at_p ∙ ap (λ v. v.node) (same p (omega arith))) left);
+            mark_kept seen to _ in_seen (z.before p s h (omega arith) known (at_p ∙ ap (λ v. v.node) (get_or_append_left places (new ∷ []) no_place p (omega arith))) left);
         here = λ j h in_j left. elim (cases_eq j k) [
-          | inl e ↦ subst (λ v. is_seen (set seen to true) (head g.arcs (get_or group v no_residual_arc)) ≡ true) (sym e) marked
-          | inr ne ↦ kept _ (z.here j (omega arith) in_j left)
+          | inl e ↦ subst (λ v. is_seen (set seen to true) (head g.arcs (get_or group v no_residual_arc)) ≡ true) (sym e) (mark_here seen to in_seen)
+          | inr ne ↦ mark_kept seen to _ in_seen (z.here j (omega arith) in_j left)
         ];
       }
 
@@ -160,12 +145,6 @@ searching_at g start seen places place group z = record {
   here = λ j h _. absurd (omega arith);
 }
 
-none_seen : (n m : ℕ) → is_seen (replicate n false) m ≡ false
-none_seen n m = elim (cases_lt m n) [
-  | inl low ↦ get_or-replicate n m false false low
-  | inr past ↦ get_or_past (replicate n false) m false (omega (arith, length-replicate n false))
-]
-
 -- a search begins with the start alone
 pub searching_start : (g : Graph) (start : ℕ) (step : ResidualArc) → start < g.nodes →
     Searching g start (set (replicate g.nodes false) start true) ((record { node = start; step = step; parent = 0 }) ∷ []) 0 [] 0
@@ -173,7 +152,7 @@ searching_start g start step low =
     let none : List Bool = replicate g.nodes false in
     let size : length none ≡ g.nodes = length-replicate g.nodes false in
     let within : start < length none = omega arith in
-    let marked : is_seen (set none start true) start ≡ true = get_or-set_same none start true false within in
+    let marked = start_marked start g.nodes low in
     record {
       tree = record {
         size = length-set none start true ∙ size;
@@ -181,15 +160,12 @@ searching_start g start step low =
         found = λ p after in_p. absurd (omega arith);
         once = λ p q h in_q. absurd (omega arith);
         listed = λ p in_p. let e : p ≡ 0 = omega arith in rw e (low, marked);
-        placed = λ m on. elim (cases_eq m start) [
-          | inl e ↦ (0, omega arith, sym e)
-          | inr ne ↦ absurd (both_ways _ (get_or-set_other none start m true false ne ∙ none_seen g.nodes m) on)
-        ];
+        placed = λ m on. (0, omega arith, sym (start_alone start g.nodes m on));
         started = marked;
       };
       counted =
           let sum = sum_by-set (λ v. cond v 1 0) none start true false within in
-          let before : cond {A = ℕ} (is_seen none start) 1 0 ≡ 0 = ap (λ (v : Bool). cond {A = ℕ} v 1 0) (none_seen g.nodes start) in
+          let before : cond {A = ℕ} (is_seen none start) 1 0 ≡ 0 = ap (λ (v : Bool). cond {A = ℕ} v 1 0) (get_or-replicate g.nodes start false false low) in
           let all = sum_by-replicate (λ (v : Bool). cond {A = ℕ} v 1 0) g.nodes false in
           omega arith;
       before = λ p s h. absurd (omega arith);

@@ -1,11 +1,9 @@
-use Rattle.std.proofs.Common.{◌≡◌, ◌∙◌, ◌++◌, ◌∷◌, [], ℕ, List, sym, ap, subst, arith}
-use Rattle.std.specs.Prelude.{Contains}
+use Rattle.std.proofs.Common.{◌≡◌, ◌∙◌, ◌++◌, ◌∷◌, [], ℕ, List, ap, subst, arith}
 use Rattle.std.proofs.lemmas.List.{nil_from_length}
-use Rattle.std.proofs.lemmas.List.Elements.{Contains-push}
-use Rattle.digraph.proofs.SpreadMarks.{mark_within}
 use Rattle.cut_residual.specs.Spreading.{IsSpreading}
-use Rattle.cut_residual.proofs.Following.{spread_closed, spread_reached, spreading_starts}
+use Rattle.cut_residual.proofs.Following.{last_low, spread_closed, spread_reached, spreading_starts}
 use Rattle.cut_residual.proofs.spread.marks.Goals as goal
+use Rattle.cut_residual.proofs.spread.marks.Goals.{In-Some}
 
 pub loop-node-init : goal.loop-node-init
 loop-node-init c =
@@ -15,34 +13,30 @@ loop-node-init c =
       spreading = rw (placed, c.in_ok-seen.ensures.items_if_clones_equal (λ y same. same)) (spreading_starts c.args.arcs.now c.args.start c.args.nodes c.requires.start);
     }
 
+popped : (c : In-Some) → c.loop-node.waiting.items ≡ c.pop.new.self.items ++ c.in-Some.node ∷ []
+popped c = rw c.in-Some.is at c.pop.ensures.items
+
 pub follow-requires-clause-node : goal.follow-requires-clause-node
 follow-requires-clause-node c =
-    let popped : c.loop-node.waiting.items ≡ c.pop.new.self.items ++ c.in-Some.node ∷ [] = rw c.in-Some.is at c.pop.ensures.items in
-    let waits = subst (λ (v : List ℕ). Contains v c.in-Some.node) (sym popped) (Contains-push c.pop.new.self.items c.in-Some.node) in
     let ok = c.loop-node.seen.ok.0 in
-    let within = mark_within c.loop-node.seen.items c.in-Some.node (c.loop-node.invariant.spreading.spread.waits c.in-Some.node waits) in
+    let within = last_low c.loop-node.seen.items c.loop-node.waiting.items c.pop.new.self.items c.in-Some.node c.loop-node.invariant.spreading.spread.waits (popped (goal.at.follow-requires-clause-node c).In-Some) in
     omega arith
 
 pub loop-node-preserved : goal.loop-node-preserved
-loop-node-preserved c =
-    let popped : c.loop-node.waiting.items ≡ c.pop.new.self.items ++ c.in-Some.node ∷ [] = rw c.in-Some.is at c.pop.ensures.items in
-    record {
-      size = c.in_ok-follow.ensures.size ∙ c.loop-node.invariant.size;
-      spreading = c.in_ok-follow.ensures.spreading c.args.start (subst (IsSpreading c.args.arcs.now c.args.start c.loop-node.seen.items) popped c.loop-node.invariant.spreading);
-    }
+loop-node-preserved c = record {
+  size = c.in_ok-follow.ensures.size ∙ c.loop-node.invariant.size;
+  spreading = c.in_ok-follow.ensures.spreading c.args.start (subst (IsSpreading c.args.arcs.now c.args.start c.loop-node.seen.items) (popped (goal.at.loop-node-preserved c).In-Some) c.loop-node.invariant.spreading);
+}
 
-pub returns-clause-reached : goal.returns-clause-reached
-returns-clause-reached c =
+pub returns : goal.returns
+returns c =
     let none = rw c.in_default.is at c.pop.ensures.cases in
     let ok = c.loop-node.waiting.ok.0 in
     let marks = c.loop-node.seen.ok.0 in
     let size = c.loop-node.invariant.size in
     let empty : c.loop-node.waiting.items ≡ [] = nil_from_length _ (omega arith) in
-    spread_reached c.args.arcs.now c.args.start c.loop-node.seen.items (subst (IsSpreading c.args.arcs.now c.args.start c.loop-node.seen.items) empty c.loop-node.invariant.spreading) c.args.nodes (omega arith)
-
-pub returns-clause-closed : goal.returns-clause-closed
-returns-clause-closed c =
-    let none = rw c.in_default.is at c.pop.ensures.cases in
-    let ok = c.loop-node.waiting.ok.0 in
-    let empty : c.loop-node.waiting.items ≡ [] = nil_from_length _ (omega arith) in
-    spread_closed c.args.arcs.now c.args.start c.loop-node.seen.items (subst (IsSpreading c.args.arcs.now c.args.start c.loop-node.seen.items) empty c.loop-node.invariant.spreading)
+    let done = subst (IsSpreading c.args.arcs.now c.args.start c.loop-node.seen.items) empty c.loop-node.invariant.spreading in
+    record {
+      reached = spread_reached c.args.arcs.now c.args.start c.loop-node.seen.items done c.args.nodes (omega arith);
+      closed = spread_closed c.args.arcs.now c.args.start c.loop-node.seen.items done;
+    }
