@@ -5,14 +5,15 @@ use Rattle.std.specs.Cmp.Lexicographic.{slice_cmp}
 use Rattle.std.specs.List.Sorted.{IsStrictlySortedBy}
 use Rattle.std.specs.Ordering.{nat_cmp}
 use Rattle.std.specs.declared.cmp.Ordering.TheVariants.{Less}
-use Rattle.std.proofs.lemmas.Bool.{and_parts, both_ways, cases_eq, cases_lt}
-use Rattle.std.proofs.lemmas.List.{get_or-map, get_or_default, get_or_past, length-map, length-set}
+use Rattle.std.proofs.lemmas.Bool.{and_parts, cases_eq, cases_lt}
+use Rattle.std.proofs.lemmas.List.{get_or-map, get_or_default, length-map, length-set}
 use Rattle.std.proofs.lemmas.List.Elements.{Contains-get_or, recursion_from_All}
 use Rattle.std.proofs.lemmas.List.Kept.{AllPairs-filter}
 use Rattle.std.proofs.lemmas.List.Filters.{length-filter_both}
 use Rattle.std.proofs.lemmas.List.Sums.{sum_by-cons}
 use Rattle.std.proofs.lemmas.Map.Keys.{Less-from_sorted}
 use Rattle.digraph.proofs.Members.{from_map, of_filter}
+use Rattle.digraph.proofs.SpreadMarks.{mark_within}
 use Rattle.cut_net.specs.declared.priced.Priced.{Priced}
 use Rattle.cut_net.specs.Network.{Network, name_of, none_there}
 use Rattle.cut_net.specs.WellFormed.{AreBetween, AreNamesInOrder, IsAcyclic, IsNetwork}
@@ -30,17 +31,10 @@ use Rattle.cut_part.proofs.PrintedBetween.{same_printed}
 use Rattle.cut_part.proofs.Renumbering.{flow_up_is, greatest_up_is, printed_up_is}
 use Rattle.cut_part.proofs.Sums.{sum_by-map}
 
-seen_in : (marks : List Bool) (m : ℕ) → is_seen marks m ≡ true → m < length marks
-seen_in marks m t =
-    elim (cases_lt m (length marks)) [
-      | inl low ↦ low
-      | inr high ↦ absurd (both_ways (is_seen marks m) (get_or_past marks m false (omega arith)) t)
-    ]
-
 -- a module that was marked is marked still, and both ends are
 set_still : (marks : List Bool) (k m : ℕ) → is_seen marks m ≡ true → is_seen (set marks k true) m ≡ true
 set_still marks k m t =
-    let in_marks = seen_in marks m t in
+    let in_marks = mark_within marks m t in
     elim (cases_eq m k) [
       | inl e ↦ rw e (get_or-set_same marks k true false (omega arith))
       | inr ne ↦ get_or-set_other marks k m true false ne ∙ t

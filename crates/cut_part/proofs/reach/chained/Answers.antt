@@ -1,11 +1,9 @@
 use Rattle.std.proofs.Common.{◌≡◌, length, ◌∙◌, ◌++◌, ◌∷◌, [], ℕ, List, sym, ap, subst, arith, rules}
 use Rattle.std.proofs.lemmas.List.{get_or_default, nil_from_length}
-use Rattle.std.proofs.lemmas.List.Elements.{Contains-push}
-use Rattle.std.specs.Prelude.{Contains}
-use Rattle.digraph.proofs.SpreadMarks.{mark_within}
 use Rattle.cut_net.specs.WellFormed.{AreBetween}
 use Rattle.cut_net.specs.Network.{none_there}
 use Rattle.cut_net.specs.declared.priced.Priced.{Priced}
+use Rattle.cut_residual.proofs.Following.{last_low}
 use Rattle.cut_part.specs.Narrowing.{import_in}
 use Rattle.cut_part.specs.Reach.{AreImportTrails, IsSpreading}
 use Rattle.cut_part.proofs.Reaching.{spread, spreading_starts}
@@ -40,9 +38,8 @@ follow-requires-clause-trails c =
 pub follow-requires-clause-importer : goal.follow-requires-clause-importer
 follow-requires-clause-importer c =
     let popped : c.loop-importer.waiting.items ≡ c.pop.new.self.items ++ c.in-Some.importer ∷ [] = rw c.in-Some.is at c.pop.ensures.items in
-    let waits = subst (λ (v : List ℕ). Contains v c.in-Some.importer) (sym popped) (Contains-push c.pop.new.self.items c.in-Some.importer) in
     let ok = c.loop-importer.marks.ok.0 in
-    let within = mark_within c.loop-importer.marks.items c.in-Some.importer (c.loop-importer.invariant.spreading.spread.waits c.in-Some.importer waits) in
+    let within = last_low c.loop-importer.marks.items c.loop-importer.waiting.items _ _ c.loop-importer.invariant.spreading.spread.waits popped in
     omega arith
 
 pub returns-clause-chained : goal.returns-clause-chained

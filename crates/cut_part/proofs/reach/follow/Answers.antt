@@ -1,11 +1,10 @@
 use Rattle.std.proofs.Common.{◌≡◌, ◌<◌, ◌+◌, ◌-◌, ◌∙◌, ◌++◌, ◌∷◌, [], ℕ, true, false, length, get_or, refl, sym, subst, arith}
 use Rattle.std.proofs.lemmas.List.{get_or_default}
-use Rattle.std.proofs.lemmas.List.Elements.{Contains-get_or}
 use Rattle.digraph.proofs.SpreadMarks.{left_same}
-use Rattle.cut_net.specs.Network.{none_there}
 use Rattle.cut_residual.specs.Graphs.{is_seen}
 use Rattle.cut_part.specs.Narrowing.{import_in}
 use Rattle.cut_part.specs.Reach.{IsFollowing, IsSpreading}
+use Rattle.cut_part.proofs.Narrowing.{numbered}
 use Rattle.cut_part.proofs.Reaching.{following_ends, following_starts, follows_marked, follows_unmarked}
 use Rattle.cut_part.proofs.reach.follow.Goals as goal
 use Rattle.cut_part.proofs.reach.follow.Goals.{then-not-index+in_ok-push, else-not-index}
@@ -30,23 +29,17 @@ loop-next-init c =
 
 pub index-requires : goal.index-requires
 index-requires c =
-    let imports = c.args.imports.now in
-    let number = c.loop-next.next - 1 in
     let within = c.loop-next.invariant.within in
     let more = c.loop-next-test.true in
-    let in_imports : number < length imports = omega arith in
-    let low : (import_in imports number).to < c.args.marks.now.len = (c.requires.between (import_in imports number) (Contains-get_or imports number none_there in_imports)).1 in
-    omega (arith, c.loop-next.invariant.size)
+    let low = c.requires.between _ (numbered c.args.imports.now (c.loop-next.next - 1) (omega arith)) in
+    omega (arith, low.1, c.loop-next.invariant.size)
 
 pub index_mut-requires : goal.index_mut-requires
 index_mut-requires c =
-    let imports = c.args.imports.now in
-    let number = c.loop-next.next - 1 in
     let within = c.loop-next.invariant.within in
     let more = c.loop-next-test.true in
-    let in_imports : number < length imports = omega arith in
-    let low : (import_in imports number).to < c.args.marks.now.len = (c.requires.between (import_in imports number) (Contains-get_or imports number none_there in_imports)).1 in
-    omega (arith, c.loop-next.invariant.size)
+    let low = c.requires.between _ (numbered c.args.imports.now (c.loop-next.next - 1) (omega arith)) in
+    omega (arith, low.1, c.loop-next.invariant.size)
 
 pub loop-next-preserved : goal.loop-next-preserved
 loop-next-preserved c =
@@ -66,7 +59,7 @@ loop-next-preserved c =
     let less = last.within in
     let ok = at.marks.ok.0 in
     let size = at.invariant.size in
-    let to_low : (import_in imports number).to < c.args.marks.now.len = (c.requires.between (import_in imports number) (Contains-get_or imports number none_there low)).1 in
+    let to_low : (import_in imports number).to < c.args.marks.now.len = (c.requires.between _ (numbered imports number low)).1 in
     let in_marks : (import_in imports number).to < length at.marks.items = omega arith in
     let mark : c.index.result.now ≡ is_seen at.marks.items (import_in imports number).to = c.index.ensures ∙ get_or_default at.marks.items (import_in imports number).to c.index.result.now false in_marks in
     let ready : (start : ℕ) → IsSpreading imports start c.args.marks.now.items (c.args.waiting.now.items ++ c.args.importer ∷ []) → IsFollowing imports start at.marks.items at.waiting.items c.args.importer (number + 1) =
