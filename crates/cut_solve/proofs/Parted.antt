@@ -1,5 +1,5 @@
 -- A question in the part between its two modules, and its answer told of the whole network.
-use Rattle.std.proofs.Common.{◌≡◌, ◌∙◌, ℕ, ◌<◌, Bool, List, length, get_or, set, true, sym, subst, arith}
+use Rattle.std.proofs.Common.{◌≡◌, ◌∙◌, ℕ, ◌<◌, Bool, List, length, get_or, set, true, sym, subst, subst₂, arith}
 use Rattle.std.proofs.lemmas.List.{get_or_default, length-set}
 use Rattle.cut_net.specs.declared.priced.Priced.{Priced}
 use Rattle.cut_net.specs.Lines.{IsAnswer, IsCheapestSaid, IsCutAnswer}
@@ -36,20 +36,15 @@ module _ (net : Network) (a b : ℕ) (marks : List Bool) (numbers places : List 
     to = at_to ∙ get_or_default places b y 0 (place_in b ends.to_in)
 
     pub ends_there : AreEnds small x y
-    ends_there = subst (λ (m : ℕ). AreEnds small m y) (sym from) (subst (λ (n : ℕ). AreEnds small (get_or places a 0) n) (sym to) (record {
+    ends_there = subst₂ (AreEnds small) (sym from) (sym to) (record {
       from_in = start_low net a b ends.from_in ends.to_in marks numbers places small part;
       to_in = end_low net a b ends.from_in ends.to_in marks numbers places small part;
       apart = ends_apart net a b ends.from_in ends.to_in marks numbers places small part ends.apart;
-    }))
+    })
 
-    module _ (said whole : Said) (e : whole ≡ said_whole numbers said) (is : IsAnswer small x y said) where
-      here : IsAnswer small (get_or places a 0) (get_or places b 0) said
-      here = subst (λ (m : ℕ). IsAnswer small m (get_or places b 0) said) from (subst (λ (n : ℕ). IsAnswer small x n said) to is)
-
-      pub answer_whole : IsAnswer net a b whole
-      answer_whole = subst (λ (s : Said). IsAnswer net a b s) (sym e) (answer_up net a b ends.from_in ends.to_in marks numbers places small part said here)
-
-      pub cheapest_whole : IsCheapestSaid small x y said → IsCheapestSaid net a b whole
-      cheapest_whole cheapest =
-          let least = subst (λ (m : ℕ). IsCheapestSaid small m (get_or places b 0) said) from (subst (λ (n : ℕ). IsCheapestSaid small x n said) to cheapest) in
-          subst (λ (s : Said). IsCheapestSaid net a b s) (sym e) (cheapest_up net a b ends.from_in ends.to_in marks numbers places small part said here least)
+    pub told_whole : (said whole : Said) → whole ≡ said_whole numbers said → IsAnswer small x y said → IsCheapestSaid small x y said → IsAnswer net a b whole × IsCheapestSaid net a b whole
+    told_whole said whole e is cheapest =
+        let here = subst₂ (λ (m n : ℕ). IsAnswer small m n said) from to is in
+        let least = subst₂ (λ (m n : ℕ). IsCheapestSaid small m n said) from to cheapest in
+        subst (λ (s : Said). IsAnswer net a b s × IsCheapestSaid net a b s) (sym e)
+        (answer_up net a b ends.from_in ends.to_in marks numbers places small part said here, cheapest_up net a b ends.from_in ends.to_in marks numbers places small part said here least)

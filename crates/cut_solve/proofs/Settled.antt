@@ -207,9 +207,15 @@ module _ (net : Network) (a b : ℕ) (is : IsNetwork net) (ends : AreEnds net a 
         | inr w ↦ (value, back w.0 value (subst (λ (m : ℕ). IsFlow there m a on value) w.1 (subst (λ (k : ℕ). IsFlow there source k on value) w.2 flow)))
       ]
 
+-- a search in the network with this flow: what it marked, and whether it came to the second module
+pub record IsSearched (net : Network) (a b : ℕ) (flow : List ℕ) (near : List Bool) (came : Bool) : Type 0 where
+  pub same : length flow ≡ length net.imports
+  pub reached : AreReached (record { nodes = length net.names; arcs = carrying net.imports flow }) a near
+  pub closed : AreClosed (carrying net.imports flow) near
+  pub end : is_seen near b ≡ came
+
 -- the flow of the arcs is that flow
-module _ (net : Network) (a b : ℕ) (flow : List ℕ) (near : List Bool) (up : IsAscending net.imports) (a_in : a < length net.names) (same : length flow ≡ length net.imports)
-    (are : AreReached (record { nodes = length net.names; arcs = carrying net.imports flow }) a near) (shut : AreClosed (carrying net.imports flow) near) where
+module _ (net : Network) (a b : ℕ) (flow : List ℕ) (near : List Bool) (came : Bool) (searched : IsSearched net a b flow near came) (up : IsAscending net.imports) (a_in : a < length net.names) where
   abbrev arcs : List Arc
   arcs = carrying net.imports flow
 
@@ -217,26 +223,26 @@ module _ (net : Network) (a b : ℕ) (flow : List ℕ) (near : List Bool) (up : 
   on = flow_by (flow_lines net.imports flow)
 
   imports_are : imports_of arcs ≡ net.imports
-  imports_are = carrying_imports net.imports flow same
+  imports_are = carrying_imports net.imports flow searched.same
 
   agree : (i : Priced) → Contains net.imports i → on i ≡ flow_on arcs i
   agree = at_numbers net.imports (λ i. on i ≡ flow_on arcs i) (λ k h.
       let size : length arcs ≡ length net.imports = sym (length-map arcs import_on) ∙ ap length imports_are in
       let here : import_on (get_or arcs k no_arc) ≡ import_in net.imports k =
       sym (get_or-map import_on arcs k no_arc none_there (omega arith)) ∙ ap (λ (v : List Priced). get_or v k none_there) imports_are in
-      flow_by_number net.imports flow (ascending_apart net.imports up) same k h ∙ sym (carrying_at net.imports flow same k h)
+      flow_by_number net.imports flow (ascending_apart net.imports up) searched.same k h ∙ sym (carrying_at net.imports flow searched.same k h)
       ∙ sym (flow_is arcs (subst IsAscending (sym imports_are) up) k (omega arith)) ∙ ap (flow_on arcs) here)
 
-  pub settled_greatest : (value : ℕ) → IsFlow net a b (flow_by (flow_lines net.imports flow)) value → is_seen near b ≡ false →
+  pub settled_greatest : (value : ℕ) → IsFlow net a b (flow_by (flow_lines net.imports flow)) value → came ≡ false →
       IsMaximumFlow net a b near (filter has_flow (map flow_line (carrying net.imports flow)))
-  settled_greatest value is end = greatest_by net arcs a b value imports_are up a_in (same_flow net a b on (flow_on arcs) agree value is) near are shut end
+  settled_greatest value is missed = greatest_by net arcs a b value imports_are up a_in (same_flow net a b on (flow_on arcs) agree value is) near searched.reached searched.closed (searched.end ∙ missed)
 
-  pub settled_end : IsBarred net (flow_by (flow_lines net.imports flow)) a b → is_seen near b ≡ false
-  settled_end barred = end_unmarked net arcs a b imports_are up a_in (
+  pub settled_end : IsBarred net (flow_by (flow_lines net.imports flow)) a b → came ≡ false
+  settled_end barred = sym searched.end ∙ end_unmarked net arcs a b imports_are up a_in (
     barred.0,
     record {
       start = barred.1.start;
       end = barred.1.end;
       closed = same_closed net a b on (flow_on arcs) agree barred.0 barred.1.closed;
     },
-  ) near are shut
+  ) near searched.reached searched.closed

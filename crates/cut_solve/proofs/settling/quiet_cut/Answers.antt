@@ -1,23 +1,17 @@
-use Rattle.std.proofs.Common.{◌≡◌, ◌<◌, ◌≤◌, ◌∙◌, ℕ, List, true, false, length, ap, sym, subst, arith}
-use Rattle.std.specs.Prelude.{All, filter, map}
+use Rattle.std.proofs.Common.{◌≡◌, ◌∙◌, ℕ, List, false, length, ap, sym, subst, arith}
 use Rattle.std.proofs.lemmas.Bool.{both_ways}
 use Rattle.std.proofs.lemmas.List.{get_or_default}
-use Rattle.std.proofs.lemmas.List.Elements.{Contains-get_or}
-use Rattle.cut_net.specs.Network.{Network, none_there}
+use Rattle.cut_net.specs.Network.{Network}
+use Rattle.cut_part.proofs.Narrowing.{numbered}
 use Rattle.cut_preflow.specs.Preflow.{FlowNetwork}
 use Rattle.cut_preflow.specs.Flows.{HasFlow, IsShutOff, network_on}
 use Rattle.cut_preflow.specs.Trace.{state_of}
 use Rattle.cut_residual.specs.declared.arc.Arc.{Arc}
-use Rattle.cut_residual.specs.Graphs.{is_seen, Graph, AreClosed, AreReached}
-use Rattle.cut_solve.specs.GreatestFlow.{IsMaximumFlow}
-use Rattle.cut_solve.specs.Lines.{has_flow, flow_line}
 use Rattle.cut_solve.specs.Settling.{carrying}
-use Rattle.cut_solve.proofs.Settled.{below_flow, carrying_between, carrying_within, settled_end, settled_flow, settled_greatest}
+use Rattle.cut_solve.proofs.Settled.{below_flow, carrying_between, carrying_within, settled_end, settled_flow, settled_greatest, IsSearched}
 use Rattle.cut_solve.proofs.Started.{below_size}
 use Rattle.cut_solve.proofs.settling.quiet_cut.Goals as goal
-
-abbrev at : ℕ → List Arc → Graph
-at nodes arcs = record { nodes = nodes; arcs = arcs }
+use Rattle.cut_solve.proofs.settling.quiet_cut.Goals.{After-deref, After-index}
 
 -- what the preflow started on, as a network of the modules
 module _ (net : Network) (a b : ℕ) (p : FlowNetwork) (nodes : p.nodes ≡ length net.names) where
@@ -29,72 +23,65 @@ carrying-requires-clause-imports g c =
     let p = c.args.preflow.now.trace.net in
     below_size c.args.net.now c.args.from c.args.to c.keeps.ensures.network c.requires.ends p.imports p.source p.sink c.requires.start ∙ ap length (sym c.imports.ensures)
 
+-- the imports of the network as arcs with this flow
+abbrev AreCarrying : Network → List ℕ → List Arc → Type 0
+AreCarrying net flow arcs = (length flow ≡ length net.imports) × (arcs ≡ carrying net.imports flow)
+
+carried : (g : _) (c : After-deref g) → AreCarrying c.args.net.now (state_of c.args.preflow.now.trace).flow c.in_ok-arcs.arcs.items
+carried g c =
+    let p = c.args.preflow.now.trace.net in (
+      c.keeps-2.ensures.sound.kept.flows ∙ below_size c.args.net.now c.args.from c.args.to c.keeps.ensures.network c.requires.ends p.imports p.source p.sink c.requires.start,
+      c.in_ok-arcs.ensures ∙ ap (λ v. carrying v (state_of c.args.preflow.now.trace).flow) c.imports.ensures,
+    )
+
 pub marks-requires-clause-within : goal.marks-requires-clause-within
 marks-requires-clause-within g c =
-    let net = c.args.net.now in
-    let p = c.args.preflow.now.trace.net in
-    let s = state_of c.args.preflow.now.trace in
     let kept = c.keeps-2.ensures.sound.kept in
-    let size = below_size net c.args.from c.args.to c.keeps.ensures.network c.requires.ends p.imports p.source p.sink c.requires.start in
-    let arcs : c.in_ok-arcs.arcs.items ≡ carrying net.imports s.flow = c.in_ok-arcs.ensures ∙ ap (λ v. carrying v s.flow) c.imports.ensures in
-    subst (All (λ (r : Arc). r.flow ≤ r.capacity)) (sym (c.deref.ensures.value ∙ arcs)) (carrying_within net.imports s.flow (kept.flows ∙ size) (λ k h.
+    let (same, arcs) = carried g (goal.at.marks-requires-clause-within g c).After-deref in
+    rw (c.deref.ensures.value, arcs) (carrying_within c.args.net.now.imports (state_of c.args.preflow.now.trace).flow same (λ k h.
     let low = c.requires.start.lowered k in
-    let fits = kept.fits k (omega arith) in
+    let fits = kept.fits k (omega (arith, kept.flows)) in
     omega arith))
 
 pub marks-requires-clause-between : goal.marks-requires-clause-between
 marks-requires-clause-between g c =
     let net = c.args.net.now in
-    let p = c.args.preflow.now.trace.net in
-    let s = state_of c.args.preflow.now.trace in
-    let kept = c.keeps-2.ensures.sound.kept in
-    let size = below_size net c.args.from c.args.to c.keeps.ensures.network c.requires.ends p.imports p.source p.sink c.requires.start in
-    let arcs : c.in_ok-arcs.arcs.items ≡ carrying net.imports s.flow = c.in_ok-arcs.ensures ∙ ap (λ v. carrying v s.flow) c.imports.ensures in
-    subst (λ n. All (λ (r : Arc). (r.from < n) × (r.to < n)) c.deref.result.now) (sym c.nodes.ensures)
-    (subst (All (λ (r : Arc). (r.from < length net.names) × (r.to < length net.names))) (sym (c.deref.ensures.value ∙ arcs))
-    (carrying_between net.imports s.flow (length net.names) (kept.flows ∙ size) (λ k h. c.keeps.ensures.network.between _ (Contains-get_or net.imports k none_there h))))
+    let (same, arcs) = carried g (goal.at.marks-requires-clause-between g c).After-deref in
+    rw (c.nodes.ensures, c.deref.ensures.value, arcs)
+    (carrying_between net.imports (state_of c.args.preflow.now.trace).flow (length net.names) same (λ k h. c.keeps.ensures.network.between _ (numbered net.imports k h)))
+
+searched : (g : _) (c : After-index g) → AreCarrying c.args.net.now (state_of c.args.preflow.now.trace).flow c.in_ok-arcs.arcs.items →
+    IsSearched c.args.net.now c.args.from c.args.to (state_of c.args.preflow.now.trace).flow c.in_ok-near.near.items c.index.result.now
+searched g c (same, arcs) =
+    let reached = rw (c.nodes.ensures, c.deref.ensures.value, arcs) at c.in_ok-near.ensures.reached in
+    record {
+      same = same;
+      reached = reached;
+      closed = rw (c.deref.ensures.value, arcs) at c.in_ok-near.ensures.closed;
+      end = sym (get_or_default c.in_ok-near.near.items c.args.to c.index.result.now false (omega (arith, reached.size, c.requires.ends.to_in))) ∙ sym c.index.ensures;
+    }
 
 pub minimum_cut-requires-clause-greatest : goal.minimum_cut-requires-clause-greatest
 minimum_cut-requires-clause-greatest g c =
+    let here = goal.at.minimum_cut-requires-clause-greatest g c in
     let net = c.args.net.now in
-    let a = c.args.from in
-    let b = c.args.to in
     let p = c.args.preflow.now.trace.net in
     let s = state_of c.args.preflow.now.trace in
-    let near = c.in_ok-near.near.items in
-    let whole = started net a b p c.requires.nodes in
-    let size = below_size net a b c.keeps.ensures.network c.requires.ends p.imports p.source p.sink c.requires.start in
-    let arcs : c.in_ok-arcs.arcs.items ≡ carrying net.imports s.flow = c.in_ok-arcs.ensures ∙ ap (λ v. carrying v s.flow) c.imports.ensures in
-    let graph : at c.nodes.result c.deref.result.now ≡ at (length net.names) (carrying net.imports s.flow) = λ i. at (c.nodes.ensures i) ((c.deref.ensures.value ∙ arcs) i) in
-    let reached : AreReached (record { nodes = length net.names; arcs = carrying net.imports s.flow }) a near = subst (λ (v : Graph). AreReached v a near) graph c.in_ok-near.ensures.reached in
-    let there : b < length near = omega (arith, reached.size, c.requires.ends.to_in) in
-    let unmarked : is_seen near b ≡ false = sym (get_or_default near b c.index.result.now false there) ∙ sym c.index.ensures ∙ c.if-index.false in
-    let flow = below_flow net a b c.keeps.ensures.network c.requires.ends p.imports p.source p.sink c.requires.start s
-    (subst (λ (f : FlowNetwork). HasFlow f s) whole (c.keeps-2.ensures.flow c.requires.quiet)) in
-    let greatest = settled_greatest net a b s.flow near c.keeps.ensures.network.imports_ascend c.requires.ends.from_in (c.keeps-2.ensures.sound.kept.flows ∙ size)
-    reached (subst (λ (v : Graph). AreClosed v.arcs near) graph c.in_ok-near.ensures.closed) flow.0 flow.1 unmarked in
-    let lines : c.in_ok-flow.flow.items ≡ filter has_flow (map flow_line (carrying net.imports s.flow)) =
-    c.in_ok-flow.ensures ∙ ap (λ v. filter has_flow (map flow_line v)) (c.deref-2.ensures.value ∙ arcs) in
-    subst (λ v. IsMaximumFlow net a b v c.in_ok-flow.flow.items) (sym c.deref-3.ensures.value)
-    (subst (IsMaximumFlow net a b near) (sym lines) greatest)
+    let flow = below_flow net c.args.from c.args.to c.keeps.ensures.network c.requires.ends p.imports p.source p.sink c.requires.start s
+    (subst (λ (f : FlowNetwork). HasFlow f s) (started net c.args.from c.args.to p c.requires.nodes) (c.keeps-2.ensures.flow c.requires.quiet)) in
+    let arcs = carried g here.After-deref in
+    rw (c.deref-3.ensures.value, c.in_ok-flow.ensures, c.deref-2.ensures.value, arcs.1)
+    (settled_greatest net c.args.from c.args.to s.flow c.in_ok-near.near.items _ (searched g here.After-index arcs) c.keeps.ensures.network.imports_ascend c.requires.ends.from_in flow.0 flow.1 c.if-index.false)
 
 pub returns-then-index-clause-found : goal.returns-then-index-clause-found
 returns-then-index-clause-found g c = λ start.
+    let here = goal.at.returns-then-index-clause-found g c in
     let net = c.args.net.now in
-    let a = c.args.from in
-    let b = c.args.to in
     let p = c.args.preflow.now.trace.net in
     let s = state_of c.args.preflow.now.trace in
-    let near = c.in_ok-near.near.items in
-    let whole = started net a b p c.requires.nodes in
-    let size = below_size net a b c.keeps.ensures.network c.requires.ends p.imports p.source p.sink c.requires.start in
-    let arcs : c.in_ok-arcs.arcs.items ≡ carrying net.imports s.flow = c.in_ok-arcs.ensures ∙ ap (λ v. carrying v s.flow) c.imports.ensures in
-    let graph : at c.nodes.result c.deref.result.now ≡ at (length net.names) (carrying net.imports s.flow) = λ i. at (c.nodes.ensures i) ((c.deref.ensures.value ∙ arcs) i) in
-    let reached : AreReached (record { nodes = length net.names; arcs = carrying net.imports s.flow }) a near = subst (λ (v : Graph). AreReached v a near) graph c.in_ok-near.ensures.reached in
-    let there : b < length near = omega (arith, reached.size, c.requires.ends.to_in) in
-    let marked : is_seen near b ≡ true = sym (get_or_default near b c.index.result.now false there) ∙ sym c.index.ensures ∙ c.if-index.true in
-    let flow = settled_flow net a b c.keeps.ensures.network c.requires.ends p.imports p.source p.sink start s
+    let whole = started net c.args.from c.args.to p c.requires.nodes in
+    let flow = settled_flow net c.args.from c.args.to c.keeps.ensures.network c.requires.ends p.imports p.source p.sink start s
     (subst (λ (f : FlowNetwork). HasFlow f s) whole (c.keeps-2.ensures.flow c.requires.quiet))
     (subst (λ (f : FlowNetwork). IsShutOff f s) whole (c.keeps-2.ensures.shut c.requires.quiet)) in
-    absurd (both_ways (is_seen near b) (settled_end net a b s.flow near c.keeps.ensures.network.imports_ascend c.requires.ends.from_in (c.keeps-2.ensures.sound.kept.flows ∙ size)
-    reached (subst (λ (v : Graph). AreClosed v.arcs near) graph c.in_ok-near.ensures.closed) flow.1.barred) marked)
+    absurd (both_ways _ (settled_end net c.args.from c.args.to s.flow c.in_ok-near.near.items _ (searched g here.After-index (carried g here.After-deref))
+    c.keeps.ensures.network.imports_ascend c.requires.ends.from_in flow.1.barred) c.if-index.true)
