@@ -1,13 +1,10 @@
 -- The part is a network, pins and all.
-use Rattle.std.proofs.Common.{◌≡◌, ◌∙◌, ℕ, Bool, List, sym, ap, ap₂, subst, map, filter, get_or}
+use Rattle.std.proofs.Common.{ℕ, Bool, List, subst}
 use Rattle.cut_net.specs.declared.priced.Priced.{Priced}
-use Rattle.cut_net.specs.Network.{Network, name_of, texts}
+use Rattle.cut_net.specs.Network.{Network, texts}
 use Rattle.cut_net.specs.WellFormed.{IsNetwork}
 use Rattle.cut_net.specs.Pins.{ArePins}
-use Rattle.cut_residual.specs.Graphs.{is_seen}
-use Rattle.cut_part.specs.Inside.{inside}
 use Rattle.cut_part.specs.Marks.{with_ends, IsNumbering, IsPart}
-use Rattle.cut_part.specs.Renumbering.{renumbered}
 use Rattle.cut_part.proofs.Parts.{is_network, is_part, numbers_low}
 use Rattle.cut_part.proofs.PinnedParts.{are_pins}
 use Rattle.cut_part.proofs.part.between.Goals as goal
@@ -15,19 +12,6 @@ use Rattle.cut_part.proofs.part.between.Goals.{In_ok-names, In_ok-numbers}
 
 abbrev network_of : List (List ℕ) → List Priced → List Priced → Network
 network_of names imports pins = record { names = names; imports = imports; pins = pins }
-
--- the lines between marked modules, of marks and places that were lent
-lines_in : (marks : List Bool) (places : List ℕ) (lines : List Priced) (marks_now : List Bool) (places_now : List ℕ) (items : List Priced) →
-    items ≡ map (renumbered (λ m. get_or places_now m 0)) (filter (inside (is_seen marks_now)) lines) → marks_now ≡ marks → places_now ≡ places →
-    items ≡ map (renumbered (λ m. get_or places m 0)) (filter (inside (is_seen marks)) lines)
-lines_in marks places lines marks_now places_now items e m p =
-    e ∙ ap (λ (v : List ℕ). map (renumbered (λ m. get_or v m 0)) (filter (inside (is_seen marks_now)) lines)) p
-    ∙ ap (λ (v : List Bool). map (renumbered (λ m. get_or places m 0)) (filter (inside (is_seen v)) lines)) m
-
-same_parts : (names others : List (List ℕ)) (imports more pins rest : List Priced) → names ≡ others → imports ≡ more → pins ≡ rest →
-    network_of names imports pins ≡ network_of others more rest
-same_parts names others imports more pins rest n i p =
-    ap (λ (v : List (List ℕ)). network_of v imports pins) n ∙ ap₂ (λ (v w : List Priced). network_of others v w) i p
 
 -- what the names and the lines of the part make
 record IsMade (net : Network) (a b : ℕ) (marks : List Bool) (numbers places : List ℕ) (made : Network) : Type 0 where
@@ -43,19 +27,14 @@ made : (c : In_ok-names) → IsNumbering (with_ends c.in_ok-marks.marks.items c.
     (network_of (texts c.in_ok-names.names.items) c.in_ok-imports.imports.items c.in_ok-imports.pins.items)
 made c is =
     let net = c.args.net.now in
-    let from = c.args.from in
-    let to = c.args.to in
     let marks = c.in_ok-marks.marks.items in
     let numbers = c.in_ok-numbers.numbers.items in
     let places = c.in_ok-numbers.places.items in
     let known = c.in_ok-marks.ensures in
-    let imports = lines_in marks places net.imports _ _ _ c.in_ok-imports.ensures.imports c.deref-2.ensures.value c.deref-3.ensures.value in
-    let pins = lines_in marks places net.pins _ _ _ c.in_ok-imports.ensures.pins c.deref-2.ensures.value c.deref-3.ensures.value in
-    let names : texts c.in_ok-names.names.items ≡ map (name_of net) numbers = c.in_ok-names.ensures ∙ ap (λ (v : List ℕ). map (name_of net) v) c.deref-4.ensures.value in
-    subst (IsMade net from to marks numbers places) (same_parts _ _ _ _ _ _ (sym names) (sym imports) (sym pins)) (record {
-      network = is_network net from to marks numbers places known.size known.between is c.keeps.ensures.network;
-      pins = are_pins net from to marks numbers places known.size known.between is c.keeps.ensures.pins;
-      part = is_part net from to marks numbers places known.size known.between is;
+    rw (c.in_ok-names.ensures, c.in_ok-imports.ensures.imports, c.in_ok-imports.ensures.pins, c.deref-2.ensures.value, c.deref-3.ensures.value, c.deref-4.ensures.value) (record {
+      network = is_network net c.args.from c.args.to marks numbers places known.size known.between is c.keeps.ensures.network;
+      pins = are_pins net c.args.from c.args.to marks numbers places known.size known.between is c.keeps.ensures.pins;
+      part = is_part net c.args.from c.args.to marks numbers places known.size known.between is;
     })
 
 pub names_of-requires : goal.names_of-requires
