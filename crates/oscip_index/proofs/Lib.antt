@@ -1,2 +1,2 @@
+pub mod InRow
 pub mod Documents
-pub mod RowBytes

@@ -4,7 +4,8 @@ use Rattle.std.proofs.lemmas.Result.{err_from_is_err_and}
 use Rattle.scip_index.specs.Plain.{plain_index, plain_metadata, plain_symbol}
 use Rattle.scip_index.specs.Written.{externals_part, metadata_part, written}
 use Rattle.scip_index.specs.Writers.{WriterState}
-use Rattle.oscip_index.proofs.Documents.{front_then, index_parts, parts, puts_then}
+use Rattle.oscip_index.proofs.InRow.{front_then, puts_then}
+use Rattle.oscip_index.proofs.Documents.{index_parts, parts}
 use Rattle.oscip_index.proofs.putting.put_parts.Goals as goal
 
 pub returns-in_err-metadata-in-Some-clause-puts : goal.returns-in_err-metadata-in-Some-clause-puts
