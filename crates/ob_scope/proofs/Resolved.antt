@@ -1,25 +1,39 @@
--- What a row of a use says of its module.
-use Rattle.std.proofs.Common.{◌≡◌, ℕ, ◌<◌, List, length, get_or, map, Some, refl, sym, ap, ◌∙◌, subst}
-use Rattle.std.specs.Prelude.{Contains, slice_get}
-use Rattle.std.proofs.lemmas.Option.{slice_get_within, slice_get-get_or}
-use Rattle.ob_decls.specs.Order.{HasNoneBy, IsPlaceBy}
+-- What a row says of its module.
+use Rattle.std.proofs.Common.{◌≡◌, ℕ, List, get_or, map, refl, sym, subst, ◌∙◌}
+use Rattle.std.specs.Prelude.{Contains}
+use Rattle.ob_decls.proofs.Searched.{placed_is}
+use Rattle.ob_decls.specs.Order.{AscendBy, HasNoneBy, IsPlaceBy}
 use Rattle.ob_scope.specs.declared.meaning.Resolution.{Resolution}
 use Rattle.ob_scope.specs.Kept.{meaning_of}
 use Rattle.ob_scope.specs.Scoped.{Meaning}
-use Rattle.ob_scope.proofs.Elements.{contains_of, none_of, some_one}
+use Rattle.ob_scope.proofs.Elements.{ascend_one, contains_of, none_of, slice_contains}
+
+-- rows, what each of them says, and their numbers
+module _ {X Y : Type 0} (f : X → Y) (n : Y → ℕ) (rows : List X) (values : List Y) (are : map f rows ≡ values) (k : ℕ) where
+  -- the row at its place says what has its number
+  pub row_found : (at : ℕ) (row : X) → IsPlaceBy (λ x. n (f x)) rows k at → row ≡ get_or rows at row → Contains values (f row) × (n (f row) ≡ k)
+  row_found at row found read =
+      let p = placed_is (λ x. n (f x)) rows k at row found read in
+      let there = slice_contains rows row p.0 in
+      (subst (λ (ys : List Y). Contains ys (f row)) are (contains_of f rows there.0 row there.1), p.1)
+
+  -- which nothing else has, where the numbers ascend
+  pub row_only : AscendBy n (map f rows) → (at : ℕ) (row : X) → IsPlaceBy (λ x. n (f x)) rows k at → row ≡ get_or rows at row → (y : Y) → Contains values y → n y ≡ k → f row ≡ y
+  row_only up at row found read y h e =
+      let p = row_found at row found read in
+      ascend_one n values (f row) y (subst (λ (ys : List Y). AscendBy n ys) are up) p.0 h (p.1 ∙ sym e)
+
+  -- and without a row nothing has it
+  pub row_none : HasNoneBy (λ x. n (f x)) rows k → (y : Y) → Contains values y → n y ≡ k → ⊥
+  row_none none y h e = none_of f n rows k none y (subst (λ (ys : List Y). Contains ys y) (sym are) h) e
 
 module _ (rows : List Resolution) (meanings : List Meaning) (are : map meaning_of rows ≡ meanings) (used : ℕ) where
   -- the row at its place says what it means
   pub resolved_found : (at : ℕ) (row : Resolution) → IsPlaceBy (λ (m : Resolution). m.used) rows used at → row ≡ get_or rows at row → Contains meanings (record { used = used; declared = row.declared })
   resolved_found at row found read =
-      let within : at < length rows = slice_get_within rows at found.element found.there in
-      let there : slice_get rows at ≡ Some row = slice_get-get_or rows at row within ∙ ap Some (sym read) in
-      let same : row.used ≡ used = ap (λ (m : Resolution). m.used) (some_one row found.element (sym there ∙ found.there)) ∙ found.has in
-      subst (λ (n : ℕ). Contains meanings (record { used = n; declared = row.declared })) same
-      (subst (λ (ms : List Meaning). Contains ms (meaning_of row)) are (contains_of meaning_of rows at row there))
+      let p = row_found meaning_of (λ (m : Meaning). m.used) rows meanings are used at row found read in
+      subst (λ (u : ℕ). Contains meanings (record { used = u; declared = row.declared })) p.1 p.0
 
   -- and without a row it means nothing
   pub resolved_none : HasNoneBy (λ (m : Resolution). m.used) rows used → (declared : ℕ) → Contains meanings (record { used = used; declared = declared }) → ⊥
-  resolved_none none declared h =
-      none_of meaning_of (λ (m : Meaning). m.used) rows used none (record { used = used; declared = declared })
-      (subst (λ (ms : List Meaning). Contains ms (record { used = used; declared = declared })) (sym are) h) refl
+  resolved_none none declared h = row_none meaning_of (λ (m : Meaning). m.used) rows meanings are used none (record { used = used; declared = declared }) h refl
