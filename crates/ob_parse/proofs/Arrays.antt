@@ -11,7 +11,7 @@ use Rattle.ob_parse.specs.Forms.{Read, many, accept_at, expect_at}
 use Rattle.ob_parse.specs.Accords.{ahead, kind_of}
 use Rattle.ob_parse.proofs.Ahead.{leaves_length}
 use Rattle.ob_parse.proofs.Sound.{expect_sound}
-use Rattle.ob_parse.proofs.Loops.{Advances, with_front, goes_on, smaller, accept_advances}
+use Rattle.ob_parse.proofs.Loops.{Advances, with_front, goes_on, accept_advances}
 
 abbrev pub array_of : Out
 array_of = word kinds.Array ++ word kinds.Of
@@ -21,7 +21,7 @@ array_advances = accept_advances zero kinds.Array _ (expect_sound zero kinds.Of)
 
 pub fewer : (ls rest after : List Leaf) → accept_at kinds.Array ls ≡ Some (word kinds.Array, rest) → expect_at kinds.Of rest ≡ Ok (word kinds.Of, after)
     → length after < length ls
-fewer ls rest after e f = smaller (accept_at kinds.Array) (expect_at kinds.Of) array_advances ls (word kinds.Array, rest) (word kinds.Of, after) e f
+fewer ls rest after e f = array_advances.shorter ls (word kinds.Array, rest) (word kinds.Of, after) e f
 
 once_more : (n : ℕ) (o : Out) → times (n + 1) o ≡ times n o ++ o
 once_more n o =

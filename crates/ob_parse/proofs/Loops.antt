@@ -8,7 +8,7 @@ use Rattle.ob_tree.specs.declared.token.Leaf.TheVariants as leafs
 use Rattle.ob_tree.specs.Leaves.{same_kind}
 use Rattle.ob_tree.specs.Constructs.{Construct}
 use Rattle.ob_tree.specs.declared.role.Role.TheVariants.{Selects}
-use Rattle.ob_tree.specs.Marks.{Out, tokens_of, construct, word, declared, each, each_after}
+use Rattle.ob_tree.specs.Marks.{Out, tokens_of, construct, word, declared, each}
 use Rattle.ob_tree.specs.Expressions.{mul_kind, add_kind}
 use Rattle.ob_tree.proofs.Walks.{each_push}
 use Rattle.ob_parse.specs.Front.{uncons, front}
@@ -74,15 +74,6 @@ is_done start r adv front ls total e h = sym h ∙ rw (many_step start r adv ls,
 pub pushed : {X : Type 0} (start : Start) (r : Reader) → Advances start r → (f : X → Out) (xs ys : List X) (x : X) (ls : List Leaf) (s a : Out × List Leaf) (total : Read)
     → ys ≡ xs ++ x ∷ [] → start ls ≡ Some s → r s.1 ≡ Ok a → f x ≡ s.0 ++ a.0 → with_front (each f xs) (many start r ls) ≡ total → with_front (each f ys) (many start r a.1) ≡ total
 pushed start r adv f xs ys x ls s a total y e g o h = rw (y, each_push f xs x, o) (goes_on start r adv (each f xs) ls s a total e g h)
-
--- the same, behind a token
-pub pushed_after : {X : Type 0} (start : Start) (r : Reader) → Advances start r
-    → (f : X → Out) (k : Kind) (xs ys : List X) (x : X) (ls rest : List Leaf) (a : Out × List Leaf) (total : Read) → ys ≡ xs ++ x ∷ [] → start ls ≡ Some (word k, rest) → r rest ≡ Ok a
-    → f x ≡ a.0 → with_front (each_after k f xs) (many start r ls) ≡ total → with_front (each_after k f ys) (many start r a.1) ≡ total
-pushed_after start r adv f k xs ys x ls rest a total y e g o h = pushed start r adv (λ x. word k ++ f x) xs ys x ls (word k, rest) a total y e g (ap (λ (z : Out). word k ++ z) o) h
-
-pub smaller : (start : Start) (r : Reader) → Advances start r → (ls : List Leaf) (s a : Out × List Leaf) → start ls ≡ Some s → r s.1 ≡ Ok a → length a.1 < length ls
-smaller start r adv ls s a e f = adv.shorter ls s a e f
 
 pub marked_some : {X : Type 0} (kind : X → Kind) (x : X) (rest : List Leaf) (f : Front X) → Some (x, rest) ≡ f → as_word kind f ≡ Some (word (kind x), rest)
 marked_some kind x rest f e = ap (as_word kind) (sym e)

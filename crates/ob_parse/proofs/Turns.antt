@@ -1,13 +1,13 @@
 -- What the grammar repeats, and a loop that keeps what it reads of it at the end of a list.
 use Rattle.std.proofs.Common.{◌≡◌, ◌<◌, List, [], ◌∷◌, ◌++◌, length, Some, None, Ok, Err, refl}
-use Rattle.std.specs.Prelude.{Result}
+use Rattle.std.specs.Prelude.{IsErrAnd, Result}
 use Rattle.ob_scan.specs.declared.kind.Kind.{Kind}
 use Rattle.ob_scan.specs.declared.token.Token.{Token}
 use Rattle.ob_tree.specs.declared.token.Leaf.{Leaf}
 use Rattle.ob_tree.specs.Marks.{Out, each, word}
 use Rattle.ob_parse.specs.declared.cursor.Cursor.{Cursor}
 use Rattle.ob_parse.specs.declared.stop.Stop.{Stop}
-use Rattle.ob_parse.specs.Forms.{Front, Read, Reader, Start, many}
+use Rattle.ob_parse.specs.Forms.{Front, Reader, Refusal, Start, many}
 use Rattle.ob_parse.specs.Accords.{Accords, Collects, Fails, ahead}
 use Rattle.ob_parse.specs.ReadExpressions.{as_word}
 use Rattle.ob_parse.proofs.Kept.{kept, unkept}
@@ -26,6 +26,15 @@ pub record Repetition (T : Type 0) : Type 0 where
 abbrev pub all_shown : {T : Type 0} → Repetition T → List T → Out
 all_shown r xs = each (λ x. r.marks ++ r.shown x) xs
 
+-- these were read from the one place up to the other
+abbrev pub AreRead : {T : Type 0} → List Token → Repetition T → List T → Cursor → Cursor → Type 0
+AreRead ts r xs input here = with_front (all_shown r xs) (many r.start r.read (ahead ts here)) ≡ many r.start r.read (ahead ts input)
+
+-- the fault of a part is that of the whole
+pub stopped : {Y Z : Type 0} (ts : List Token) (view : Y → Z) (answer : Result Y Stop) (stop : Stop) (read : Result Z Refusal) → IsErrAnd answer (λ e. e ≡ stop) → Fails ts stop read → Accords ts view answer read
+stopped ts view (Ok x) stop read is fails = absurd is
+stopped ts view (Err e) stop read is fails = rw is fails
+
 module _ {X T : Type 0} (ts : List Token) (r : Repetition T) (result : Result (X × Cursor) Stop) (value : X → T) (here behind : Cursor) (old new : List T) where
   -- a turn takes tokens
   pub turn_shorter : (next : Cursor) → r.start (ahead ts here) ≡ Some (r.marks, ahead ts behind) → Accords ts (λ x. (r.shown (value x.0), ahead ts x.1)) result (r.read (ahead ts behind)) →
@@ -35,22 +44,22 @@ module _ {X T : Type 0} (ts : List Token) (r : Repetition T) (result : Result (X
       r.advances.shorter (ahead ts here) (r.marks, ahead ts behind) (r.shown k.item, ahead ts next) found k.is_read
 
   -- the list has one more
-  pub turn_kept : (next : Cursor) (total : Read) → r.start (ahead ts here) ≡ Some (r.marks, ahead ts behind) → Accords ts (λ x. (r.shown (value x.0), ahead ts x.1)) result (r.read (ahead ts behind)) →
-      Collects value old new result (Ok next) → with_front (all_shown r old) (many r.start r.read (ahead ts here)) ≡ total → with_front (all_shown r new) (many r.start r.read (ahead ts next)) ≡ total
-  turn_kept next total found gives keeps h =
+  pub turn_kept : (next input : Cursor) → r.start (ahead ts here) ≡ Some (r.marks, ahead ts behind) → Accords ts (λ x. (r.shown (value x.0), ahead ts x.1)) result (r.read (ahead ts behind)) →
+      Collects value old new result (Ok next) → AreRead ts r old input here → AreRead ts r new input next
+  turn_kept next input found gives keeps h =
       let k = kept ts r.shown result value old new next (r.read (ahead ts behind)) gives keeps in
-      pushed r.start r.read r.advances (λ x. r.marks ++ r.shown x) old new k.item (ahead ts here) (r.marks, ahead ts behind) (r.shown k.item, ahead ts next) total k.items found k.is_read refl h
+      pushed r.start r.read r.advances (λ x. r.marks ++ r.shown x) old new k.item (ahead ts here) (r.marks, ahead ts behind) (r.shown k.item, ahead ts next) _ k.items found k.is_read refl h
 
   -- a turn that fails: the loop fails with it
-  pub turn_failed : (stop : Stop) (total : Read) → r.start (ahead ts here) ≡ Some (r.marks, ahead ts behind) → Accords ts (λ x. (r.shown (value x.0), ahead ts x.1)) result (r.read (ahead ts behind)) →
-      Collects value old new result (Err stop) → with_front (all_shown r old) (many r.start r.read (ahead ts here)) ≡ total → Fails ts stop total
-  turn_failed stop total found gives keeps h =
-      ends r.start r.read r.advances ts stop (all_shown r old) (ahead ts here) (r.marks, ahead ts behind) total found (unkept ts r.shown result value old new stop (r.read (ahead ts behind)) gives keeps) h
+  pub turn_failed : (stop : Stop) (input : Cursor) → r.start (ahead ts here) ≡ Some (r.marks, ahead ts behind) → Accords ts (λ x. (r.shown (value x.0), ahead ts x.1)) result (r.read (ahead ts behind)) →
+      Collects value old new result (Err stop) → AreRead ts r old input here → Fails ts stop (many r.start r.read (ahead ts input))
+  turn_failed stop input found gives keeps h =
+      ends r.start r.read r.advances ts stop (all_shown r old) (ahead ts here) (r.marks, ahead ts behind) _ found (unkept ts r.shown result value old new stop (r.read (ahead ts behind)) gives keeps) h
 
 -- behind the last turn
-pub turns_done : {T : Type 0} (ts : List Token) (r : Repetition T) (xs : List T) (here : Cursor) (total : Read) → r.start (ahead ts here) ≡ None → with_front (all_shown r xs) (many r.start r.read (ahead ts here)) ≡ total →
-    total ≡ Ok (all_shown r xs, ahead ts here)
-turns_done ts r xs here total none h = is_done r.start r.read r.advances (all_shown r xs) (ahead ts here) total none h
+pub turns_done : {T : Type 0} (ts : List Token) (r : Repetition T) (xs : List T) (here input : Cursor) → r.start (ahead ts here) ≡ None → AreRead ts r xs input here →
+    many r.start r.read (ahead ts input) ≡ Ok (all_shown r xs, ahead ts here)
+turns_done ts r xs here input none h = is_done r.start r.read r.advances (all_shown r xs) (ahead ts here) _ none h
 
 -- ---- operators, and what stands behind each
 
@@ -67,20 +76,24 @@ operation_start o ls = as_word o.kind (o.at ls)
 abbrev pub operation_shown : {Op X : Type 0} → Operation Op X → Op × X → Out
 operation_shown o p = word (o.kind p.0) ++ o.shown p.1
 
+-- these were read from the one place up to the other
+abbrev pub AreOperationsRead : {Op X : Type 0} → List Token → Operation Op X → List (Op × X) → Cursor → Cursor → Type 0
+AreOperationsRead ts o xs input here = with_front (each (operation_shown o) xs) (many (operation_start o) o.read (ahead ts here)) ≡ many (operation_start o) o.read (ahead ts input)
+
 module _ {Op X : Type 0} (ts : List Token) (o : Operation Op X) (op : Op) (here behind : Cursor) where
   pub operation_shorter : (x : X) (next : Cursor) → Some (op, ahead ts behind) ≡ o.at (ahead ts here) → o.read (ahead ts behind) ≡ Ok (o.shown x, ahead ts next) → length (ahead ts next) < length (ahead ts here)
   operation_shorter x next found e = o.advances.shorter (ahead ts here) (word (o.kind op), ahead ts behind) (o.shown x, ahead ts next) (marked_some o.kind op (ahead ts behind) _ found) e
 
-  pub operation_kept : (old new : List (Op × X)) (x : X) (next : Cursor) (total : Read) → Some (op, ahead ts behind) ≡ o.at (ahead ts here) → o.read (ahead ts behind) ≡ Ok (o.shown x, ahead ts next) →
-      new ≡ old ++ (op, x) ∷ [] → with_front (each (operation_shown o) old) (many (operation_start o) o.read (ahead ts here)) ≡ total → with_front (each (operation_shown o) new) (many (operation_start o) o.read (ahead ts next)) ≡ total
-  operation_kept old new x next total found e items h =
-      pushed (operation_start o) o.read o.advances (operation_shown o) old new (op, x) (ahead ts here) (word (o.kind op), ahead ts behind) (o.shown x, ahead ts next) total items (marked_some o.kind op (ahead ts behind) _ found) e refl h
+  pub operation_kept : (old new : List (Op × X)) (x : X) (next input : Cursor) → Some (op, ahead ts behind) ≡ o.at (ahead ts here) → o.read (ahead ts behind) ≡ Ok (o.shown x, ahead ts next) →
+      new ≡ old ++ (op, x) ∷ [] → AreOperationsRead ts o old input here → AreOperationsRead ts o new input next
+  operation_kept old new x next input found e items h =
+      pushed (operation_start o) o.read o.advances (operation_shown o) old new (op, x) (ahead ts here) (word (o.kind op), ahead ts behind) (o.shown x, ahead ts next) _ items (marked_some o.kind op (ahead ts behind) _ found) e refl h
 
-  pub operation_failed : (old : List (Op × X)) (stop : Stop) (total : Read) → Some (op, ahead ts behind) ≡ o.at (ahead ts here) → Fails ts stop (o.read (ahead ts behind)) →
-      with_front (each (operation_shown o) old) (many (operation_start o) o.read (ahead ts here)) ≡ total → Fails ts stop total
-  operation_failed old stop total found e h =
-      ends (operation_start o) o.read o.advances ts stop (each (operation_shown o) old) (ahead ts here) (word (o.kind op), ahead ts behind) total (marked_some o.kind op (ahead ts behind) _ found) e h
+  pub operation_failed : (old : List (Op × X)) (stop : Stop) (input : Cursor) → Some (op, ahead ts behind) ≡ o.at (ahead ts here) → Fails ts stop (o.read (ahead ts behind)) →
+      AreOperationsRead ts o old input here → Fails ts stop (many (operation_start o) o.read (ahead ts input))
+  operation_failed old stop input found e h =
+      ends (operation_start o) o.read o.advances ts stop (each (operation_shown o) old) (ahead ts here) (word (o.kind op), ahead ts behind) _ (marked_some o.kind op (ahead ts behind) _ found) e h
 
-pub operations_done : {Op X : Type 0} (ts : List Token) (o : Operation Op X) (xs : List (Op × X)) (here : Cursor) (total : Read) → None ≡ o.at (ahead ts here) →
-    with_front (each (operation_shown o) xs) (many (operation_start o) o.read (ahead ts here)) ≡ total → total ≡ Ok (each (operation_shown o) xs, ahead ts here)
-operations_done ts o xs here total none h = is_done (operation_start o) o.read o.advances (each (operation_shown o) xs) (ahead ts here) total (marked_none o.kind _ none) h
+pub operations_done : {Op X : Type 0} (ts : List Token) (o : Operation Op X) (xs : List (Op × X)) (here input : Cursor) → None ≡ o.at (ahead ts here) → AreOperationsRead ts o xs input here →
+    many (operation_start o) o.read (ahead ts input) ≡ Ok (each (operation_shown o) xs, ahead ts here)
+operations_done ts o xs here input none h = is_done (operation_start o) o.read o.advances (each (operation_shown o) xs) (ahead ts here) _ (marked_none o.kind _ none) h

@@ -1,5 +1,4 @@
 use Rattle.std.proofs.Common.{sym, ◌∙◌, arith, refl}
-use Rattle.std.proofs.lemmas.Result.{err_from_is_err_and}
 use Rattle.ob_scan.specs.declared.kind.Kind.TheVariants as kinds
 use Rattle.ob_tree.specs.Declaring.{procedure_outline, declarations_outline}
 use Rattle.ob_parse.specs.Front.{is_word}
@@ -12,7 +11,7 @@ use Rattle.ob_tree.proofs.NameLayers.{names_made}
 use Rattle.ob_parse.proofs.Stars.{star_read}
 use Rattle.ob_parse.proofs.Boxes.{gives_boxed}
 use Rattle.ob_parse.proofs.Repetitions.{procedures}
-use Rattle.ob_parse.proofs.Turns.{turn_shorter, turn_kept, turn_failed, turns_done}
+use Rattle.ob_parse.proofs.Turns.{stopped, turn_shorter, turn_kept, turn_failed, turns_done}
 use Rattle.ob_parse.proofs.declarations.+declarations.Goals as goal
 
 pub procedures-more-smaller : goal.procedures-more-smaller
@@ -25,8 +24,7 @@ procedures-more-preserved t c =
 
 pub procedures-returns-in_err-here : goal.procedures-returns-in_err-here
 procedures-returns-in_err-here t c =
-    let p = err_from_is_err_and c.from_residual.result c.from_residual.ensures.1 in
-    rw (p.1, p.2) (turn_failed c.args.tokens.now (procedures c.args.depth) c.ended_procedure.result (λ b. b.value) c.more.here c.more.here _ _ c.in_err-here.field-0.0 _ (has_begun (is_word kinds.Procedure) _ (sym c.is_at.ensures ∙ c.more-test.true)) c.ended_procedure.ensures c.in_err-here.ensures c.more.invariant)
+    stopped _ _ _ _ _ c.from_residual.ensures.1 (turn_failed c.args.tokens.now (procedures c.args.depth) c.ended_procedure.result (λ b. b.value) c.more.here c.more.here _ _ c.in_err-here.field-0.0 _ (has_begun (is_word kinds.Procedure) _ (sym c.is_at.ensures ∙ c.more-test.true)) c.ended_procedure.ensures c.in_err-here.ensures c.more.invariant)
 
 pub procedures-returns : goal.procedures-returns
 procedures-returns t c =

@@ -1,12 +1,7 @@
-use Rattle.std.proofs.Common.{◌≡◌, ◌++◌, ◌+◌, ◌*◌, length}
-use Rattle.ob_scan.specs.declared.kind.Kind.TheVariants as kinds
-use Rattle.ob_tree.specs.Marks.{word, each}
-use Rattle.ob_tree.specs.Declaring.{procedure_outline}
-use Rattle.ob_parse.specs.Front.{is_word}
-use Rattle.ob_parse.specs.Forms.{many, begins}
+use Rattle.std.proofs.Common.{◌+◌, ◌*◌, length}
 use Rattle.ob_parse.specs.Accords.{ahead}
-use Rattle.ob_parse.specs.ReadModules.{with_semicolon, procedure_at}
-use Rattle.ob_parse.proofs.Loops.{with_front}
+use Rattle.ob_parse.proofs.Repetitions.{procedures}
+use Rattle.ob_parse.proofs.Turns.{AreRead}
 use Rattle.ob_parse.proofs.declarations.+declarations.Given as goal
 
 abbrev pub decreases-procedure : goal.decreases-procedure
@@ -28,9 +23,7 @@ abbrev pub decreases-procedure_within : goal.decreases-procedure_within
 decreases-procedure_within l = 16 * l.depth + 5
 
 abbrev pub invariant-procedures-more : goal.invariant-procedures-more
-invariant-procedures-more l =
-    with_front (each (λ p. procedure_outline p ++ word kinds.Semicolon) l.declared.items) (many (begins (is_word kinds.Procedure)) (with_semicolon (procedure_at l.depth)) (ahead l.fn.tokens l.here))
-    ≡ many (begins (is_word kinds.Procedure)) (with_semicolon (procedure_at l.depth)) (ahead l.fn.tokens l.fn.input)
+invariant-procedures-more l = AreRead l.fn.tokens (procedures l.depth) l.declared.items l.fn.input l.here
 
 abbrev pub decreases-procedures-more : goal.decreases-procedures-more
 decreases-procedures-more l = length (ahead l.fn.tokens l.here)

@@ -1,9 +1,8 @@
 use Rattle.std.proofs.Common.{sym, ◌∙◌}
-use Rattle.std.proofs.lemmas.Result.{err_from_is_err_and}
 use Rattle.ob_parse.specs.ReadModules.{is_identifier}
 use Rattle.ob_parse.proofs.Loops.{has_begun, has_not_begun}
 use Rattle.ob_parse.proofs.Repetitions.{constants}
-use Rattle.ob_parse.proofs.Turns.{turn_shorter, turn_kept, turn_failed, turns_done}
+use Rattle.ob_parse.proofs.Turns.{stopped, turn_shorter, turn_kept, turn_failed, turns_done}
 use Rattle.ob_parse.proofs.declarations.constants.Goals as goal
 
 pub more-smaller : goal.more-smaller
@@ -16,8 +15,7 @@ more-preserved c =
 
 pub returns-in_err-here : goal.returns-in_err-here
 returns-in_err-here c =
-    let p = err_from_is_err_and c.from_residual.result c.from_residual.ensures.1 in
-    rw (p.1, p.2) (turn_failed c.args.tokens.now (constants c.args.depth) c.ended_constant.result (λ x. x) c.more.here c.more.here _ _ c.in_err-here.field-0.0 _ (has_begun is_identifier _ (sym c.begins_declaration.ensures ∙ c.more-test.true)) c.ended_constant.ensures c.in_err-here.ensures c.more.invariant)
+    stopped _ _ _ _ _ c.from_residual.ensures.1 (turn_failed c.args.tokens.now (constants c.args.depth) c.ended_constant.result (λ x. x) c.more.here c.more.here _ _ c.in_err-here.field-0.0 _ (has_begun is_identifier _ (sym c.begins_declaration.ensures ∙ c.more-test.true)) c.ended_constant.ensures c.in_err-here.ensures c.more.invariant)
 
 pub returns : goal.returns
 returns c =

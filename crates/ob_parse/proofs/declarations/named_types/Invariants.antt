@@ -1,18 +1,11 @@
-use Rattle.std.proofs.Common.{◌≡◌, ◌++◌, length}
-use Rattle.ob_scan.specs.declared.kind.Kind.TheVariants as kinds
-use Rattle.ob_tree.specs.Marks.{word, each}
-use Rattle.ob_tree.specs.Declaring.{type_decl_outline}
-use Rattle.ob_parse.specs.Forms.{many, begins}
+use Rattle.std.proofs.Common.{length}
 use Rattle.ob_parse.specs.Accords.{ahead}
-use Rattle.ob_parse.specs.ReadTypes.{type_at}
-use Rattle.ob_parse.specs.ReadModules.{is_identifier, with_semicolon, type_decl_with}
-use Rattle.ob_parse.proofs.Loops.{with_front}
+use Rattle.ob_parse.proofs.Repetitions.{named_types}
+use Rattle.ob_parse.proofs.Turns.{AreRead}
 use Rattle.ob_parse.proofs.declarations.named_types.Given as goal
 
 abbrev pub invariant-more : goal.invariant-more
-invariant-more l =
-    with_front (each (λ d. type_decl_outline d ++ word kinds.Semicolon) l.declared.items) (many (begins is_identifier) (with_semicolon (type_decl_with (type_at l.depth))) (ahead l.fn.tokens l.here))
-    ≡ many (begins is_identifier) (with_semicolon (type_decl_with (type_at l.depth))) (ahead l.fn.tokens l.fn.input)
+invariant-more l = AreRead l.fn.tokens (named_types l.depth) l.declared.items l.fn.input l.here
 
 abbrev pub decreases-more : goal.decreases-more
 decreases-more l = length (ahead l.fn.tokens l.here)

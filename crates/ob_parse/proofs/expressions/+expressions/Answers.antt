@@ -1,5 +1,4 @@
 use Rattle.std.proofs.Common.{refl, sym, ap, ◌∙◌, arith}
-use Rattle.std.proofs.lemmas.Result.{err_from_is_err_and}
 use Rattle.ob_scan.specs.declared.kind.Kind.TheVariants as kinds
 use Rattle.ob_tree.specs.declared.token.Leaf.TheVariants as leafs
 use Rattle.ob_tree.specs.Expressions.{expr_outline, element_outline, element_list_outline, expr_list_outline, sum_outline}
@@ -11,7 +10,7 @@ use Rattle.ob_tree.proofs.ExpressionLayers.{expressions_made, sum_made, term_out
 use Rattle.ob_parse.proofs.Boxes.{gives_boxed}
 use Rattle.ob_parse.proofs.Somes.{gives_some, not_closed}
 use Rattle.ob_parse.proofs.Repetitions.{expressions, elements, selectors, factor_operations, term_operations}
-use Rattle.ob_parse.proofs.Turns.{turn_shorter, turn_kept, turn_failed, turns_done, operation_shorter, operation_kept, operation_failed, operations_done}
+use Rattle.ob_parse.proofs.Turns.{stopped, turn_shorter, turn_kept, turn_failed, turns_done, operation_shorter, operation_kept, operation_failed, operations_done}
 use Rattle.ob_parse.proofs.Fronts.{leaf_stands, word_stands, factor_seen, selector_seen}
 use Rattle.ob_parse.proofs.expressions.+expressions.Goals as goal
 
@@ -24,8 +23,7 @@ more_factors-more-preserved t c =
 
 pub more_factors-returns-in_err-next : goal.more_factors-returns-in_err-next
 more_factors-returns-in_err-next t c =
-    let p = err_from_is_err_and c.from_residual.result c.from_residual.ensures.1 in
-    rw (p.1, p.2) (operation_failed c.args.tokens.now (factor_operations c.args.depth) c.in-Some.operator c.more.here c.in-Some.after c.more.rest.items c.in_err-next.field-0.0 _ c.in-Some.ensures c.in_err-next.ensures c.more.invariant)
+    stopped _ _ _ _ _ c.from_residual.ensures.1 (operation_failed c.args.tokens.now (factor_operations c.args.depth) c.in-Some.operator c.more.here c.in-Some.after c.more.rest.items c.in_err-next.field-0.0 _ c.in-Some.ensures c.in_err-next.ensures c.more.invariant)
 
 pub more_factors-returns : goal.more_factors-returns
 more_factors-returns t c =
@@ -40,8 +38,7 @@ more_terms-more-preserved t c =
 
 pub more_terms-returns-in_err-next : goal.more_terms-returns-in_err-next
 more_terms-returns-in_err-next t c =
-    let p = err_from_is_err_and c.from_residual.result c.from_residual.ensures.1 in
-    rw (p.1, p.2) (operation_failed c.args.tokens.now (term_operations c.args.depth) c.in-Some.operator c.more.here c.in-Some.after c.more.rest.items c.in_err-next.field-0.0 _ c.in-Some.ensures c.in_err-next.ensures c.more.invariant)
+    stopped _ _ _ _ _ c.from_residual.ensures.1 (operation_failed c.args.tokens.now (term_operations c.args.depth) c.in-Some.operator c.more.here c.in-Some.after c.more.rest.items c.in_err-next.field-0.0 _ c.in-Some.ensures c.in_err-next.ensures c.more.invariant)
 
 pub more_terms-returns : goal.more_terms-returns
 more_terms-returns t c =
@@ -57,8 +54,7 @@ more_expressions-more-preserved t c =
 
 pub more_expressions-returns-in_err-here : goal.more_expressions-returns-in_err-here
 more_expressions-returns-in_err-here t c =
-    let p = err_from_is_err_and c.from_residual.result c.from_residual.ensures.1 in
-    rw (p.1, p.2) (turn_failed c.args.tokens.now (expressions c.args.depth) c.expression.result (λ b. b.value) c.more.here c.in-Some.after _ _ c.in_err-here.field-0.0 _ (sym c.in-Some.ensures) c.expression.ensures c.in_err-here.ensures c.more.invariant)
+    stopped _ _ _ _ _ c.from_residual.ensures.1 (turn_failed c.args.tokens.now (expressions c.args.depth) c.expression.result (λ b. b.value) c.more.here c.in-Some.after _ _ c.in_err-here.field-0.0 _ (sym c.in-Some.ensures) c.expression.ensures c.in_err-here.ensures c.more.invariant)
 
 pub more_expressions-returns : goal.more_expressions-returns
 more_expressions-returns t c =
@@ -74,8 +70,7 @@ more_elements-more-preserved t c =
 
 pub more_elements-returns-in_err-here : goal.more_elements-returns-in_err-here
 more_elements-returns-in_err-here t c =
-    let p = err_from_is_err_and c.from_residual.result c.from_residual.ensures.1 in
-    rw (p.1, p.2) (turn_failed c.args.tokens.now (elements c.args.depth) c.element.result (λ b. b.value) c.more.here c.in-Some.after _ _ c.in_err-here.field-0.0 _ (sym c.in-Some.ensures) c.element.ensures c.in_err-here.ensures c.more.invariant)
+    stopped _ _ _ _ _ c.from_residual.ensures.1 (turn_failed c.args.tokens.now (elements c.args.depth) c.element.result (λ b. b.value) c.more.here c.in-Some.after _ _ c.in_err-here.field-0.0 _ (sym c.in-Some.ensures) c.element.ensures c.in_err-here.ensures c.more.invariant)
 
 pub more_elements-returns : goal.more_elements-returns
 more_elements-returns t c =
@@ -91,8 +86,7 @@ more_selectors-more-preserved t c =
 
 pub more_selectors-returns-in_err-here : goal.more_selectors-returns-in_err-here
 more_selectors-returns-in_err-here t c =
-    let p = err_from_is_err_and c.from_residual.result c.from_residual.ensures.1 in
-    rw (p.1, p.2) (turn_failed c.args.tokens.now (selectors c.args.depth) c.selector.result (λ x. x) c.more.here c.more.here _ _ c.in_err-here.field-0.0 _ (has_begun selector_first _ (sym c.begins_selector.ensures ∙ c.more-test.true)) c.selector.ensures c.in_err-here.ensures c.more.invariant)
+    stopped _ _ _ _ _ c.from_residual.ensures.1 (turn_failed c.args.tokens.now (selectors c.args.depth) c.selector.result (λ x. x) c.more.here c.more.here _ _ c.in_err-here.field-0.0 _ (has_begun selector_first _ (sym c.begins_selector.ensures ∙ c.more-test.true)) c.selector.ensures c.in_err-here.ensures c.more.invariant)
 
 pub more_selectors-returns : goal.more_selectors-returns
 more_selectors-returns t c =

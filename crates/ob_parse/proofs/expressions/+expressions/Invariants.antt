@@ -1,11 +1,7 @@
-use Rattle.std.proofs.Common.{◌≡◌, ◌++◌, ◌+◌, ◌*◌, length}
-use Rattle.ob_scan.specs.declared.kind.Kind.TheVariants as kinds
-use Rattle.ob_tree.specs.Marks.{word, each, each_after}
-use Rattle.ob_tree.specs.Expressions.{mul_kind, add_kind, expr_outline, term_outline, factor_outline, element_outline, selector_outline}
-use Rattle.ob_parse.specs.Forms.{many, begins, accept_at}
+use Rattle.std.proofs.Common.{◌+◌, ◌*◌, length}
 use Rattle.ob_parse.specs.Accords.{ahead}
-use Rattle.ob_parse.specs.ReadExpressions.{mul_start, add_start, selector_first, element_with, selector_with, factor_at, term_at, expr_at}
-use Rattle.ob_parse.proofs.Loops.{with_front}
+use Rattle.ob_parse.proofs.Repetitions.{elements, expressions, factor_operations, selectors, term_operations}
+use Rattle.ob_parse.proofs.Turns.{AreOperationsRead, AreRead}
 use Rattle.ob_parse.proofs.expressions.+expressions.Given as goal
 
 abbrev pub decreases-expression : goal.decreases-expression
@@ -81,41 +77,31 @@ abbrev pub decreases-compared : goal.decreases-compared
 decreases-compared l = 16 * l.depth + 14
 
 abbrev pub invariant-more_expressions-more : goal.invariant-more_expressions-more
-invariant-more_expressions-more l =
-    with_front (each_after kinds.Comma expr_outline l.rest.items) (many (accept_at kinds.Comma) (expr_at l.depth) (ahead l.fn.tokens l.here)) ≡
-    many (accept_at kinds.Comma) (expr_at l.depth) (ahead l.fn.tokens l.fn.input)
+invariant-more_expressions-more l = AreRead l.fn.tokens (expressions l.depth) l.rest.items l.fn.input l.here
 
 abbrev pub decreases-more_expressions-more : goal.decreases-more_expressions-more
 decreases-more_expressions-more l = length (ahead l.fn.tokens l.here)
 
 abbrev pub invariant-more_terms-more : goal.invariant-more_terms-more
-invariant-more_terms-more l =
-    with_front (each (λ p. word (add_kind p.0) ++ term_outline p.1) l.rest.items) (many add_start (term_at l.depth) (ahead l.fn.tokens l.here)) ≡
-    many add_start (term_at l.depth) (ahead l.fn.tokens l.fn.input)
+invariant-more_terms-more l = AreOperationsRead l.fn.tokens (term_operations l.depth) l.rest.items l.fn.input l.here
 
 abbrev pub decreases-more_terms-more : goal.decreases-more_terms-more
 decreases-more_terms-more l = length (ahead l.fn.tokens l.here)
 
 abbrev pub invariant-more_factors-more : goal.invariant-more_factors-more
-invariant-more_factors-more l =
-    with_front (each (λ p. word (mul_kind p.0) ++ factor_outline p.1) l.rest.items) (many mul_start (factor_at l.depth) (ahead l.fn.tokens l.here)) ≡
-    many mul_start (factor_at l.depth) (ahead l.fn.tokens l.fn.input)
+invariant-more_factors-more l = AreOperationsRead l.fn.tokens (factor_operations l.depth) l.rest.items l.fn.input l.here
 
 abbrev pub decreases-more_factors-more : goal.decreases-more_factors-more
 decreases-more_factors-more l = length (ahead l.fn.tokens l.here)
 
 abbrev pub invariant-more_elements-more : goal.invariant-more_elements-more
-invariant-more_elements-more l =
-    with_front (each_after kinds.Comma element_outline l.rest.items) (many (accept_at kinds.Comma) (element_with (expr_at l.depth)) (ahead l.fn.tokens l.here)) ≡
-    many (accept_at kinds.Comma) (element_with (expr_at l.depth)) (ahead l.fn.tokens l.fn.input)
+invariant-more_elements-more l = AreRead l.fn.tokens (elements l.depth) l.rest.items l.fn.input l.here
 
 abbrev pub decreases-more_elements-more : goal.decreases-more_elements-more
 decreases-more_elements-more l = length (ahead l.fn.tokens l.here)
 
 abbrev pub invariant-more_selectors-more : goal.invariant-more_selectors-more
-invariant-more_selectors-more l =
-    with_front (each selector_outline l.selectors.items) (many (begins selector_first) (selector_with (expr_at l.depth)) (ahead l.fn.tokens l.here)) ≡
-    many (begins selector_first) (selector_with (expr_at l.depth)) (ahead l.fn.tokens l.fn.input)
+invariant-more_selectors-more l = AreRead l.fn.tokens (selectors l.depth) l.selectors.items l.fn.input l.here
 
 abbrev pub decreases-more_selectors-more : goal.decreases-more_selectors-more
 decreases-more_selectors-more l = length (ahead l.fn.tokens l.here)

@@ -1,17 +1,11 @@
-use Rattle.std.proofs.Common.{◌≡◌, length}
-use Rattle.ob_scan.specs.declared.kind.Kind.TheVariants as kinds
-use Rattle.ob_tree.specs.Marks.{each_after}
-use Rattle.ob_tree.specs.Types.{section_outline}
-use Rattle.ob_parse.specs.Forms.{many, accept_at}
+use Rattle.std.proofs.Common.{length}
 use Rattle.ob_parse.specs.Accords.{ahead}
-use Rattle.ob_parse.specs.ReadTypes.{section_at}
-use Rattle.ob_parse.proofs.Loops.{with_front}
+use Rattle.ob_parse.proofs.Repetitions.{sections}
+use Rattle.ob_parse.proofs.Turns.{AreRead}
 use Rattle.ob_parse.proofs.parameters.more_sections.Given as goal
 
 abbrev pub invariant-more : goal.invariant-more
-invariant-more l =
-    with_front (each_after kinds.Semicolon section_outline l.rest.items) (many (accept_at kinds.Semicolon) section_at (ahead l.fn.tokens l.here))
-    ≡ many (accept_at kinds.Semicolon) section_at (ahead l.fn.tokens l.fn.input)
+invariant-more l = AreRead l.fn.tokens sections l.rest.items l.fn.input l.here
 
 abbrev pub decreases-more : goal.decreases-more
 decreases-more l = length (ahead l.fn.tokens l.here)

@@ -1,11 +1,11 @@
 use Rattle.std.proofs.Common.{◌<◌, length, sym, ap, ◌∙◌, arith}
-use Rattle.std.proofs.lemmas.Result.{err_from_is_err_and}
 use Rattle.ob_scan.specs.declared.kind.Kind.TheVariants as kinds
 use Rattle.ob_tree.specs.Marks.{times}
 use Rattle.ob_parse.specs.Forms.{many, accept_at, expect_at}
 use Rattle.ob_parse.specs.Accords.{ahead, skipped}
 use Rattle.ob_parse.proofs.Loops.{is_done}
 use Rattle.ob_parse.proofs.LoopEnds.{ends}
+use Rattle.ob_parse.proofs.Turns.{stopped}
 use Rattle.ob_parse.proofs.Arrays.{array_of, array_advances, fewer, one_more, few_ahead}
 use Rattle.ob_parse.proofs.parameters.open_arrays.Goals as goal
 
@@ -28,8 +28,7 @@ more-preserved c =
 
 pub returns-in_err-here : goal.returns-in_err-here
 returns-in_err-here c =
-    let p = err_from_is_err_and c.from_residual.result c.from_residual.ensures.1 in
-    rw (p.1, p.2) (ends (accept_at kinds.Array) (expect_at kinds.Of) array_advances c.args.tokens.now c.in_err-here.field-0.0 (times c.more.count array_of) (ahead c.args.tokens.now c.more.here) _
+    stopped _ _ _ _ _ c.from_residual.ensures.1 (ends (accept_at kinds.Array) (expect_at kinds.Of) array_advances c.args.tokens.now c.in_err-here.field-0.0 (times c.more.count array_of) (ahead c.args.tokens.now c.more.here) _
     (many (accept_at kinds.Array) (expect_at kinds.Of) (ahead c.args.tokens.now c.args.input)) (sym c.in-Some.ensures) c.in_err-here.ensures c.more.invariant.0)
 
 pub returns : goal.returns

@@ -1,5 +1,4 @@
 use Rattle.std.proofs.Common.{sym, ap, ◌∙◌, arith, refl}
-use Rattle.std.proofs.lemmas.Result.{err_from_is_err_and}
 use Rattle.ob_scan.specs.declared.kind.Kind.TheVariants as kinds
 use Rattle.ob_tree.specs.declared.token.Leaf.TheVariants as leafs
 use Rattle.ob_tree.specs.Statements.{branch_outline, case_outline, stmt_outline, block_outline}
@@ -10,7 +9,7 @@ use Rattle.ob_parse.proofs.StatementSteps.{made}
 use Rattle.ob_parse.proofs.Boxes.{gives_boxed}
 use Rattle.ob_parse.proofs.Somes.{gives_some}
 use Rattle.ob_parse.proofs.Repetitions.{statements, branches, cases}
-use Rattle.ob_parse.proofs.Turns.{turn_shorter, turn_kept, turn_failed, turns_done}
+use Rattle.ob_parse.proofs.Turns.{stopped, turn_shorter, turn_kept, turn_failed, turns_done}
 use Rattle.ob_parse.specs.ReadExpressions.{expr_at}
 use Rattle.ob_parse.proofs.Loops.{has_begun, has_not_begun}
 use Rattle.ob_tree.proofs.StatementLayers.{if_made, while_made, repeat_made, case_made, block_made, branch_made, labelled_made, nothing_made}
@@ -27,8 +26,7 @@ more_statements-more-preserved t c =
 
 pub more_statements-returns-in_err-here : goal.more_statements-returns-in_err-here
 more_statements-returns-in_err-here t c =
-    let p = err_from_is_err_and c.from_residual.result c.from_residual.ensures.1 in
-    rw (p.1, p.2) (turn_failed c.args.tokens.now (statements c.args.depth) c.statement.result (λ b. b.value) c.more.here c.in-Some.after _ _ c.in_err-here.field-0.0 _ (sym c.in-Some.ensures) c.statement.ensures c.in_err-here.ensures c.more.invariant)
+    stopped _ _ _ _ _ c.from_residual.ensures.1 (turn_failed c.args.tokens.now (statements c.args.depth) c.statement.result (λ b. b.value) c.more.here c.in-Some.after _ _ c.in_err-here.field-0.0 _ (sym c.in-Some.ensures) c.statement.ensures c.in_err-here.ensures c.more.invariant)
 
 pub more_statements-returns : goal.more_statements-returns
 more_statements-returns t c =
@@ -44,8 +42,7 @@ more_branches-more-preserved t c =
 
 pub more_branches-returns-in_err-here : goal.more_branches-returns-in_err-here
 more_branches-returns-in_err-here t c =
-    let p = err_from_is_err_and c.from_residual.result c.from_residual.ensures.1 in
-    rw (p.1, p.2) (turn_failed c.args.tokens.now (branches c.args.depth c.args.keyword) c.branch-alloc.result (λ b. b.value) c.more.here c.in-Some.after _ _ c.in_err-here.field-0.0 _ (sym c.in-Some.ensures) c.branch-alloc.ensures c.in_err-here.ensures c.more.invariant)
+    stopped _ _ _ _ _ c.from_residual.ensures.1 (turn_failed c.args.tokens.now (branches c.args.depth c.args.keyword) c.branch-alloc.result (λ b. b.value) c.more.here c.in-Some.after _ _ c.in_err-here.field-0.0 _ (sym c.in-Some.ensures) c.branch-alloc.ensures c.in_err-here.ensures c.more.invariant)
 
 pub more_branches-returns : goal.more_branches-returns
 more_branches-returns t c =
@@ -61,8 +58,7 @@ more_cases-more-preserved t c =
 
 pub more_cases-returns-in_err-here : goal.more_cases-returns-in_err-here
 more_cases-returns-in_err-here t c =
-    let p = err_from_is_err_and c.from_residual.result c.from_residual.ensures.1 in
-    rw (p.1, p.2) (turn_failed c.args.tokens.now (cases c.args.depth) c.case.result (λ b. b.value) c.more.here c.in-Some.after _ _ c.in_err-here.field-0.0 _ (sym c.in-Some.ensures) c.case.ensures c.in_err-here.ensures c.more.invariant)
+    stopped _ _ _ _ _ c.from_residual.ensures.1 (turn_failed c.args.tokens.now (cases c.args.depth) c.case.result (λ b. b.value) c.more.here c.in-Some.after _ _ c.in_err-here.field-0.0 _ (sym c.in-Some.ensures) c.case.ensures c.in_err-here.ensures c.more.invariant)
 
 pub more_cases-returns : goal.more_cases-returns
 more_cases-returns t c =

@@ -1,12 +1,7 @@
-use Rattle.std.proofs.Common.{◌≡◌, ◌+◌, ◌*◌, length}
-use Rattle.ob_scan.specs.declared.kind.Kind.TheVariants as kinds
-use Rattle.ob_tree.specs.Marks.{each_after}
-use Rattle.ob_tree.specs.Statements.{branch_outline, case_outline, stmt_outline}
-use Rattle.ob_parse.specs.Forms.{accept_at, many}
+use Rattle.std.proofs.Common.{◌+◌, ◌*◌, length}
 use Rattle.ob_parse.specs.Accords.{ahead}
-use Rattle.ob_parse.specs.ReadExpressions.{expr_at}
-use Rattle.ob_parse.specs.ReadStatements.{block_at, branch_with, case_with, statement_at}
-use Rattle.ob_parse.proofs.Loops.{with_front}
+use Rattle.ob_parse.proofs.Repetitions.{branches, cases, statements}
+use Rattle.ob_parse.proofs.Turns.{AreRead}
 use Rattle.ob_parse.proofs.statements.+statements.Given as goal
 
 abbrev pub decreases-statement : goal.decreases-statement
@@ -61,25 +56,19 @@ abbrev pub decreases-statement_within : goal.decreases-statement_within
 decreases-statement_within l = 16 * l.depth + 12
 
 abbrev pub invariant-more_statements-more : goal.invariant-more_statements-more
-invariant-more_statements-more l =
-    with_front (each_after kinds.Semicolon stmt_outline l.rest.items) (many (accept_at kinds.Semicolon) (statement_at l.depth) (ahead l.fn.tokens l.here))
-    ≡ many (accept_at kinds.Semicolon) (statement_at l.depth) (ahead l.fn.tokens l.fn.input)
+invariant-more_statements-more l = AreRead l.fn.tokens (statements l.depth) l.rest.items l.fn.input l.here
 
 abbrev pub decreases-more_statements-more : goal.decreases-more_statements-more
 decreases-more_statements-more l = length (ahead l.fn.tokens l.here)
 
 abbrev pub invariant-more_branches-more : goal.invariant-more_branches-more
-invariant-more_branches-more l =
-    with_front (each_after kinds.Elsif (λ b. branch_outline b l.keyword) l.rest.items) (many (accept_at kinds.Elsif) (branch_with (expr_at l.depth) (block_at l.depth) l.keyword) (ahead l.fn.tokens l.here))
-    ≡ many (accept_at kinds.Elsif) (branch_with (expr_at l.depth) (block_at l.depth) l.keyword) (ahead l.fn.tokens l.fn.input)
+invariant-more_branches-more l = AreRead l.fn.tokens (branches l.depth l.keyword) l.rest.items l.fn.input l.here
 
 abbrev pub decreases-more_branches-more : goal.decreases-more_branches-more
 decreases-more_branches-more l = length (ahead l.fn.tokens l.here)
 
 abbrev pub invariant-more_cases-more : goal.invariant-more_cases-more
-invariant-more_cases-more l =
-    with_front (each_after kinds.Bar case_outline l.rest.items) (many (accept_at kinds.Bar) (case_with (block_at l.depth)) (ahead l.fn.tokens l.here))
-    ≡ many (accept_at kinds.Bar) (case_with (block_at l.depth)) (ahead l.fn.tokens l.fn.input)
+invariant-more_cases-more l = AreRead l.fn.tokens (cases l.depth) l.rest.items l.fn.input l.here
 
 abbrev pub decreases-more_cases-more : goal.decreases-more_cases-more
 decreases-more_cases-more l = length (ahead l.fn.tokens l.here)

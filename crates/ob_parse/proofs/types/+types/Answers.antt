@@ -1,5 +1,4 @@
 use Rattle.std.proofs.Common.{sym, ap, ◌∙◌, arith, refl}
-use Rattle.std.proofs.lemmas.Result.{err_from_is_err_and}
 use Rattle.ob_scan.specs.declared.kind.Kind.TheVariants as kinds
 use Rattle.ob_tree.specs.declared.token.Leaf.TheVariants as leafs
 use Rattle.ob_tree.specs.declared.declaration.Record.{roll-Record}
@@ -11,7 +10,7 @@ use Rattle.ob_tree.proofs.TypeLayers.{types_made, array_made, pointer_made, reco
 use Rattle.ob_parse.proofs.Boxes.{gives_boxed}
 use Rattle.ob_parse.proofs.Somes.{gives_some, not_closed}
 use Rattle.ob_parse.proofs.Repetitions.{field_lists}
-use Rattle.ob_parse.proofs.Turns.{turn_shorter, turn_kept, turn_failed, turns_done}
+use Rattle.ob_parse.proofs.Turns.{stopped, turn_shorter, turn_kept, turn_failed, turns_done}
 use Rattle.ob_parse.specs.ReadExpressions.{expr_at}
 use Rattle.ob_parse.proofs.Fronts.{leaf_stands, word_stands, type_seen}
 use Rattle.ob_parse.proofs.types.+types.Goals as goal
@@ -26,8 +25,7 @@ more_fields-more-preserved t c =
 
 pub more_fields-returns-in_err-here : goal.more_fields-returns-in_err-here
 more_fields-returns-in_err-here t c =
-    let p = err_from_is_err_and c.from_residual.result c.from_residual.ensures.1 in
-    rw (p.1, p.2) (turn_failed c.args.tokens.now (field_lists c.args.depth) c.field_list.result (λ b. b.value) c.more.here c.in-Some.after _ _ c.in_err-here.field-0.0 _ (sym c.in-Some.ensures) c.field_list.ensures c.in_err-here.ensures c.more.invariant)
+    stopped _ _ _ _ _ c.from_residual.ensures.1 (turn_failed c.args.tokens.now (field_lists c.args.depth) c.field_list.result (λ b. b.value) c.more.here c.in-Some.after _ _ c.in_err-here.field-0.0 _ (sym c.in-Some.ensures) c.field_list.ensures c.in_err-here.ensures c.more.invariant)
 
 pub more_fields-returns : goal.more_fields-returns
 more_fields-returns t c =

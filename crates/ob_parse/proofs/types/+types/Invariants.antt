@@ -1,12 +1,7 @@
-use Rattle.std.proofs.Common.{◌≡◌, ◌+◌, ◌*◌, length}
-use Rattle.ob_scan.specs.declared.kind.Kind.TheVariants as kinds
-use Rattle.ob_tree.specs.Constructs as constructs
-use Rattle.ob_tree.specs.Marks.{construct, each_after}
-use Rattle.ob_tree.specs.Types.{var_outline}
-use Rattle.ob_parse.specs.Forms.{many, node}
+use Rattle.std.proofs.Common.{◌+◌, ◌*◌, length}
 use Rattle.ob_parse.specs.Accords.{ahead}
-use Rattle.ob_parse.specs.ReadTypes.{field_start, var_with, type_at}
-use Rattle.ob_parse.proofs.Loops.{with_front}
+use Rattle.ob_parse.proofs.Repetitions.{field_lists}
+use Rattle.ob_parse.proofs.Turns.{AreRead}
 use Rattle.ob_parse.proofs.types.+types.Given as goal
 
 abbrev pub decreases-type_form : goal.decreases-type_form
@@ -31,9 +26,7 @@ abbrev pub decreases-record : goal.decreases-record
 decreases-record l = 16 * l.depth + 6
 
 abbrev pub invariant-more_fields-more : goal.invariant-more_fields-more
-invariant-more_fields-more l =
-    with_front (each_after kinds.Semicolon (λ v. construct constructs.FieldList (var_outline v)) l.rest.items) (many field_start (node constructs.FieldList (var_with (type_at l.depth))) (ahead l.fn.tokens l.here))
-    ≡ many field_start (node constructs.FieldList (var_with (type_at l.depth))) (ahead l.fn.tokens l.fn.input)
+invariant-more_fields-more l = AreRead l.fn.tokens (field_lists l.depth) l.rest.items l.fn.input l.here
 
 abbrev pub decreases-more_fields-more : goal.decreases-more_fields-more
 decreases-more_fields-more l = length (ahead l.fn.tokens l.here)

@@ -1,9 +1,8 @@
 use Rattle.std.proofs.Common.{sym, ap, ◌∙◌}
-use Rattle.std.proofs.lemmas.Result.{err_from_is_err_and}
 use Rattle.ob_scan.specs.declared.kind.Kind.TheVariants as kinds
 use Rattle.ob_parse.specs.Accords.{skipped}
 use Rattle.ob_parse.proofs.Repetitions.{declared_names}
-use Rattle.ob_parse.proofs.Turns.{turn_shorter, turn_kept, turn_failed, turns_done}
+use Rattle.ob_parse.proofs.Turns.{stopped, turn_shorter, turn_kept, turn_failed, turns_done}
 use Rattle.ob_parse.proofs.types.more_identdefs.Goals as goal
 
 pub more-smaller : goal.more-smaller
@@ -16,8 +15,7 @@ more-preserved c =
 
 pub returns-in_err-here : goal.returns-in_err-here
 returns-in_err-here c =
-    let p = err_from_is_err_and c.from_residual.result c.from_residual.ensures.1 in
-    rw (p.1, p.2) (turn_failed c.args.tokens.now declared_names c.identdef.result (λ x. x) c.more.here c.in-Some.after _ _ c.in_err-here.field-0.0 _ (sym c.in-Some.ensures) c.identdef.ensures c.in_err-here.ensures c.more.invariant)
+    stopped _ _ _ _ _ c.from_residual.ensures.1 (turn_failed c.args.tokens.now declared_names c.identdef.result (λ x. x) c.more.here c.in-Some.after _ _ c.in_err-here.field-0.0 _ (sym c.in-Some.ensures) c.identdef.ensures c.in_err-here.ensures c.more.invariant)
 
 pub returns : goal.returns
 returns c =
