@@ -5,17 +5,13 @@ use Rattle.std.specs.Fork.{slice_chunk}
 use Rattle.std.specs.declared.alloc.Global.{Global}
 use Rattle.std.proofs.Math.Nat.{suc-mul, zero-mul}
 use Rattle.std.proofs.Math.Seq.{drop-cons, drop-nil}
-use Rattle.std.proofs.lemmas.List.{append-nil, length-drop, take-append-drop}
+use Rattle.std.proofs.lemmas.List.{append-nil, length-drop, nil_from_length, take-append-drop}
 use Rattle.oscip_tree.specs.Files.{AreAllOf, AreOfPieces, HasKept, IsFaultOfFiles, IsReading}
 use Rattle.oscip_tree.specs.Trees.{AreAccepted, IsAccepted, IsFileFault, IsFirstFault, IsTreeFault, ModuleFile}
 use Rattle.oscip_tree.specs.declared.source.Source.{Source}
 use Rattle.oscip_tree.specs.declared.tree_fault.TreeFault.{TreeFault}
 use Rattle.oscip_tree.specs.declared.tree_fault.TreeFault.TheVariants as faults
 use Rattle.oscip_tree.proofs.TreeFiles.{at_item, each_joined, longer, take_at, Each}
-
-pub nothing_left : {X : Type 0} (xs : List X) → length xs ≡ 0 → xs ≡ []
-nothing_left [] e = refl
-nothing_left (x ∷ xs) e = absurd (omega arith)
 
 -- ---- accepted files
 
@@ -122,7 +118,7 @@ module _ {K : Type 0} (is_of : ModuleFile → K → Type 0) where
   -- chunks of one size are pieces
   pub chunks_are_pieces : (size : ℕ) (answers : List (Result (Vec K Global) TreeFault)) (sources : List Source) → length sources ≤ length answers * size →
       ((n : ℕ) (d : Result (Vec K Global) TreeFault) → n < length answers → IsReading is_of (slice_chunk sources size n) (get_or answers n d)) → AreOfPieces is_of sources answers
-  chunks_are_pieces size [] sources l each = nothing_left sources (let none = zero-mul size in omega arith)
+  chunks_are_pieces size [] sources l each = nil_from_length sources (let none = zero-mul size in omega arith)
   chunks_are_pieces size (answer ∷ answers) sources l each =
       let first : slice_chunk sources size 0 ≡ take size sources = ap (λ (n : ℕ). take size (drop n sources)) (zero-mul size) in
       let more = suc-mul (length answers) size in
