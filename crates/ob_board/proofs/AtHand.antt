@@ -7,6 +7,7 @@ use Rattle.std.proofs.lemmas.Option.{slice_get-get_or}
 use Rattle.ob_imports.specs.Graphs.{ImportGraph}
 use Rattle.ob_imports.specs.Outcomes.{AreFilesOfGraph}
 use Rattle.ob_interface.specs.Interfaces.{ModuleInterface}
+use Rattle.ob_scope.proofs.Elements.{contains_slice}
 use Rattle.ob_scope.specs.Texts.{text_at}
 use Rattle.ob_types.specs.Homes.{AreByName}
 use Rattle.oscip_tree.specs.declared.parts.ModuleParts.{ModuleParts}
@@ -22,7 +23,7 @@ use Rattle.ob_board.specs.Found.{IsAtHand, IsFoundOf, PlainFound}
 use Rattle.ob_board.specs.Records.{IsRecordedOf, PlainRecorded}
 use Rattle.ob_board.proofs.ByName.{reached_by_name}
 use Rattle.ob_board.proofs.EntryHanding.{reached_named}
-use Rattle.ob_board.proofs.Handing.{at_seen, below, member, name_here}
+use Rattle.ob_board.proofs.Handing.{at_seen, below, name_here}
 
 -- a number of the board is that of a source and of its parts, and with the parts that a worker is given they are what is at hand
 pub record IsGiven (files : List SeenFile) (sources : List Source) (modules : List (Box ModuleParts Global)) (board : ImportGraph) (n : ℕ) (parts : List ModuleInterface) : Type 0 where
@@ -58,7 +59,7 @@ module _ {E : Type 0} (is_of : List SeenFile → List ℕ → E → Type 0) (sha
             let own = slice_index_or modules n m in
             subst (λ (x : ModuleParts). IsAtHand files here x parts) (sym is)
             (record {
-              is_of_tree = member files n (seen_in here own.value) (at s m);
+              is_of_tree = contains_slice files n (seen_in here own.value) (at s m);
               is_seen = seen.each n here own (slice_get-get_or sources n s both.0) (slice_get-get_or modules n m both.1);
               are_reached = reached s m;
             });

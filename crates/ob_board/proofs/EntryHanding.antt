@@ -1,12 +1,14 @@
 -- The entry of a module, and the entries of all.
-use Rattle.std.proofs.Common.{◌≡◌, ℕ, zero, suc, ◌<◌, Bool, true, false, List, [], ◌∷◌, ◌++◌, length, get_or, map, Some, refl, sym, ap, ◌∙◌, subst, arith, ◌⊎◌, inl, inr}
+use Rattle.std.proofs.Common.{◌≡◌, ℕ, zero, suc, ◌<◌, Bool, true, false, List, [], ◌∷◌, ◌++◌, length, get_or, map, Some, refl, sym, ap, ◌∙◌, subst, arith, inl, inr}
 use Rattle.std.specs.Prelude.{Contains, slice_get, Box}
 use Rattle.std.specs.Arc.{arc_value}
 use Rattle.std.specs.List.{flat_map}
 use Rattle.std.specs.declared.alloc.Global.{Global}
 use Rattle.std.proofs.lemmas.List.{length-take-le}
 use Rattle.std.proofs.lemmas.List.Elements.{Contains-append_cases}
+use Rattle.std.proofs.lemmas.List.Folds.{flat_map-map}
 use Rattle.std.proofs.lemmas.Option.{get_or_from_slice_get, slice_get-get_or, slice_get_within}
+use Rattle.digraph.proofs.Members.{first_or_later}
 use Rattle.ob_emit.specs.Externals.{AreExternalRows}
 use Rattle.ob_emit.specs.Named.{HasNames}
 use Rattle.ob_emit.proofs.NamesGiven.{seen_named}
@@ -32,17 +34,13 @@ use Rattle.ob_board.specs.Found.{IsAtHand}
 use Rattle.ob_board.specs.Indexes.{AreTreeEntries, IsIndex, IsMadeOf}
 use Rattle.ob_board.proofs.Handing.{name_at}
 
-head_or_tail : {X : Type 0} (y : X) (xs : List X) (x : X) → Contains (y ∷ xs) x → (y ≡ x) ⊎ Contains xs x
-head_or_tail y xs x (zero, l, e) = inl e
-head_or_tail y xs x (suc k, l, e) = inr (k, omega arith, e)
-
 -- what is said of the parts of all sources is said of their files
 seen_all : (P : SeenFile → Type 0) (sources : List Source) (modules : List (Box ModuleParts Global)) →
     ((k : ℕ) (s : Source) (m : Box ModuleParts Global) → slice_get sources k ≡ Some s → slice_get modules k ≡ Some m → P (seen_in s m.value)) →
     (file : SeenFile) → Contains (all_seen sources modules) file → P file
 seen_all P [] modules each file (k, l, e) = absurd (omega arith)
 seen_all P (s ∷ sources) [] each file (k, l, e) = absurd (omega arith)
-seen_all P (s ∷ sources) (m ∷ modules) each file has = elim (head_or_tail (seen_in s m.value) (all_seen sources modules) file has) [
+seen_all P (s ∷ sources) (m ∷ modules) each file has = elim (first_or_later (seen_in s m.value) (all_seen sources modules) file has) [
   | inl same ↦ subst P same (each zero s m refl refl)
   | inr later ↦ seen_all P sources modules (λ k a b p q. each (suc k) a b p q) file later
 ]
@@ -50,7 +48,7 @@ seen_all P (s ∷ sources) (m ∷ modules) each file has = elim (head_or_tail (s
 all_marked : (marks : List Bool) (files : List SeenFile) → ((file : SeenFile) → Contains files file → HasNames (interface_in file)) → AreAllNamed (marked_interfaces marks files)
 all_marked [] files each x (k, l, e) = absurd (omega arith)
 all_marked (mark ∷ marks) [] each x (k, l, e) = absurd (omega arith)
-all_marked (true ∷ marks) (file ∷ files) each x has = elim (head_or_tail (interface_in file) (marked_interfaces marks files) x has) [
+all_marked (true ∷ marks) (file ∷ files) each x has = elim (first_or_later (interface_in file) (marked_interfaces marks files) x has) [
   | inl same ↦ subst HasNames same (each file (zero, omega arith, refl))
   | inr later ↦ all_marked marks files (λ f h. each f (suc h.0, omega (arith, h.1), h.2)) x later
 ]
@@ -131,8 +129,7 @@ externals_of_tree sources package_name entries are =
 
 -- what entries have, by either way of seeing them
 pub same_externals : (es : List Entry) → flat_map (λ (e : Entry). (plain_entry e).externals) es ≡ flat_map (λ (e : PlainEntry). e.externals) (map plain_entry es)
-same_externals [] = refl
-same_externals (e ∷ es) = ap (λ (rows : List PlainSymbol). (plain_entry e).externals ++ rows) (same_externals es)
+same_externals es = sym (flat_map-map (λ (e : PlainEntry). e.externals) plain_entry es)
 
 pub same_documents : (es : List Entry) → map (λ (e : Entry). (plain_entry e).document) es ≡ map (λ (e : PlainEntry). e.document) (map plain_entry es)
 same_documents [] = refl

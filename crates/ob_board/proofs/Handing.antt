@@ -1,14 +1,16 @@
 -- A job of a worker, its module's files, and what is found of all.
-use Rattle.std.proofs.Common.{◌≡◌, ℕ, zero, suc, ◌<◌, List, [], ◌∷◌, ◌++◌, length, get_or, map, None, Some, refl, sym, ap, ◌∙◌, subst, arith}
-use Rattle.std.specs.Prelude.{Contains, slice_get, option_map, Box}
+use Rattle.std.proofs.Common.{◌≡◌, ℕ, zero, suc, ◌<◌, List, [], ◌∷◌, length, get_or, map, None, Some, refl, sym, ap, ◌∙◌, subst, arith}
+use Rattle.std.specs.Prelude.{slice_get, option_map, Box}
 use Rattle.std.specs.List.{flat_map}
 use Rattle.std.specs.declared.alloc.Global.{Global}
 use Rattle.std.proofs.lemmas.List.{get_or-take, length-map, length-take-le}
+use Rattle.std.proofs.lemmas.List.Folds.{flat_map-map}
 use Rattle.std.proofs.lemmas.Option.{get_or_from_slice_get, slice_get-get_or, slice_get-map, slice_get_within}
 use Rattle.ob_imports.specs.Graphs.{ImportGraph}
 use Rattle.oscip_tree.specs.declared.parts.ModuleParts.{ModuleParts}
 use Rattle.oscip_tree.specs.declared.source.Source.{Source}
-use Rattle.work_board.specs.Graphs.{row_at}
+use Rattle.ob_scope.proofs.Elements.{some_one}
+use Rattle.work_board.specs.Graphs.{row_at, Modules}
 use Rattle.board_workers.specs.Parts.{AreEntries}
 use Rattle.tree_board.specs.Boards.{modules_of}
 use Rattle.tree_board.specs.Reached.{names, SeenFile}
@@ -18,27 +20,23 @@ use Rattle.tree_board.proofs.Shared.{same_file}
 use Rattle.ob_board.specs.Found.{IsFoundOf, PlainFound}
 use Rattle.ob_board.specs.Unresolved.{IsUnresolvedIn, IsUnresolvedOf, PlainUnresolved}
 
-pub member : {X : Type 0} (xs : List X) (k : ℕ) (x : X) → slice_get xs k ≡ Some x → Contains xs x
-member xs k x at = (k, slice_get_within xs k x at, get_or_from_slice_get xs k x x at)
-
 seen_long : (sources : List Source) (modules : List (Box ModuleParts Global)) → length modules ≡ length sources → length (all_seen sources modules) ≡ length sources
 seen_long [] modules e = refl
 seen_long (s ∷ sources) [] e = absurd (omega arith)
 seen_long (s ∷ sources) (m ∷ modules) e = let rest = seen_long sources modules (omega arith) in omega arith
 
-some_one : {X : Type 0} (x y : X) → Some x ≡ Some y → x ≡ y
-some_one x y e = cc
-
-none_some : {X : Type 0} (y : X) → None ≡ Some y → ⊥
-none_some y e = cc
-
 pub at_seen : (sources : List Source) (modules : List (Box ModuleParts Global)) (k : ℕ) (s : Source) (m : Box ModuleParts Global) → slice_get sources k ≡ Some s → slice_get modules k ≡ Some m
     → slice_get (all_seen sources modules) k ≡ Some (seen_in s m.value)
-at_seen [] modules k s m p q = absurd (none_some s p)
-at_seen (a ∷ sources) [] k s m p q = absurd (none_some m q)
+at_seen [] modules k s m p q = absurd (let none : None ≡ Some s = p in cc)
+at_seen (a ∷ sources) [] k s m p q = absurd (let none : None ≡ Some m = q in cc)
 at_seen (a ∷ sources) (b ∷ modules) zero s m p q =
     ap (λ (x : Source). Some (seen_in x b.value)) (some_one a s p) ∙ ap (λ (x : Box ModuleParts Global). Some (seen_in s x.value)) (some_one b m q)
 at_seen (a ∷ sources) (b ∷ modules) (suc k) s m p q = at_seen sources modules k s m p q
+
+-- entries of all modules, by the words of a tree itself for its files and its board
+pub in_own : {E : Type 0} (is_of : List SeenFile → List ℕ → E → Type 0) (files own : List SeenFile) (board modules : Modules) (all : List E) → files ≡ own → board ≡ modules → AreEntries (is_of files) board all → AreEntries (is_of own) modules all
+in_own is_of files own board modules all same shown are =
+    subst (λ (fs : List SeenFile). AreEntries (is_of fs) modules all) same (subst (λ (m : Modules). AreEntries (is_of files) m all) shown are)
 
 module _ (sources : List Source) (modules : List (Box ModuleParts Global)) (g : ImportGraph) (seen : AreSourcesRead sources modules g) where
   abbrev files : List SeenFile
@@ -62,10 +60,6 @@ module _ (sources : List Source) (modules : List (Box ModuleParts Global)) (g : 
   pub name_here : (n : ℕ) (s : Source) (m : Box ModuleParts Global) → slice_get sources n ≡ Some s → slice_get modules n ≡ Some m → row_at (modules_of g).names n ≡ names (seen_in s m.value) 1
   name_here n s m p q = name_at n (seen_in s m.value) (at_seen sources modules n s m p q)
 
-  flat : (all : List PlainFound) → flat_map (λ (f : PlainFound). f.rows) all ≡ flat_map (λ (part : List PlainUnresolved). part) (map (λ (f : PlainFound). f.rows) all)
-  flat [] = refl
-  flat (f ∷ all) = ap (λ (rows : List PlainUnresolved). f.rows ++ rows) (flat all)
-
   -- what is found of all modules
   pub found_all : (all : List PlainFound) → AreEntries (λ (x : List ℕ) (f : PlainFound). IsFoundOf files x f) (modules_of g) all → IsUnresolvedOf files (flat_map (λ (f : PlainFound). f.rows) all)
   found_all all are =
@@ -87,5 +81,5 @@ module _ (sources : List Source) (modules : List (Box ModuleParts Global)) (g : 
             let is_part : Some f.rows ≡ Some part = sym (slice_get-map (λ (x : PlainFound). x.rows) all k ∙ ap (option_map (λ (x : PlainFound). x.rows)) here) ∙ at_part in
             let rows : f.rows ≡ part = cc in
             subst (λ (x : SeenFile). IsUnresolvedIn files x part) same (subst (IsUnresolvedIn files found.file) rows found.are_rows);
-        whole = flat all;
+        whole = sym (flat_map-map (λ (part : List PlainUnresolved). part) (λ (f : PlainFound). f.rows) all);
       }

@@ -10,6 +10,7 @@ use Rattle.ob_emit.specs.Documents.{document_of}
 use Rattle.ob_emit.specs.Externals.{AreExternalRows, AreExternals}
 use Rattle.ob_decls.specs.Declaring.{rows_in}
 use Rattle.ob_imports.specs.Graphs.{ImportGraph}
+use Rattle.ob_scope.proofs.Elements.{some_one}
 use Rattle.ob_interface.specs.Interfaces.{ModuleInterface}
 use Rattle.ob_types.specs.World.{world}
 use Rattle.std.specs.Arc.{arc_value}
@@ -77,14 +78,8 @@ with_records (r ∷ all) d are =
 with_at : (all : List PlainRecorded) (d : AreDocuments all) (k : ℕ) (e : PlainEntry) → slice_get (entries_with all d) k ≡ Some e →
     (r : PlainRecorded) × (at : slice_get all k ≡ Some r) × (with_document r (d k r at) ≡ e)
 unfolding entries_with
-with_at [] d k e at = absurd (no_one at)
-  where
-    no_one : {x : PlainEntry} → None ≡ Some x → ⊥
-    no_one e = cc
-with_at (r ∷ all) d zero e at = (r, refl, some_one at)
-  where
-    some_one : {x y : PlainEntry} → Some x ≡ Some y → x ≡ y
-    some_one e = cc
+with_at [] d k e at = absurd (let none : None ≡ Some e = at in cc)
+with_at (r ∷ all) d zero e at = (r, refl, some_one (with_document r (d zero r refl)) e at)
 with_at (r ∷ all) d (suc k) e at = with_at all (λ j x p. d (suc j) x p) k e at
 
 module _ (sources : List Source) (modules : List (Box ModuleParts Global)) (g : ImportGraph) (seen : AreSourcesRead sources modules g) (package_name : List ℕ) where
@@ -132,10 +127,6 @@ records_told sources package_name modules tree records rows are of = record {
 pub externals_gathered : (sources : List Source) (package_name : List ℕ) (records : List (List ℕ)) (rows : List PlainSymbol) → AreTreeRecords sources package_name records rows → AreExternalRows rows
 externals_gathered sources package_name records rows of = subst AreExternalRows of.externals_are (externals_of_tree sources package_name of.entries of.are_entries)
 
--- lists one behind the other are joined
-joined : {X : Type 0} (f : X → List ℕ) (xs : List X) → flat_map f xs ≡ flat_map (λ (bytes : List ℕ). bytes) (map f xs)
-joined f xs = sym (flat_map-map (λ (bytes : List ℕ). bytes) f xs)
-
 -- the parts of an index of what is gathered of a tree are those of the tree's
 pub written_told : (sources : List Source) (package_name root : List ℕ) (w : WrittenIndex) (records : List (Vec ℕ)) (rows : List PlainSymbol) →
     AreTreeRecords sources package_name (map (λ (row : Vec ℕ). row.items) records) rows →
@@ -152,6 +143,8 @@ written_told sources package_name root w records rows of metadata same externals
       });
       metadata = ap Some (sym metadata);
       records = each;
-      documents = joined document_part (documents_in of.entries) ∙ ap (flat_map (λ (bytes : List ℕ). bytes)) each ∙ sym (joined (λ (row : Vec ℕ). row.items) w.records.items);
+      documents =
+          sym (flat_map-map (λ (bytes : List ℕ). bytes) document_part (documents_in of.entries)) ∙ ap (flat_map (λ (bytes : List ℕ). bytes)) each
+          ∙ flat_map-map (λ (bytes : List ℕ). bytes) (λ (row : Vec ℕ). row.items) w.records.items;
       externals = refl;
     }

@@ -1,11 +1,9 @@
-use Rattle.std.proofs.Common.{ℕ, List, sym, subst}
+use Rattle.std.proofs.Common.{List, sym, subst}
 use Rattle.std.proofs.lemmas.Result.{IfOk-weaker}
-use Rattle.work_board.specs.Graphs.{Modules}
-use Rattle.board_workers.specs.Parts.{AreEntries as AreAtBoard}
-use Rattle.tree_board.specs.Boards.{modules_of}
 use Rattle.tree_board.specs.Reached.{SeenFile}
 use Rattle.ob_board.specs.Entries.{AreEntriesOf, IsEntryOf, PlainEntry}
 use Rattle.ob_board.proofs.EntryHanding.{entries_all}
+use Rattle.ob_board.proofs.Handing.{in_own}
 use Rattle.ob_board.proofs.indexing.entries_in.Goals as goal
 
 pub returns : goal.returns
@@ -13,8 +11,7 @@ returns g c =
     let p = g.F.NamedIndex.package_name in
     let tree = c.args.tree.now in
     let all = c.in_ok-all.field-0.items in
-    let there = subst (λ (v : Modules). AreAtBoard (λ (x : List ℕ) (e : PlainEntry). IsEntryOf g.F.NamedIndex.files p x e) v all) c.in_ok-graph.ensures.graph c.in_ok-all.ensures in
-    let here = subst (λ (fs : List SeenFile). AreAtBoard (λ (x : List ℕ) (e : PlainEntry). IsEntryOf fs p x e) (modules_of tree.graph) all) c.requires.files there in
+    let here = in_own (λ (fs : List SeenFile). IsEntryOf fs p) _ _ _ _ all c.requires.files c.in_ok-graph.ensures.graph c.in_ok-all.ensures in
     let are = entries_all c.args.sources.now tree.modules.items tree.graph c.requires.seen p all here in
     IfOk-weaker c.plain.result _ _
     (λ entries same. subst (λ (es : List PlainEntry). AreEntriesOf g.F.NamedIndex.files p es) (sym same) (subst (λ (fs : List SeenFile). AreEntriesOf fs p all) (sym c.requires.files) are))

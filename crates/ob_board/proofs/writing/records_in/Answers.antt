@@ -1,12 +1,10 @@
-use Rattle.std.proofs.Common.{ℕ, List, sym, subst, map, sym}
+use Rattle.std.proofs.Common.{ℕ, List, map, sym, subst}
 use Rattle.std.specs.Global.{Vec}
 use Rattle.std.specs.List.{flat_map}
 use Rattle.scip_index.specs.Plain.{plain_symbol}
-use Rattle.work_board.specs.Graphs.{Modules}
-use Rattle.board_workers.specs.Parts.{AreEntries as AreAtBoard}
-use Rattle.tree_board.specs.Boards.{modules_of}
 use Rattle.tree_board.specs.Reached.{SeenFile}
 use Rattle.ob_board.specs.Records.{AreRecordsOf, IsRecordedOf, PlainRecorded}
+use Rattle.ob_board.proofs.Handing.{in_own}
 use Rattle.ob_board.proofs.RecordHanding.{gathered, records_all}
 use Rattle.ob_board.proofs.writing.records_in.Goals as goal
 
@@ -15,8 +13,7 @@ returns g c =
     let p = g.F.NamedIndex.package_name in
     let tree = c.args.tree.now in
     let all = c.in_ok-all.field-0.items in
-    let there = subst (λ (v : Modules). AreAtBoard (λ (x : List ℕ) (r : PlainRecorded). IsRecordedOf g.F.NamedIndex.files p x r) v all) c.in_ok-graph.ensures.graph c.in_ok-all.ensures in
-    let here = subst (λ (fs : List SeenFile). AreAtBoard (λ (x : List ℕ) (r : PlainRecorded). IsRecordedOf fs p x r) (modules_of tree.graph) all) c.requires.files there in
+    let here = in_own (λ (fs : List SeenFile). IsRecordedOf fs p) _ _ _ _ all c.requires.files c.in_ok-graph.ensures.graph c.in_ok-all.ensures in
     let are = records_all c.args.sources.now tree.modules.items tree.graph c.requires.seen p all here in
     gathered g.F.NamedIndex.files p _ _ c.gather.result (λ t. map (λ (row : Vec ℕ). row.items) t.records.items) (λ t. map plain_symbol t.rows.items) c.gather.ensures.records c.gather.ensures.rows
     (subst (λ (fs : List SeenFile). AreRecordsOf fs p (map (λ (r : PlainRecorded). r.bytes) all) (flat_map (λ (r : PlainRecorded). r.externals) all)) (sym c.requires.files) are)
