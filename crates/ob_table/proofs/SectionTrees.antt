@@ -31,7 +31,7 @@ use Rattle.ob_parse.specs.ReadModules.{is_identifier, with_semicolon, part_with}
 use Rattle.ob_table.specs.DeclarationShapes.{ended_outline, ended_piece}
 use Rattle.ob_table.specs.Tabulating.{Told, Tabulates, TabulatesBy}
 use Rattle.ob_table.proofs.Combine.{told_at, told_as, told_node, told_then, told_there, told_behind, told_before, failed_node, failed_then}
-use Rattle.ob_table.proofs.Behind.{declaring_told, word_there_told}
+use Rattle.ob_table.proofs.Behind.{absent_told, declaring_told, word_there_told}
 use Rattle.ob_table.proofs.Lists.{word_after}
 
 -- where the second part fails, the whole does
@@ -103,6 +103,11 @@ equal_told {X} ts f p r c old mid last new input here rest result a b t =
     (told_then ts (λ (u : Unit {0}). word kinds.Equals) (λ u s. passed s) f (λ x. after (p x) c) (expect_at kinds.Equals) r mid last new rest result (ahead ts here) b t))
 
 -- ---- a word and what stands behind it, if it stands there
+
+pub section_absent : {X : Type 0} (ts : List Token) (f : X → Out) (p : X → Piece) (k : Kind) (r : Reader) (c : Context) (d : Draft) (input : Cursor) → accept_at k (ahead ts input) ≡ None →
+    Tabulates {T = Option (Vec X)} ts (shown_there (λ v. shown_part k f v.items)) (if_there (λ v. part p v.items)) c d d (Ok input) (part_with k r (ahead ts input))
+unfolding part_with
+section_absent {X} ts f p k r c d input none = absent_told {A = Vec X} ts c (λ v. shown_part k f v.items) (λ v. part p v.items) (accept_at k) (many (begins is_identifier) (with_semicolon r)) d input none
 
 pub section_told : {X : Type 0} (ts : List Token) (f : X → Out) (p : X → Piece) (k : Kind) (r : Reader) (c : Context) (old mid new : Draft) (input rest : Cursor) (result : Result Cursor Stop) →
     accept_at k (ahead ts input) ≡ Some (word k, ahead ts rest) → ComesTo passed old mid →

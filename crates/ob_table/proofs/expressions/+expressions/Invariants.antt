@@ -1,22 +1,9 @@
-use Rattle.std.proofs.Common.{◌≡◌, ◌+◌, ◌*◌, ◌++◌, suc, length, map}
-use Rattle.ob_scan.specs.declared.kind.Kind.TheVariants as kinds
-use Rattle.ob_tree.specs.declared.expression.AddOperator.{AddOperator}
-use Rattle.ob_tree.specs.declared.expression.MulOperator.{MulOperator}
-use Rattle.ob_tree.specs.declared.expression.Term.{Term}
-use Rattle.ob_tree.specs.declared.expression.Factor.{Factor}
-use Rattle.ob_tree.specs.declared.expression.Element.{Element}
-use Rattle.ob_tree.specs.declared.expression.Expr.{Expr}
-use Rattle.ob_tree.specs.declared.expression.Selector.{Selector}
-use Rattle.ob_decls.specs.Drafts.{after}
-use Rattle.ob_decls.specs.Settling.{settling}
-use Rattle.ob_tree.specs.Marks.{word}
-use Rattle.ob_tree.specs.Expressions.{add_kind, mul_kind, term_outline, factor_outline, element_outline, expr_outline, selector_outline}
-use Rattle.ob_decls.specs.Parts.{both, each, token}
-use Rattle.ob_decls.specs.Expressions.{term_piece, factor_piece, element_piece, expr_piece, selected}
-use Rattle.ob_parse.specs.Forms.{accept_at, begins}
+use Rattle.std.proofs.Common.{◌+◌, ◌*◌, length}
+use Rattle.ob_decls.specs.Expressions.{term_piece, factor_piece, element_piece}
 use Rattle.ob_parse.specs.Accords.{ahead}
-use Rattle.ob_parse.specs.ReadExpressions.{add_start, mul_start, element_with, selector_first, selector_with, expr_at, term_at, factor_at}
-use Rattle.ob_table.proofs.Lists.{PieceListing}
+use Rattle.ob_parse.specs.ReadExpressions.{selector_with, expr_at}
+use Rattle.ob_parse.proofs.Repetitions.{elements, factor_operations, term_operations}
+use Rattle.ob_table.proofs.Lists.{behind_token, OperationListing, RepeatListing}
 use Rattle.ob_table.proofs.DesignatorTrees.{ChosenListing}
 use Rattle.ob_table.proofs.CallTrees.{FurtherListing}
 use Rattle.ob_table.proofs.expressions.+expressions.Given as goal
@@ -70,22 +57,19 @@ abbrev pub decreases-designator : goal.decreases-designator
 decreases-designator l = 16 * l.depth + 7
 
 abbrev pub invariant-more_terms-more : goal.invariant-more_terms-more
-invariant-more_terms-more l =
-    PieceListing {X = AddOperator × Term} l.fn.source.tokens.now add_start (term_at l.depth) (λ p. word (add_kind p.0) ++ term_outline p.1) (λ p. both token (term_piece p.1)) l.inside l.initial.draft l.draft l.fn.input l.here
+invariant-more_terms-more l = OperationListing l.fn.source.tokens.now (term_operations l.depth) term_piece l.inside l.initial.draft l.draft l.fn.input l.here
 
 abbrev pub decreases-more_terms-more : goal.decreases-more_terms-more
 decreases-more_terms-more l = length (ahead l.fn.source.tokens.now l.here)
 
 abbrev pub invariant-more_factors-more : goal.invariant-more_factors-more
-invariant-more_factors-more l =
-    PieceListing {X = MulOperator × Factor} l.fn.source.tokens.now mul_start (factor_at l.depth) (λ p. word (mul_kind p.0) ++ factor_outline p.1) (λ p. both token (factor_piece p.1)) l.inside l.initial.draft l.draft l.fn.input l.here
+invariant-more_factors-more l = OperationListing l.fn.source.tokens.now (factor_operations l.depth) factor_piece l.inside l.initial.draft l.draft l.fn.input l.here
 
 abbrev pub decreases-more_factors-more : goal.decreases-more_factors-more
 decreases-more_factors-more l = length (ahead l.fn.source.tokens.now l.here)
 
 abbrev pub invariant-more_elements-more : goal.invariant-more_elements-more
-invariant-more_elements-more l =
-    PieceListing {X = Element} l.fn.source.tokens.now (accept_at kinds.Comma) (element_with (expr_at l.depth)) (λ e. word kinds.Comma ++ element_outline e) (λ e. both token (element_piece e)) l.inside l.initial.draft l.draft l.fn.input l.here
+invariant-more_elements-more l = RepeatListing l.fn.source.tokens.now (elements l.depth) (behind_token element_piece) l.inside l.initial.draft l.draft l.fn.input l.here
 
 abbrev pub decreases-more_elements-more : goal.decreases-more_elements-more
 decreases-more_elements-more l = length (ahead l.fn.source.tokens.now l.here)

@@ -1,19 +1,12 @@
-use Rattle.std.proofs.Common.{◌++◌, length}
-use Rattle.ob_scan.specs.declared.kind.Kind.TheVariants as kinds
-use Rattle.ob_tree.specs.Marks.{word}
-use Rattle.ob_decls.specs.Parts.{both, token}
-use Rattle.ob_parse.specs.Forms.{accept_at}
-use Rattle.ob_parse.specs.Accords.{ahead}
-use Rattle.ob_tree.specs.declared.declaration.ParameterSection.{ParameterSection}
-use Rattle.ob_tree.specs.Types.{section_outline}
+use Rattle.std.proofs.Common.{length}
 use Rattle.ob_decls.specs.Types.{section_piece}
-use Rattle.ob_parse.specs.ReadTypes.{section_at}
-use Rattle.ob_table.proofs.Lists.{PieceListing}
+use Rattle.ob_parse.specs.Accords.{ahead}
+use Rattle.ob_parse.proofs.Repetitions.{sections}
+use Rattle.ob_table.proofs.Lists.{behind_token, RepeatListing}
 use Rattle.ob_table.proofs.parameters.more_sections.Given as goal
 
 abbrev pub invariant-more : goal.invariant-more
-invariant-more l =
-    PieceListing {X = ParameterSection} l.fn.tokens (accept_at kinds.Semicolon) section_at (λ x. word kinds.Semicolon ++ section_outline x) (λ x. both token (section_piece x)) l.inside l.initial.draft l.draft l.fn.input l.here
+invariant-more l = RepeatListing l.fn.tokens sections (behind_token section_piece) l.inside l.initial.draft l.draft l.fn.input l.here
 
 abbrev pub decreases-more : goal.decreases-more
 decreases-more l = length (ahead l.fn.tokens l.here)

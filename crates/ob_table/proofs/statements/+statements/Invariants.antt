@@ -1,17 +1,8 @@
-use Rattle.std.proofs.Common.{◌+◌, ◌*◌, ◌++◌, length}
-use Rattle.ob_scan.specs.declared.kind.Kind.TheVariants as kinds
-use Rattle.ob_tree.specs.declared.statement.Branch.{Branch}
-use Rattle.ob_tree.specs.declared.statement.Case.{Case}
-use Rattle.ob_tree.specs.declared.statement.Stmt.{Stmt}
-use Rattle.ob_tree.specs.Marks.{word}
-use Rattle.ob_tree.specs.Statements.{branch_outline, case_outline, stmt_outline}
-use Rattle.ob_decls.specs.Parts.{both, token}
+use Rattle.std.proofs.Common.{◌+◌, ◌*◌, length}
 use Rattle.ob_decls.specs.Statements.{branch_piece, case_piece, stmt_piece}
-use Rattle.ob_parse.specs.Forms.{accept_at}
 use Rattle.ob_parse.specs.Accords.{ahead}
-use Rattle.ob_parse.specs.ReadExpressions.{expr_at}
-use Rattle.ob_parse.specs.ReadStatements.{block_at, branch_with, case_with, statement_at}
-use Rattle.ob_table.proofs.Lists.{PieceListing}
+use Rattle.ob_parse.proofs.Repetitions.{branches, cases, statements}
+use Rattle.ob_table.proofs.Lists.{behind_token, RepeatListing}
 use Rattle.ob_table.proofs.statements.+statements.Given as goal
 
 abbrev pub decreases-statement : goal.decreases-statement
@@ -66,22 +57,19 @@ abbrev pub decreases-statement_within : goal.decreases-statement_within
 decreases-statement_within l = 16 * l.depth + 7
 
 abbrev pub invariant-more_statements-more : goal.invariant-more_statements-more
-invariant-more_statements-more l =
-    PieceListing {X = Stmt} l.fn.source.tokens.now (accept_at kinds.Semicolon) (statement_at l.depth) (λ x. word kinds.Semicolon ++ stmt_outline x) (λ x. both token (stmt_piece x)) l.inside l.initial.draft l.draft l.fn.input l.here
+invariant-more_statements-more l = RepeatListing l.fn.source.tokens.now (statements l.depth) (behind_token stmt_piece) l.inside l.initial.draft l.draft l.fn.input l.here
 
 abbrev pub decreases-more_statements-more : goal.decreases-more_statements-more
 decreases-more_statements-more l = length (ahead l.fn.source.tokens.now l.here)
 
 abbrev pub invariant-more_branches-more : goal.invariant-more_branches-more
-invariant-more_branches-more l =
-    PieceListing {X = Branch} l.fn.source.tokens.now (accept_at kinds.Elsif) (branch_with (expr_at l.depth) (block_at l.depth) l.keyword) (λ x. word kinds.Elsif ++ branch_outline x l.keyword) (λ x. both token (branch_piece x)) l.inside l.initial.draft l.draft l.fn.input l.here
+invariant-more_branches-more l = RepeatListing l.fn.source.tokens.now (branches l.depth l.keyword) (behind_token branch_piece) l.inside l.initial.draft l.draft l.fn.input l.here
 
 abbrev pub decreases-more_branches-more : goal.decreases-more_branches-more
 decreases-more_branches-more l = length (ahead l.fn.source.tokens.now l.here)
 
 abbrev pub invariant-more_cases-more : goal.invariant-more_cases-more
-invariant-more_cases-more l =
-    PieceListing {X = Case} l.fn.source.tokens.now (accept_at kinds.Bar) (case_with (block_at l.depth)) (λ x. word kinds.Bar ++ case_outline x) (λ x. both token (case_piece x)) l.inside l.initial.draft l.draft l.fn.input l.here
+invariant-more_cases-more l = RepeatListing l.fn.source.tokens.now (cases l.depth) (behind_token case_piece) l.inside l.initial.draft l.draft l.fn.input l.here
 
 abbrev pub decreases-more_cases-more : goal.decreases-more_cases-more
 decreases-more_cases-more l = length (ahead l.fn.source.tokens.now l.here)

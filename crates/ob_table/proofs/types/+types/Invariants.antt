@@ -1,14 +1,8 @@
-use Rattle.std.proofs.Common.{◌+◌, ◌*◌, ◌++◌, length}
-use Rattle.ob_scan.specs.declared.kind.Kind.TheVariants as kinds
-use Rattle.ob_tree.specs.declared.declaration.VarDecl.{VarDecl}
-use Rattle.ob_tree.specs.Constructs as constructs
-use Rattle.ob_tree.specs.Marks.{word}
-use Rattle.ob_decls.specs.Parts.{both, token}
-use Rattle.ob_parse.specs.Forms.{node}
+use Rattle.std.proofs.Common.{◌+◌, ◌*◌, length}
 use Rattle.ob_parse.specs.Accords.{ahead}
-use Rattle.ob_parse.specs.ReadTypes.{field_start, var_with, type_at}
-use Rattle.ob_table.specs.TypeShapes.{field_outline, field_piece}
-use Rattle.ob_table.proofs.Lists.{PieceListing}
+use Rattle.ob_parse.proofs.Repetitions.{field_lists}
+use Rattle.ob_table.specs.TypeShapes.{field_piece}
+use Rattle.ob_table.proofs.Lists.{behind_token, RepeatListing}
 use Rattle.ob_table.proofs.types.+types.Given as goal
 
 abbrev pub decreases-type_form : goal.decreases-type_form
@@ -51,8 +45,7 @@ abbrev pub decreases-type_within : goal.decreases-type_within
 decreases-type_within l = 16 * l.depth + 10
 
 abbrev pub invariant-more_fields-more : goal.invariant-more_fields-more
-invariant-more_fields-more l =
-    PieceListing {X = VarDecl} l.fn.source.tokens.now field_start (node constructs.FieldList (var_with (type_at l.depth))) (λ v. word kinds.Semicolon ++ field_outline v) (λ v. both token (field_piece v)) l.inside l.initial.draft l.draft l.fn.input l.here
+invariant-more_fields-more l = RepeatListing l.fn.source.tokens.now (field_lists l.depth) (behind_token field_piece) l.inside l.initial.draft l.draft l.fn.input l.here
 
 abbrev pub decreases-more_fields-more : goal.decreases-more_fields-more
 decreases-more_fields-more l = length (ahead l.fn.source.tokens.now l.here)
