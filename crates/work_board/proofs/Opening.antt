@@ -1,8 +1,8 @@
 -- A new board.
-use Rattle.std.proofs.Common.{◌≡◌, ◌<◌, ◌+◌, ℕ, zero, suc, Bool, true, false, List, [], ◌∷◌, ◌++◌, length, take, map, refl, sym, ap, ◌∙◌, arith, inl, inr, get_or}
+use Rattle.std.proofs.Common.{◌≡◌, ◌<◌, ◌≤◌, ◌+◌, ℕ, zero, suc, Bool, true, false, List, [], ◌∷◌, ◌++◌, length, take, map, refl, sym, ap, ◌∙◌, arith, inl, inr, get_or}
 use Rattle.std.specs.Prelude.{Option, None, Some, is_some, slice_index, replicate}
 use Rattle.std.proofs.lemmas.Bool.{cases_lt}
-use Rattle.std.proofs.lemmas.List.{length-take, take_more, get_or-replicate, get_or_past, length-replicate, length-map, get_or-map}
+use Rattle.std.proofs.lemmas.List.{append-nil, length-take, take_more, get_or-replicate, get_or_past, length-replicate, length-map, get_or-map}
 use Rattle.work_board.specs.declared.state.State.TheVariants.{Waiting}
 use Rattle.work_board.specs.Graphs.{row_at, Modules}
 use Rattle.work_board.specs.Cores.{entry_at, has_entry, shares_of, Core}
@@ -59,6 +59,18 @@ shares_more f ms es i size lt b m' at_b x d at_x =
     let e : take (i + 1) es ≡ take i es ++ x ∷ [] = take_more es i d lt ∙ ap (λ y. take i es ++ y ∷ []) at_x in
     let same : length (take i ms) ≡ length (take i es) = omega (arith, length-take i ms, length-take i es) in
     rw (m, e) (shares_append f (take i ms) (b ∷ []) (take i es) (x ∷ []) same)
+
+-- places without a mark share nothing
+pub shares_passed : {E X : Type 0} (f : E → X) (ms : List Bool) (es : List (Option E)) (i n : ℕ) → length ms ≡ length es → i + n ≤ length es
+    → ((v : ℕ) → i ≤ v → v < i + n → get_or ms v false ≡ false) → shares_of f (take (i + n) ms) (take (i + n) es) ≡ shares_of f (take i ms) (take i es)
+shares_passed f ms es i zero size within none = let same : i + 0 ≡ i = omega arith in rw same refl
+shares_passed f ms es i (suc n) size within none =
+    let same : i + suc n ≡ (i + n) + 1 = omega arith in
+    rw same (
+    shares_more f ms es (i + n) size (omega arith) false false (none (i + n) (omega arith) (omega arith)) (get_or es (i + n) None) None refl
+    ∙ append-nil (shares_of f (take (i + n) ms) (take (i + n) es))
+    ∙ shares_passed f ms es i n size (omega arith) (λ v le lt. none v le (omega arith))
+    )
 
 pub opened : {E : Type 0} (is_of : List ℕ → E → Type 0) (g : Modules) (counts : List ℕ) → length counts ≡ length g.names
     → ((m : ℕ) → m < length g.names → slice_index counts m ≡ length (row_at g.imports m)) → length g.imports ≡ length g.names

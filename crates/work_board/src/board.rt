@@ -1,11 +1,12 @@
 //! The board: what is claimed, what is delivered, and what each claimed module reaches.
-ghost use Rattle.std.specs.Prelude.{◌≡◌, ◌<◌, ◌≤◌, ◌+◌, ◌⊎◌, ◌↔◌, ℕ, true, false, length, map, replicate, All, IfOk, IfErr, IfSome, OnOk, [], ◌∷◌, ◌++◌, slice_index, slice_set, None, Some};
+ghost use Rattle.std.specs.Prelude.{◌≡◌, ◌<◌, ◌≤◌, ◌+◌, ◌⊎◌, ◌↔◌, ℕ, true, false, length, map, replicate, All, IfOk, IfErr, IfSome, OnOk, [], ◌∷◌, ◌++◌, slice_index, slice_set, take, None, Some};
 ghost use Rattle.std.specs.Arc.{arc_value};
 ghost use Rattle.work_board.specs.Graphs.{lists, row_at, times_in, IsAcyclic, Reaches};
 ghost use Rattle.work_board.specs.Cores.{abandoned_after, entry_at, has_entry, is_claimed, new_core, shares_of, taken_back, AreOf, AreShares, IsClaim, IsDelivery, IsIdle, IsOver, IsReady, IsRefusal};
 ghost use Rattle.work_board.specs.Keeping.{freed, let_go, state_at, taken, IsFit, IsLook};
 
 use crate::marks::{clear_row, clear_rows, fill_row};
+use crate::passing::{BLOCK, any_marked, first_free};
 use crate::state::State;
 use crate::{BoardFault, Claim, Graph, NamedTree, WorkEntry};
 use std::alloc::{AllocError, Global};
@@ -44,24 +45,31 @@ impl<'g, T: NamedTree, E: WorkEntry> Model for Board<'g, T, E> {
     ghost invariant = { λ b. (b.graph.now ≡ T.graph) × IsValidBoard E.is_of T.graph b.waiting.items b.states.items (lists b.reached.items) b.spare.items b.entries.items };
 }
 
+/// Whether all modules are delivered.
+fn are_all_there(states: &[State]) -> bool
+    ensures all { result ≡ true → (k : ℕ) → k < length states.now → state_at states.now k ≡ State.Delivered }
+    ensures other { result ≡ false → (k : ℕ) × (k < length states.now) × (state_at states.now k ≡ State.Delivered → ⊥) }
+{
+    for place in 0..states.len() {
+        match states[place] {
+            State::Delivered => {}
+            State::Waiting | State::Free | State::Claimed => return false,
+        }
+    }
+    true
+}
+
 /// The least free module; with none, whether all are delivered.
 fn look(states: &[State]) -> Claim
     requires { length states.now ≤ 4096 }
     ensures { IsLook states.now result }
 {
-    let mut finished = true;
-    for place in 0..states.len() {
-        match states[place] {
-            State::Free => {
-                return Claim::Module {
-                    number: place as u32,
-                };
-            }
-            State::Delivered => {}
-            State::Waiting | State::Claimed => finished = false,
+    let place = first_free(states);
+    if place < states.len() {
+        Claim::Module {
+            number: place as u32,
         }
-    }
-    if finished {
+    } else if are_all_there(states) {
         Claim::Finished
     } else {
         Claim::Later
@@ -171,7 +179,29 @@ fn add_share<E: WorkEntry>(
     }
 }
 
-/// The shared parts of the entries with a mark.
+/// Adds the shared parts of the entries with a mark at these places.
+fn add_shares<E: WorkEntry>(
+    parts: &mut Vec<Arc<E::Shared>>,
+    marks: &[bool],
+    entries: &[Option<E>],
+    from: usize,
+    to: usize,
+) -> Result<(), AllocError>
+    requires size { length marks.now ≡ length entries.now }
+    requires ordered { from ≤ to }
+    requires within { to ≤ length entries.now }
+    requires before { map arc_value parts.old.items ≡ shares_of E.shared_of (take from marks.now) (take from entries.now) }
+    ensures { OnOk result (map arc_value parts.new.items ≡ shares_of E.shared_of (take to marks.now) (take to entries.now)) }
+{
+    for place in from..to {
+        if marks[place] {
+            add_share(parts, &entries[place])?;
+        }
+    }
+    Ok(())
+}
+
+/// The shared parts of the entries with a mark. Blocks without one are passed.
 fn shares<E: WorkEntry>(
     alloc: Global,
     marks: &[bool],
@@ -181,10 +211,13 @@ fn shares<E: WorkEntry>(
     ensures { IfOk result (λ parts. map arc_value parts.items ≡ shares_of E.shared_of marks.now entries.now) }
 {
     let mut parts = Vec::new(alloc);
-    for place in 0..entries.len() {
-        if marks[place] {
-            add_share(&mut parts, &entries[place])?;
+    let mut place = 0;
+    'rounds: while place < entries.len() {
+        let end = place + BLOCK.min(entries.len() - place);
+        if any_marked(marks, place, end) {
+            add_shares(&mut parts, marks, entries, place, end)?;
         }
+        place = end;
     }
     Ok(parts)
 }

@@ -8,6 +8,7 @@ mod claim;
 mod entry;
 mod graph;
 mod marks;
+mod passing;
 mod state;
 mod tree;
 

@@ -1,29 +1,11 @@
-use Rattle.std.proofs.Common.{◌≤◌, ◌++◌, [], ◌∷◌, true, false, length, map, take, take_all, get_or, refl, sym, ap, ap₂, ◌∙◌, arith}
-use Rattle.std.specs.Prelude.{None}
-use Rattle.std.specs.Arc.{arc_value}
-use Rattle.std.proofs.lemmas.List.{append-nil}
-use Rattle.work_board.specs.Cores.{shares_of}
-use Rattle.work_board.proofs.Opening.{shares_more}
+use Rattle.std.proofs.Common.{◌≤◌, ◌+◌, length, sym, ◌∙◌, arith}
+use Rattle.work_board.proofs.Opening.{shares_passed}
 use Rattle.work_board.proofs.board.shares.Goals as goal
-use Rattle.work_board.proofs.board.shares.Goals.{then-marks-place+in_ok-add_share, else-marks-place}
 
-pub loop-place-preserved : goal.loop-place-preserved
-loop-place-preserved g c =
-    let f = g.E.WorkEntry.shared_of in
-    let marks = c.args.marks.now in
-    let entries = c.args.entries.now in
-    let i = c.loop-place.place in
-    elim c.if-marks-place.branch [
-      | then-marks-place+in_ok-add_share w ↦
-          ap (λ v. map arc_value v.items) w.parts-is ∙ w.in_ok-add_share.ensures ∙ ap (λ v. v ++ shares_of f (true ∷ []) (w.index-entries-place.result ∷ [])) c.loop-place.invariant
-          ∙ sym (shares_more f marks entries i c.requires c.loop-place-test.true true _ w.if-marks-place.true w.index-entries-place.result w.index-entries-place.result (sym w.index-entries-place.is))
-      | else-marks-place w ↦
-          ap (λ v. map arc_value v.items) w.parts-is ∙ c.loop-place.invariant ∙ sym (append-nil (shares_of f (take i marks) (take i entries)))
-          ∙ sym (shares_more f marks entries i c.requires c.loop-place-test.true false _ w.if-marks-place.false (get_or entries i None) None refl)
-    ]
-
-pub returns : goal.returns
-returns g c =
-    let i = c.loop-place.place in
-    let le : length c.args.marks.now ≤ i = omega arith in
-    c.loop-place.invariant ∙ ap₂ (shares_of g.E.WorkEntry.shared_of) (take_all i c.args.marks.now le) (take_all i c.args.entries.now c.loop-place-test.false)
+-- a block without a mark
+pub rounds-preserved : goal.rounds-preserved
+rounds-preserved g c =
+    let below = c.rounds-test.true in
+    let within : c.rounds.place + c.min.result ≤ length c.args.entries.now = omega (arith, c.min.ensures) in
+    let none = c.any_marked.ensures c.if-any_marked.false in
+    (within, c.rounds.invariant.1 ∙ sym (shares_passed g.E.WorkEntry.shared_of c.args.marks.now c.args.entries.now c.rounds.place c.min.result c.requires within none))
