@@ -476,7 +476,7 @@ GROWN = [
             "names of 200 letters of a module that isn't in the tree": (lambda k: outside(long_names(many(2_500) * k)),),
             "names of 200 letters of a module of the tree": (lambda k: exporting(long_names(many(2_500) * k)),),
             "names of a module of the tree that fall together": (lambda k: exporting(together(k)),),
-            "modules of a few names": (lambda k: small_modules(many(1_000) * k, lambda it: ()),),
+            "modules of a few names": (lambda k: small_modules(many(2_000) * k, lambda it: ()),),
         },
     ),
     (
