@@ -4,7 +4,7 @@ use Rattle.std.specs.Prelude.{slice_get, slice_index, if◌then◌else◌, ◌||
 use Rattle.std.specs.List.{list_any, position_or_len}
 use Rattle.std.specs.Str.{bytes_eq}
 use Rattle.std.proofs.lemmas.Bool.{cases_Bool, cases_lt, false≢true}
-use Rattle.std.proofs.lemmas.List.{get_or_append_left, length-take-le, take_all}
+use Rattle.std.proofs.lemmas.List.{get_or_append_left, length-take-le}
 use Rattle.std.proofs.lemmas.Option.{slice_get_within}
 use Rattle.std.proofs.lemmas.Slice.Eq.{bytes_eq-Decides}
 use Rattle.std.proofs.Math.Seq.{get_or-append_seam}
@@ -134,9 +134,6 @@ numbered_none name = record {
   each = λ k m e. absurd (let f : None ≡ Some m = e in cc);
   within = λ k m e. absurd (let f : None ≡ Some m = e in cc);
 }
-
-pub numbered_all : (name : ℕ → List ℕ) (members : List Member) (i : ℕ) (names : List Name) (numbers : List ℕ) → length members ≤ i → AreNumbered name (take i members) names numbers → AreNumbered name members names numbers
-numbered_all name members i names numbers past a = subst (λ (ms : List Member). AreNumbered name ms names numbers) (take_all i members past) a
 
 -- there are as many numbers as members
 pub numbers_long : (name : ℕ → List ℕ) (members : List Member) (i : ℕ) (names : List Name) (numbers : List ℕ) → i ≤ length members → AreNumbered name (take i members) names numbers → length numbers ≡ i

@@ -1,4 +1,4 @@
--- What a row says of its module.
+-- What a row says, found by its number.
 use Rattle.std.proofs.Common.{◌≡◌, ℕ, List, get_or, map, refl, sym, subst, ◌∙◌}
 use Rattle.std.specs.Prelude.{Contains}
 use Rattle.ob_decls.proofs.Searched.{placed_is}
@@ -10,7 +10,7 @@ use Rattle.ob_scope.proofs.Elements.{ascend_one, contains_of, none_of, slice_con
 
 -- rows, what each of them says, and their numbers
 module _ {X Y : Type 0} (f : X → Y) (n : Y → ℕ) (rows : List X) (values : List Y) (are : map f rows ≡ values) (k : ℕ) where
-  -- the row at its place says what has its number
+  -- what the row at its place says is there, and has its number
   pub row_found : (at : ℕ) (row : X) → IsPlaceBy (λ x. n (f x)) rows k at → row ≡ get_or rows at row → Contains values (f row) × (n (f row) ≡ k)
   row_found at row found read =
       let p = placed_is (λ x. n (f x)) rows k at row found read in

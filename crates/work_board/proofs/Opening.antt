@@ -1,4 +1,4 @@
--- A new board.
+-- A new board, and what marks share.
 use Rattle.std.proofs.Common.{◌≡◌, ◌<◌, ◌≤◌, ◌+◌, ℕ, zero, suc, Bool, true, false, List, [], ◌∷◌, ◌++◌, length, take, map, refl, sym, ap, ◌∙◌, arith, inl, inr, get_or}
 use Rattle.std.specs.Prelude.{Option, None, Some, is_some, slice_index, replicate}
 use Rattle.std.proofs.lemmas.Bool.{cases_lt}

@@ -1,8 +1,8 @@
 //! The board: what is claimed, what is delivered, and what each claimed module reaches.
-ghost use Rattle.std.specs.Prelude.{◌≡◌, ◌<◌, ◌≤◌, ◌+◌, ◌⊎◌, ◌↔◌, ℕ, true, false, length, map, replicate, All, IfOk, IfErr, IfSome, OnOk, [], ◌∷◌, ◌++◌, slice_index, slice_set, take, None, Some};
+ghost use Rattle.std.specs.Prelude.{◌≡◌, ◌<◌, ◌≤◌, ◌+◌, ◌⊎◌, ℕ, true, false, length, map, replicate, All, IfOk, IfErr, OnOk, [], ◌∷◌, ◌++◌, slice_index, slice_set, take, None, Some};
 ghost use Rattle.std.specs.Arc.{arc_value};
 ghost use Rattle.work_board.specs.Graphs.{lists, row_at, times_in, IsAcyclic, Reaches};
-ghost use Rattle.work_board.specs.Cores.{abandoned_after, entry_at, has_entry, is_claimed, new_core, shares_of, taken_back, AreOf, AreShares, IsClaim, IsDelivery, IsIdle, IsOver, IsReady, IsRefusal};
+ghost use Rattle.work_board.specs.Cores.{abandoned_after, has_entry, is_claimed, new_core, shares_of, taken_back, AreOf, AreShares, IsClaim, IsDelivery, IsIdle, IsOver, IsReady, IsRefusal};
 ghost use Rattle.work_board.specs.Keeping.{freed, let_go, state_at, taken, IsFit, IsLook};
 
 use crate::marks::{clear_row, clear_rows, fill_row};
@@ -46,7 +46,7 @@ impl<'g, T: NamedTree, E: WorkEntry> Model for Board<'g, T, E> {
 }
 
 /// Whether all modules are delivered.
-fn are_all_there(states: &[State]) -> bool
+fn are_all_delivered(states: &[State]) -> bool
     ensures all { result ≡ true → (k : ℕ) → k < length states.now → state_at states.now k ≡ State.Delivered }
     ensures other { result ≡ false → (k : ℕ) × (k < length states.now) × (state_at states.now k ≡ State.Delivered → ⊥) }
 {
@@ -69,7 +69,7 @@ fn look(states: &[State]) -> Claim
         Claim::Module {
             number: place as u32,
         }
-    } else if are_all_there(states) {
+    } else if are_all_delivered(states) {
         Claim::Finished
     } else {
         Claim::Later

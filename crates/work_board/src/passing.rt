@@ -1,12 +1,12 @@
-//! Blocks of places that are passed at once: looked at one after the other, the places without anything would be most of what
-//! the work on 4,096 small modules takes.
+//! Blocks of places that are passed at once: looked at one after the other, the places without anything would be a third of
+//! what an index of 4,000 small modules takes.
 ghost use Rattle.std.specs.Prelude.{◌≡◌, ◌<◌, ◌≤◌, ◌↔◌, ℕ, false, length, IsTrue};
 ghost use Rattle.work_board.specs.Marks.{marked};
 ghost use Rattle.work_board.specs.Keeping.{state_at};
 
 use crate::state::State;
 
-/// How many places are looked at together. A look at a block has no exit before its end, so that it takes many at once.
+/// How many places are looked at together. A loop over a block has no exit before its end, so that many places are taken at once.
 pub(crate) const BLOCK: usize = 64;
 
 /// Whether one of these places has a mark.
@@ -43,7 +43,7 @@ fn any_free(states: &[State], from: usize, to: usize) -> bool
     found
 }
 
-/// Behind the blocks at the front in which no module is free.
+/// The place behind the blocks at the front in which no module is free.
 fn behind_blocks(states: &[State]) -> usize
     ensures within { result ≤ length states.now }
     ensures passed { (k : ℕ) → k < result → state_at states.now k ≡ State.Free → ⊥ }
