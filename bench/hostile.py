@@ -454,6 +454,7 @@ GROWN = [
             "names 150 procedures deep": (lambda k: deep(many(150) * k),),
             "one name in 20,000 procedures": (lambda k: same_locals(many(20_000) * k),),
             "names of 200 letters": (lambda k: declared(long_names(many(5_000) * k)),),
+            "modules that declare a few names": (lambda k: small_modules(many(2_048) * k, lambda it: ()),),
             "190 parentheses in one another, again and again": (lambda k: one(b"MODULE M; BEGIN " + b"; ".join(many(400) * k * [190 * b"h(" + b"x" + 190 * b")"]) + b" END M."),),
         },
     ),
@@ -476,7 +477,8 @@ GROWN = [
             "names of 200 letters of a module that isn't in the tree": (lambda k: outside(long_names(many(2_500) * k)),),
             "names of 200 letters of a module of the tree": (lambda k: exporting(long_names(many(2_500) * k)),),
             "names of a module of the tree that fall together": (lambda k: exporting(together(k)),),
-            "modules of a few names": (lambda k: small_modules(many(2_000) * k, lambda it: ()),),
+            "modules of a few names": (lambda k: small_modules(many(2_048) * k, lambda it: ()),),
+            "modules of a few names, each of which imports the one before it": (lambda k: small_modules(many(2_048) * k, lambda it: (it - 1,) if it else ()), 3.1),
         },
     ),
     (
@@ -516,9 +518,14 @@ GROWN = [
 ]
 
 
-def instructions(words, folder):
+# By these the C library sets and copies bytes by no string instruction, of which valgrind counts each byte as one: rows of marks would
+# take a hundred times the instructions from 2,049 modules on.
+PLAIN = {"GLIBC_TUNABLES": "glibc.cpu.x86_rep_stosb_threshold=1000000000:glibc.cpu.x86_rep_movsb_threshold=1000000000"}
+
+
+def instructions(words, folder, settings={}):
     """The instructions of a run, by valgrind, and its status."""
-    ran = subprocess.run(["valgrind", "--tool=callgrind", "--callgrind-out-file=/dev/null", *words], cwd=folder, stdin=subprocess.DEVNULL, capture_output=True)
+    ran = subprocess.run(["valgrind", "--tool=callgrind", "--callgrind-out-file=/dev/null", *words], cwd=folder, env={**os.environ, **settings}, stdin=subprocess.DEVNULL, capture_output=True)
     return int(re.search(rb"Collected : (\d+)", ran.stderr)[1]), ran.returncode
 
 
@@ -558,11 +565,11 @@ def written(folder, files):
 
 def growth(program, words, folder, refuses, files):
     """The bytes of twice as much, the instructions of it over those of once as much, both beyond those of the help, and how often a run ended in another way than it should."""
-    none, _ = instructions([program, "--help"], folder)
+    none, _ = instructions([program, "--help"], folder, PLAIN)
     took, wrong, size = [], 0, 0
     for times in (1, 2):
         size = written(folder, files(times))
-        counted_now, status = instructions([program, *words], folder)
+        counted_now, status = instructions([program, *words], folder, PLAIN)
         took.append(counted_now)
         wrong += status != (REFUSED if refuses else ANSWERED)
     return size, times_of(none, *took), wrong
