@@ -518,8 +518,8 @@ GROWN = [
 ]
 
 
-# By these the C library sets and copies bytes by no string instruction, of which valgrind counts each byte as one: rows of marks would
-# take a hundred times the instructions from 2,049 modules on.
+# By these the C library sets and copies bytes by no string instruction, of which valgrind counts each byte as one: those that
+# clear rows of marks would be counted so from rows of some 2,000 bytes on, and not below.
 PLAIN = {"GLIBC_TUNABLES": "glibc.cpu.x86_rep_stosb_threshold=1000000000:glibc.cpu.x86_rep_movsb_threshold=1000000000"}
 
 
