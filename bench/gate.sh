@@ -1,5 +1,5 @@
 #!/usr/bin/env bash
-# Times the tests' command, or the proof and the edits of each crate, or the functions of one:
+# Times the tests' command, or the proof and the edits of each crate, whose lines it keeps in .ci/tried, or the functions of one:
 # bench/gate.sh [run | crates [CRATE ..] | slow CRATE]
 set -eu
 cd "$(dirname "$0")/.."

@@ -144,7 +144,7 @@ pub fn small_answers_the_same()
         IsCheapestSaid small (slice_index places a) (slice_index places b) said → IsCheapestSaid net a b (said_whole numbers said) }
 {}
 
-/// Where no chain leads from a to b, no flow is a greatest flow.
+/// Where no chain leads from a to b, a flow of nothing is a greatest flow.
 pub fn no_chain_no_flow()
     ensures { (net : Network) (a b : ℕ) → (Chain net.imports Any a b → ⊥) → IsGreatestFlow net a b (λ i. 0) 0 }
 {}

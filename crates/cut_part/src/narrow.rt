@@ -1,5 +1,5 @@
 //! The imports of a network with their weights lowered to what a flow between two modules can use.
-ghost use Rattle.std.specs.Prelude.{◌≡◌, ◌≢◌, ◌<◌, ◌≤◌, ◌^◌, ◌+◌, ◌-◌, ℕ, All, IfOk, length, slice_set, slice_index, sum_by, vec_len};
+ghost use Rattle.std.specs.Prelude.{◌≡◌, ◌≢◌, ◌<◌, ◌≤◌, ◌^◌, ◌+◌, ◌-◌, All, IfOk, length, slice_set, slice_index, sum_by, vec_len};
 ghost use Rattle.cut_net.specs.WellFormed.{AreBetween};
 ghost use Rattle.cut_part.specs.Narrowing.{import_in, weighing};
 ghost use Rattle.cut_part.specs.Tallies.{weight_of, AreTallies, IsRoom, NarrowsTo};

@@ -1,5 +1,5 @@
 //! The modules of a network between two others, and the imports between them.
-ghost use Rattle.std.specs.Prelude.{◌≡◌, ◌<◌, ◌≤◌, ◌&&◌, ℕ, Bool, IfOk, IsTrue, ◌↔◌, All, filter, map, length, slice_index, take};
+ghost use Rattle.std.specs.Prelude.{◌≡◌, ◌<◌, ◌≤◌, ◌&&◌, ℕ, IfOk, All, filter, map, length, slice_index};
 ghost use Rattle.cut_net.specs.Cuts.{AreThose};
 ghost use Rattle.cut_net.specs.Network.{name_of, texts};
 ghost use Rattle.cut_net.specs.WellFormed.{AreBetween};

@@ -1,7 +1,6 @@
 //! The trial as it was before it passed by arcs in one loop: it looks up one residual arc after the other. The trial of today is compared with it,
 //! so its steps stay as they are. Nothing is proved of it but that it is safe.
 ghost use Rattle.std.specs.Prelude.{◌≡◌, ◌<◌, All, IfOk, IfSome, OnOk, length, not, vec_len};
-ghost use Rattle.cut_residual.specs.Graphs.{HasArc};
 ghost use Rattle.cut_residual.specs.OutArcs.{IsOutOf};
 
 use cut_residual::{OutArc, ResidualArc, ResidualGraph, order_of};

@@ -1,5 +1,5 @@
 //! Two workers whose turns a gate orders, and workers whose gate is open.
-ghost use Rattle.std.specs.Prelude.{◌≡◌, ◌≤◌, false};
+ghost use Rattle.std.specs.Prelude.{◌≡◌, false};
 ghost use Rattle.cut_net.specs.Pins.{PinChain};
 ghost use Rattle.cut_preflow.specs.Flows.{AreEnds, network_between};
 

@@ -1,5 +1,5 @@
 //! A graph on which the way on goes back over flow, and what the calls leave of it.
-ghost use Rattle.std.specs.Prelude.{◌≡◌, ◌≤◌, ◌<◌, ◌≢◌, IsTrue};
+ghost use Rattle.std.specs.Prelude.{◌≤◌, ◌<◌, ◌≢◌, IsTrue};
 
 use crate::told::is_told;
 use cut_residual::{Arc, ResidualArc, ResidualGraph, path_to, search};

@@ -1,6 +1,5 @@
 //! Prices of a network, its part between two modules, its weights narrowed, its imports turned round, and from which end a preflow starts.
-ghost use Rattle.std.specs.Prelude.{◌≡◌, ◌<◌, IsTrue, length};
-ghost use Rattle.cut_preflow.specs.Flows.{AreEnds};
+ghost use Rattle.std.specs.Prelude.{◌<◌, IsTrue};
 
 use crate::told::is_told;
 use crate::worked::{DIAMOND, TWO_IMPORTS, TWO_WAYS, net_of, tell_lines};

@@ -1,5 +1,5 @@
 //! What the commands that index a tree put, over any sink.
-ghost use Rattle.std.specs.Prelude.{◌≡◌, ◌++◌, IfOk, List, false, map};
+ghost use Rattle.std.specs.Prelude.{◌≡◌, ◌++◌, IfOk, false, map};
 ghost use Rattle.std.specs.String.{string_bytes};
 ghost use Rattle.byte_sink.specs.Sinks.{failures_by};
 ghost use Rattle.ob_board.specs.Unresolved.{plain_unresolved};

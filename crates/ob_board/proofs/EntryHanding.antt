@@ -1,5 +1,5 @@
 -- The entry of a module, and the entries of all.
-use Rattle.std.proofs.Common.{◌≡◌, ℕ, zero, suc, ◌<◌, Bool, true, false, List, [], ◌∷◌, ◌++◌, length, get_or, map, Some, refl, sym, ap, ◌∙◌, subst, arith, inl, inr}
+use Rattle.std.proofs.Common.{◌≡◌, ℕ, zero, suc, ◌<◌, Bool, true, false, List, [], ◌∷◌, length, get_or, map, Some, refl, sym, ap, ◌∙◌, subst, arith, inl, inr}
 use Rattle.std.specs.Prelude.{Contains, slice_get, Box}
 use Rattle.std.specs.Arc.{arc_value}
 use Rattle.std.specs.List.{flat_map}
@@ -20,7 +20,7 @@ use Rattle.oscip_tree.specs.declared.source.Source.{Source}
 use Rattle.oscip_tree.specs.declared.parts.TreeParts.{TreeParts}
 use Rattle.oscip_tree.specs.Parts.{ArePartsOfTree}
 use Rattle.oscip_tree.specs.Trees.{ModuleFile}
-use Rattle.scip_index.specs.Plain.{PlainDocument, PlainIndex, PlainSymbol}
+use Rattle.scip_index.specs.Plain.{PlainDocument, PlainIndex}
 use Rattle.ob_board.specs.declared.entry.Entry.{Entry}
 use Rattle.board_workers.specs.Parts.{AreEntries as AreAtBoard}
 use Rattle.tree_board.specs.Boards.{modules_of}

@@ -1,5 +1,5 @@
 -- What stands for nothing is an identifier, and identifiers are texts.
-use Rattle.std.proofs.Common.{◌≡◌, ℕ, zero, suc, ◌+◌, ◌-◌, ◌<◌, true, false, List, [], ◌∷◌, map, take, drop, length, refl, sym, ◌∙◌, subst, arith, inl, inr}
+use Rattle.std.proofs.Common.{◌≡◌, ℕ, zero, suc, ◌+◌, ◌<◌, true, false, List, [], ◌∷◌, map, length, refl, sym, ◌∙◌, subst, arith, inl, inr}
 use Rattle.std.specs.Prelude.{Contains}
 use Rattle.std.specs.List.{enumerate_from, filter, filter_map}
 use Rattle.std.specs.Str.{IsUtf8}
@@ -11,8 +11,8 @@ use Rattle.ob_scan.specs.declared.kind.Kind.TheVariants as kinds
 use Rattle.ob_scan.specs.declared.token.Token.{Token}
 use Rattle.ob_scan.specs.Spelling.{Spells}
 use Rattle.ob_scan.specs.Tokens.{is_name}
-use Rattle.ob_scan.proofs.NameTokens.{spelled_names}
-use Rattle.ob_scope.specs.Texts.{no_token, text_at, token_at}
+use Rattle.ob_scan.proofs.NameTokens.{IsNamed, spelled_names}
+use Rattle.ob_scan.specs.Texts.{no_token, text_at, token_at}
 use Rattle.ob_scope.proofs.Names.{same_test}
 use Rattle.ob_targets.specs.declared.target.Reference.{Reference}
 use Rattle.ob_targets.specs.Refers.{identifiers, is_identifier, is_unresolved, identifier_number, unresolved}
@@ -51,5 +51,5 @@ texts_of bytes ts refs spells same k has =
     let all : Contains (identifiers ts) k = subst (Contains (identifiers ts)) is (subst (λ (ks : List ℕ). Contains ks r.number) same (in_map (λ (r : Reference). r.number) refs r there)) in
     let (j, lt, at, kind) = ident_from ts 0 k all in
     let here : k ≡ j = omega arith in
-    let named : is_name (text_at bytes ts j) ≡ true = All-get_or (λ (t : Token). t.kind ≡ kinds.Ident → is_name (take (t.end - t.start) (drop t.start bytes)) ≡ true) ts j no_token lt (spelled_names bytes ts spells) kind in
+    let named : is_name (text_at bytes ts j) ≡ true = All-get_or (IsNamed bytes) ts j no_token lt (spelled_names bytes ts spells) kind in
     name_is_text (text_at bytes ts k) (rw here named)

@@ -6,8 +6,8 @@ use Rattle.ob_emit.proofs.Positions.{position_column}
 use Rattle.ob_emit.specs.Documents.{document_of}
 use Rattle.ob_emit.specs.Externals.{externals_in, AreExternals}
 use Rattle.ob_scan.specs.declared.token.Token.{Token}
+use Rattle.ob_scan.specs.Texts.{token_at}
 use Rattle.ob_scope.proofs.OneScopes.{each_same, one_scopes}
-use Rattle.ob_scope.specs.Texts.{token_at}
 use Rattle.ob_targets.proofs.OneReferences.{one_references}
 use Rattle.ob_targets.specs.declared.target.Reference.{Reference}
 use Rattle.ob_targets.specs.Refers.{unresolved, AreReferences}

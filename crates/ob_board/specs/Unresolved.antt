@@ -4,7 +4,7 @@ use Rattle.std.specs.List.{flat_map}
 use Rattle.std.specs.String.{string_bytes}
 use Rattle.ob_scan.specs.declared.token.Token.{Token}
 use Rattle.ob_scan.specs.Position.{IsPosition}
-use Rattle.ob_scope.specs.Texts.{text_at, token_at}
+use Rattle.ob_scan.specs.Texts.{text_at, token_at}
 use Rattle.ob_targets.specs.declared.target.Reference.{Reference}
 use Rattle.ob_targets.specs.Refers.{unresolved}
 use Rattle.oscip_tree.specs.Trees.{IsTree, ModuleFile}

@@ -1,16 +1,14 @@
 //! What is found of a module: its interface, and its identifiers that stand for nothing.
-ghost use Rattle.std.specs.Prelude.{◌≡◌, map, All, IfOk, List};
+ghost use Rattle.std.specs.Prelude.{◌≡◌, map, IfOk, List};
 ghost use Rattle.std.specs.Arc.{arc_value};
 ghost use Rattle.std.specs.Bool.{OnTrue};
-ghost use Rattle.std.specs.Str.{IsUtf8};
 ghost use Rattle.ob_decls.specs.Declaring.{rows_in};
-ghost use Rattle.ob_scan.specs.Spelling.{AreInText, Spells};
-ghost use Rattle.ob_scope.specs.Texts.{text_at};
+ghost use Rattle.ob_scan.specs.Spelling.{AreInText};
+ghost use Rattle.ob_scan.specs.Texts.{text_at};
 ghost use Rattle.ob_targets.specs.declared.target.Reference.{Reference};
 ghost use Rattle.ob_targets.specs.Refers.{unresolved, AreReferences};
 ghost use Rattle.ob_types.specs.Homes.{AreByName};
 ghost use Rattle.ob_types.specs.World.{world};
-ghost use Rattle.work_board.specs.Graphs.{row_at};
 ghost use Rattle.tree_board.specs.Seen.{all_seen, AreSourcesRead};
 ghost use Rattle.ob_board.specs.Entries.{interfaces_of};
 ghost use Rattle.ob_board.specs.Found.{IsAtHand};

@@ -1,6 +1,6 @@
 //! The index of a tree with its documents written: whoever makes a document makes its bytes, so that the calling thread is left with
 //! bytes to put, and no document is kept as a message.
-ghost use Rattle.std.specs.Prelude.{◌≡◌, ◌≤◌, false, map, IfErr, IfOk};
+ghost use Rattle.std.specs.Prelude.{◌≡◌, false, map, IfErr, IfOk};
 ghost use Rattle.std.specs.List.{flat_map};
 ghost use Rattle.std.specs.String.{string_bytes};
 ghost use Rattle.ob_emit.specs.Externals.{AreExternalRows, AreExternals};

@@ -1,5 +1,5 @@
 -- The rows of a designator's selectors stand before those of what stands in them.
-use Rattle.std.proofs.Common.{◌≡◌, ℕ, suc, ◌+◌, ◌≤◌, Bool, false, List, [], ◌∷◌, ◌++◌, length, set, take, map, refl, sym, ap, ◌∙◌, append_assoc, length-append, get_or, ◌<◌, Option, arith}
+use Rattle.std.proofs.Common.{◌≡◌, ℕ, suc, ◌+◌, Bool, false, List, [], ◌∷◌, ◌++◌, length, set, take, map, refl, sym, ap, ◌∙◌, append_assoc, length-append, get_or, ◌<◌, Option, arith}
 use Rattle.std.proofs.lemmas.List.{append-nil, set_at}
 use Rattle.ob_tree.specs.declared.expression.Designator.{Designator}
 use Rattle.ob_tree.specs.declared.expression.Selector.{Selector}

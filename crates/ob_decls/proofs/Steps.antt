@@ -1,5 +1,5 @@
 -- How a table grows, part by part.
-use Rattle.std.proofs.Common.{◌≡◌, ℕ, zero, suc, add-one, ◌+◌, ◌-◌, ◌<◌, ◌≤◌, List, [], ◌∷◌, ◌++◌, length, set, take, get_or, refl, sym, ap, ◌∙◌, append_assoc, map, arith}
+use Rattle.std.proofs.Common.{◌≡◌, ℕ, zero, suc, ◌+◌, ◌-◌, ◌≤◌, List, [], ◌∷◌, ◌++◌, length, set, refl, sym, ap, append_assoc, map, arith}
 use Rattle.std.proofs.lemmas.List.{append-nil, set_at, take_all}
 use Rattle.std.proofs.lemmas.Grind.{take_at_read}
 use Rattle.ob_decls.specs.declared.rows.Sort.{Sort}

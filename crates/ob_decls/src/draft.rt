@@ -1,7 +1,7 @@
 //! A table that is being made.
 
 ghost use Rattle.std.specs.Prelude.{◌≡◌, ◌+◌, ◌++◌, ◌∷◌, [], false, length, IfOk};
-ghost use Rattle.ob_decls.specs.Parts.{declarer, declaring_at, in_block, one_block, one_declarer, one_declared, one_designator, one_end, one_import, one_part, one_record, one_used, record_for, these_selectors};
+ghost use Rattle.ob_decls.specs.Parts.{declarer, declaring_at, in_block, one_block, one_declarer, one_declared, one_designator, one_end, one_import, one_part, one_record, one_used, these_selectors};
 ghost use Rattle.ob_decls.specs.Drafts.{added, closed, passed, settled, stage_of, start, ComesTo};
 
 use crate::rows::{

@@ -8,7 +8,7 @@ use Rattle.ob_decls.specs.declared.rows.Declarer.{Declarer}
 use Rattle.ob_decls.specs.declared.rows.Sort.{Sort}
 use Rattle.ob_decls.specs.Declaring.{own_name}
 use Rattle.ob_interface.proofs.Ranks.{find_first}
-use Rattle.ob_scope.specs.Texts.{token_at}
+use Rattle.ob_scan.specs.Texts.{token_at}
 use Rattle.ob_targets.specs.declared.target.Reference.{Reference}
 use Rattle.ob_targets.specs.declared.target.Target.{Target}
 use Rattle.ob_targets.specs.declared.target.Target.TheVariants as targets

@@ -10,7 +10,7 @@ use Rattle.ob_decls.specs.declared.rows.Declared.{Declared}
 use Rattle.ob_decls.specs.declared.rows.Declarer.{Declarer}
 use Rattle.ob_decls.specs.declared.rows.Import.{Import}
 use Rattle.ob_decls.specs.Declaring.{own_name}
-use Rattle.ob_scope.specs.Texts.{text_at}
+use Rattle.ob_scan.specs.Texts.{text_at}
 use Rattle.ob_scope.specs.Members.{declarer_at, member_by, members_of}
 use Rattle.ob_scope.proofs.Elements.{contains_slice, some_one}
 use Rattle.ob_scope.proofs.Names.{same_test}

@@ -4,13 +4,7 @@ use Rattle.std.specs.Prelude.{if◌then◌else◌}
 use Rattle.std.specs.List.{range_with_len}
 use Rattle.std.proofs.lemmas.List.FromFn.{length-range_with_len}
 use Rattle.std.proofs.lemmas.List.Sums.{count_by-le-length}
-use Rattle.std.proofs.lemmas.Bool.{cases_lt}
-use Rattle.std.proofs.lemmas.List.{get_or_past}
-use Rattle.std.proofs.lemmas.List.Elements.{All-get_or}
-use Rattle.ob_scan.specs.declared.token.Token.{Token}
 use Rattle.ob_scan.specs.Position.{ends_line, IsPosition}
-use Rattle.ob_scan.specs.Spelling.{AreInText}
-use Rattle.ob_scope.specs.Texts.{no_token, token_at}
 use Rattle.ob_emit.specs.Documents.{column_of, line_number}
 
 -- behind a line end the column is 0
@@ -66,19 +60,3 @@ line_fits bytes offset n line e l h = omega (arith, line_within bytes offset)
 
 pub column_fits : (bytes : List ℕ) (offset n column : ℕ) → column ≡ column_of bytes offset → offset ≤ length bytes → length bytes < n → column < n
 column_fits bytes offset n column e l h = omega (arith, column_within bytes offset)
-
--- tokens stand within the text; one beyond the last stands at its front
-pub end_within : (bytes : List ℕ) (ts : List Token) (k e : ℕ) → AreInText bytes ts → e ≡ (token_at ts k).end → e ≤ length bytes
-end_within bytes ts k e h is = elim (cases_lt k (length ts)) [
-  | inl below ↦ (let l : (token_at ts k).end ≤ length bytes = All-get_or (λ (t : Token). t.end ≤ length bytes) ts k no_token below h.within in omega arith)
-  | inr above ↦ (let none : token_at ts k ≡ no_token = get_or_past ts k no_token above in let z : e ≡ 0 = is ∙ ap (λ (t : Token). t.end) none in omega arith)
-]
-
-pub start_within : (bytes : List ℕ) (ts : List Token) (k s : ℕ) → AreInText bytes ts → s ≡ (token_at ts k).start → s ≤ length bytes
-start_within bytes ts k s h is = elim (cases_lt k (length ts)) [
-  | inl below ↦ (
-      let l : (token_at ts k).end ≤ length bytes = All-get_or (λ (t : Token). t.end ≤ length bytes) ts k no_token below h.within in
-      let m : (token_at ts k).start < (token_at ts k).end = All-get_or (λ (t : Token). t.start < t.end) ts k no_token below h.some in
-      omega arith)
-  | inr above ↦ (let none : token_at ts k ≡ no_token = get_or_past ts k no_token above in let z : s ≡ 0 = is ∙ ap (λ (t : Token). t.start) none in omega arith)
-]

@@ -32,7 +32,7 @@ use Rattle.ob_scope.specs.declared.members.Member.{Member}
 use Rattle.ob_scope.specs.Members.{declarer_at, member_by, members_of}
 use Rattle.ob_scope.specs.Scope.{ResolvesTo, by_scope, as_target}
 use Rattle.ob_scope.specs.Scoped.{AreScopes, Meaning, MeansBy}
-use Rattle.ob_scope.specs.Texts.{text_at}
+use Rattle.ob_scan.specs.Texts.{text_at}
 use Rattle.ob_targets.specs.declared.known.Known.{Known}
 use Rattle.ob_targets.specs.declared.known.Known.TheVariants as knowns
 use Rattle.ob_targets.specs.declared.standing.Standing.{Standing}

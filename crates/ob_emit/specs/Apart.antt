@@ -7,7 +7,7 @@ use Rattle.ob_decls.specs.declared.rows.Record.{Record as RecordRow}
 use Rattle.ob_interface.specs.Interfaces.{declaration_of, Declaration}
 use Rattle.ob_scope.specs.Members.{members_of}
 use Rattle.ob_scope.specs.Scope.{NoneTwice}
-use Rattle.ob_scope.specs.Texts.{text_at}
+use Rattle.ob_scan.specs.Texts.{text_at}
 use Rattle.ob_types.specs.World.{World}
 use Rattle.scip_symbol.specs.SymbolTexts.{PlainSymbol, Local, Global}
 

@@ -1,5 +1,5 @@
 //! Laws of what callers of documents know. Each function is a law: its body is empty, and its contract is proved.
-ghost use Rattle.std.specs.Prelude.{◌≡◌, ◌≢◌, ◌<◌, ◌^◌, ℕ, Contains, List, [], Some, None, length, slice_get, false, true};
+ghost use Rattle.std.specs.Prelude.{◌≡◌, ◌≢◌, ◌<◌, ◌^◌, ℕ, Contains, List, [], Some, length, slice_get, false, true};
 ghost use Rattle.std.specs.Option.{is_some};
 ghost use Rattle.ob_scan.specs.declared.token.Token.{Token};
 ghost use Rattle.ob_scan.specs.Spelling.{Spells};

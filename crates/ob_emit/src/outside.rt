@@ -1,16 +1,14 @@
 //! The symbols that are declared outside of a tree.
 ghost use Rattle.std.specs.Prelude.{◌≡◌, IfOk, map, Some, None, []};
-ghost use Rattle.std.specs.List.{filter_map};
 ghost use Rattle.std.specs.Option.{option_and_then, option_map};
 ghost use Rattle.std.specs.String.{string_bytes};
-ghost use Rattle.ob_targets.specs.declared.target.Reference.{Reference as ReferenceValue};
 ghost use Rattle.ob_targets.specs.declared.target.Target.TheVariants.{External};
 ghost use Rattle.ob_types.specs.World.{text};
 ghost use Rattle.scip_index.specs.Plain.{plain_symbol};
 ghost use Rattle.ob_emit.specs.Externals.{AreExternalRows, AreExternals, external_module, external_row, externals_in};
 ghost use Rattle.ob_emit.specs.Made.{front_text, outside_row, AreEnough};
 ghost use Rattle.ob_emit.specs.Named.{HaveNames, AreOfNames, IsName};
-ghost use Rattle.std.specs.Prelude.{List, ℕ};
+ghost use Rattle.std.specs.Prelude.{ℕ};
 
 use crate::fronts::front_text;
 use crate::module_texts::{external_text, module_text};

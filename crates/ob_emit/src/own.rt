@@ -4,9 +4,9 @@ ghost use Rattle.std.specs.Option.{option_map};
 ghost use Rattle.ob_decls.specs.declared.rows.Declared.{Declared};
 ghost use Rattle.ob_decls.specs.declared.rows.Declarer.{Declarer};
 ghost use Rattle.ob_decls.specs.Declaring.{rows_in};
-ghost use Rattle.ob_types.specs.World.{declarer_of, owner_at};
+ghost use Rattle.ob_types.specs.World.{declarer_of};
 ghost use Rattle.ob_emit.specs.Made.{step_told};
-ghost use Rattle.ob_emit.specs.Symbols.{is_local, own_step, own_step_by, own_steps};
+ghost use Rattle.ob_emit.specs.Symbols.{is_local, own_step, own_steps};
 
 use crate::near_rows::declarer_near;
 use crate::steps::{Nested, StepRow, step_in_block, step_in_record};

@@ -2,7 +2,7 @@
 ghost use Rattle.std.specs.Prelude.{◌≡◌, ◌≤◌, ◌<◌, ◌^◌, IfOk, length};
 ghost use Rattle.ob_scan.specs.Position.{line_starts};
 ghost use Rattle.ob_scan.specs.Spelling.{AreInText};
-ghost use Rattle.ob_scope.specs.Texts.{token_at};
+ghost use Rattle.ob_scan.specs.Texts.{token_at};
 ghost use Rattle.ob_emit.specs.Documents.{column_of, construct_range, enclosing_range, line_number, range_by, range_of, span_of};
 ghost use Rattle.std.specs.Prelude.{List, ℕ};
 

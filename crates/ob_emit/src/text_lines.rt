@@ -1,7 +1,7 @@
 //! Lines told from where the last one was.
-ghost use Rattle.std.specs.Prelude.{◌≡◌, ◌≤◌, ◌<◌, ◌^◌, ℕ, List, false, length, slice_index, leb, IfNone, IfOk, IfSome};
+ghost use Rattle.std.specs.Prelude.{◌≡◌, ◌≤◌, ◌<◌, ℕ, List, false, length, leb, IfOk};
 ghost use Rattle.std.specs.Bool.{OnTrue};
-ghost use Rattle.ob_scan.specs.Position.{ends_line, line_starts, IsLineTable, IsPosition};
+ghost use Rattle.ob_scan.specs.Position.{line_starts, IsLineTable, IsPosition};
 ghost use Rattle.ob_emit.specs.LinesFound.{IsInLine};
 
 use ob_scan::{Lines, Position, lines};

@@ -1,10 +1,9 @@
 //! The declarations of a module that is reached, by their places in its interface.
 ghost use Rattle.std.specs.Prelude.{◌≡◌};
 ghost use Rattle.std.specs.Option.{option_map};
-ghost use Rattle.ob_interface.specs.Interfaces.{Declaration as DeclarationSeen};
 ghost use Rattle.ob_interface.specs.Answered.{declaration_told};
 ghost use Rattle.ob_emit.specs.Made.{step_told};
-ghost use Rattle.ob_emit.specs.Symbols.{step_by, step_there, steps_there};
+ghost use Rattle.ob_emit.specs.Symbols.{step_there, steps_there};
 
 use crate::steps::{Nested, StepRow, step_in_block, step_in_record};
 use ob_interface::{Declaration, Interface};

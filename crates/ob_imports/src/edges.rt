@@ -6,7 +6,7 @@ ghost use Rattle.std.specs.String.{string_bytes};
 ghost use Rattle.ob_imports.specs.Files.{files_of, Imports, IsNode};
 ghost use Rattle.ob_imports.specs.Names.{texts, LeadsBy};
 ghost use Rattle.ob_imports.specs.Numbering.{all_pairs, pairs_from};
-ghost use Rattle.digraph.specs.Edges.{AreBetween, IsAscending, Leads};
+ghost use Rattle.digraph.specs.Edges.{IsAscending, Leads};
 
 use crate::names::number_of;
 use crate::{Edge, Parsed};

@@ -2,7 +2,7 @@
 ghost use Rattle.std.specs.Prelude.{◌≡◌, ◌≤◌, ◌↔◌, ◌++◌, Contains, IfNone, IfOk, IfSome, List, OnOk, length, ℕ};
 ghost use Rattle.std.specs.List.{IsDistinct};
 ghost use Rattle.std.specs.Str.{bytes_eq};
-ghost use Rattle.ob_imports.specs.Files.{files_of, names_of, AreNodes, DifferInName, IsExternal};
+ghost use Rattle.ob_imports.specs.Files.{files_of, names_of, AreNodes, DifferInName};
 ghost use Rattle.ob_imports.specs.Names.{texts, AreAscending};
 ghost use Rattle.ob_imports.specs.Numbering.{all_lacked, lacked, place_of};
 ghost use Rattle.ob_imports.specs.Outcomes.{AreFiles, HasManyNodes};

@@ -1,6 +1,6 @@
 //! The order of names.
-ghost use Rattle.std.specs.Prelude.{◌≡◌, ◌≤◌, ◌<◌, All, IfOk, IsPermutation, length, map};
-ghost use Rattle.std.specs.List.{slice_index_or, IsDistinct};
+ghost use Rattle.std.specs.Prelude.{◌≡◌, ◌≤◌, ◌<◌, All, IfOk, length, map};
+ghost use Rattle.std.specs.List.{IsDistinct};
 ghost use Rattle.std.specs.Str.{bytes_eq};
 ghost use Rattle.ob_imports.specs.Names.{texts, IsByName};
 ghost use Rattle.ob_imports.specs.Numbering.{IsNumbered};

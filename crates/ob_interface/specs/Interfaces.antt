@@ -1,9 +1,9 @@
 -- What other modules see of a module (Oberon-07 report, sections 4 to 6, 10 and 11).
-use Rattle.std.specs.Prelude.{ℕ, ◌-◌, ◌==◌, List, map, take, drop, slice_index_or, Option, Some, None, Bool, true, false, ◌&&◌, if◌then◌else◌}
+use Rattle.std.specs.Prelude.{ℕ, ◌==◌, List, map, Option, Some, None, Bool, true, false, ◌&&◌, if◌then◌else◌}
 use Rattle.std.specs.Option.{option_map}
 use Rattle.std.specs.List.{filter, filter_map, find}
-use Rattle.ob_scan.specs.declared.kind.Kind.TheVariants as kinds
 use Rattle.ob_scan.specs.declared.token.Token.{Token}
+use Rattle.ob_scan.specs.Texts.{text_at, token_at}
 use Rattle.ob_decls.specs.declared.rows.Sort.{Sort}
 use Rattle.ob_decls.specs.declared.rows.Sort.TheVariants as sorts
 use Rattle.ob_decls.specs.declared.rows.Part.{Part as PartRow}
@@ -61,20 +61,9 @@ pub record ModuleInterface : Type 0 where
 
 -- ---- tokens
 
--- a token beyond the last
-abbrev pub no_token : Token
-no_token = record { kind = kinds.Dot; start = 0; end = 0 }
-
-abbrev pub token_at : List Token → ℕ → Token
-token_at ts k = slice_index_or ts k no_token
-
 -- where the token of this number begins
 abbrev pub start_at : List Token → ℕ → ℕ
 start_at ts k = (token_at ts k).start
-
--- the bytes of the token of this number
-abbrev pub text_at : List ℕ → List Token → ℕ → List ℕ
-text_at bytes ts k = take ((token_at ts k).end - (token_at ts k).start) (drop (token_at ts k).start bytes)
 
 -- ---- rows with their texts
 

@@ -5,9 +5,9 @@ ghost use Rattle.ob_interface.specs.Places.{entries_from};
 ghost use Rattle.std.specs.Option.{option_copied, option_to_list};
 
 use crate::answers::parts_between;
+use crate::buffer::place;
 use crate::order::{put_by_name, put_by_record};
 use crate::rows::{BaseRow, DeclarationRow, ImportRow, NamePlace, PartRow, RecordPlace, RowPart};
-use crate::source::place;
 use std::alloc::{AllocError, Global};
 
 /// The entry of a declaration at this place.

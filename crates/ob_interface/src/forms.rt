@@ -7,10 +7,11 @@ ghost use Rattle.ob_scan.specs.Spelling.{AreInText};
 ghost use Rattle.ob_interface.specs.Interfaces.{is_part_by, part_of};
 ghost use Rattle.ob_interface.specs.Texts.{part_row_in, AllTell, IsGrown};
 
+use crate::buffer::{add_part, place};
 use crate::rows::PartRow;
-use crate::source::{Source, add_part, place};
 use indexmap::IndexMap;
 use ob_decls::{Declarer, FormPart};
+use ob_scan::TokenTexts;
 use std::alloc::{AllocError, Global};
 
 /// The parts that these constructs give, in their order.
@@ -61,7 +62,7 @@ pub(crate) fn places_of(parts: &[FormPart], declared_by: u32) -> Result<(u32, u3
 pub(crate) fn add_parts(
     alloc: Global,
     text: &mut Vec<u8>,
-    source: &Source,
+    source: &TokenTexts,
     parts: &[FormPart],
 ) -> Result<Vec<PartRow>, AllocError>
     requires { AreInText source.now.bytes.now source.now.tokens.now }

@@ -49,7 +49,7 @@ fn indexes_of(alloc: Global, rows: &Rows) -> Result<RowIndexes, AllocError>
     })
 }
 
-/// What other modules see of a module, with indexes. A contract sees it as the `ModuleInterface`. It holds no borrow.
+/// What other modules see of a module, with indexes, by which a look-up is one search. A contract sees it as the `ModuleInterface`. It holds no borrow.
 ///
 /// A declaration is told by its place among the declarations, in the order of the file, from 0; a record by the number of its RECORD's
 /// token, from 0. Of several that would do, the first in the file is answered.

@@ -10,11 +10,12 @@ ghost use Rattle.ob_scan.specs.Spelling.{AreInText};
 ghost use Rattle.ob_interface.specs.Interfaces.{base, base_by, declaration, declaration_by, imported_of, is_seen_outside};
 ghost use Rattle.ob_interface.specs.Texts.{base_in, declaration_in, form_at, import_in, AllTell, IsGrown, TellsOn};
 
+use crate::buffer::{add_name, add_text};
 use crate::forms::places_of;
 use crate::rows::{BaseRow, DeclarationRow, ImportRow};
-use crate::source::{Source, add_name, add_text};
 use indexmap::IndexMap;
 use ob_decls::{Declared, Declarer, FormPart, Import, Record, Sort, TypeName};
+use ob_scan::TokenTexts;
 use std::alloc::{AllocError, Global};
 
 /// Whether what is declared as this is seen.
@@ -53,7 +54,7 @@ fn base_of(outers: &IndexMap<u32, Declarer>, record: Record) -> Option<TypeName>
 /// Adds the text of a declaration.
 fn add_declaration(
     text: &mut Vec<u8>,
-    source: &Source,
+    source: &TokenTexts,
     parts: &[FormPart],
     declared: Declared,
     declarer: Declarer,
@@ -64,7 +65,7 @@ fn add_declaration(
     ensures tells { IfOk result (λ d. TellsOn (declaration_in (form_at source.now.bytes.now source.now.tokens.now parts.now)) text.new.items d
         (declaration source.now.bytes.now source.now.tokens.now parts.now declared declarer)) }
 {
-    let name = add_text(text, source.text(declared.number))?;
+    let name = add_text(text, source.of(declared.number))?;
     let (first_part, parts_end) = places_of(parts, declared.declared_by)?;
     Ok(DeclarationRow {
         name,
@@ -82,7 +83,7 @@ fn add_declaration(
 pub(crate) fn add_declarations(
     alloc: Global,
     text: &mut Vec<u8>,
-    source: &Source,
+    source: &TokenTexts,
     outers: &IndexMap<u32, Declarer>,
     parts: &[FormPart],
     declared: &[Declared],
@@ -110,7 +111,7 @@ pub(crate) fn add_declarations(
 /// Adds the texts of a base.
 fn add_base(
     text: &mut Vec<u8>,
-    source: &Source,
+    source: &TokenTexts,
     record: u32,
     name: TypeName,
 ) -> Result<BaseRow, AllocError>
@@ -131,7 +132,7 @@ fn add_base(
 pub(crate) fn add_bases(
     alloc: Global,
     text: &mut Vec<u8>,
-    source: &Source,
+    source: &TokenTexts,
     outers: &IndexMap<u32, Declarer>,
     records: &[Record],
 ) -> Result<Vec<BaseRow>, AllocError>
@@ -155,13 +156,17 @@ pub(crate) fn add_bases(
 }
 
 /// Adds the texts of an import item.
-fn add_import(text: &mut Vec<u8>, source: &Source, import: Import) -> Result<ImportRow, AllocError>
+fn add_import(
+    text: &mut Vec<u8>,
+    source: &TokenTexts,
+    import: Import,
+) -> Result<ImportRow, AllocError>
     requires { AreInText source.now.bytes.now source.now.tokens.now }
     ensures grown { IfOk result (λ _. IsGrown text.old.items text.new.items) }
     ensures tells { IfOk result (λ i. TellsOn import_in text.new.items i (imported_of source.now.bytes.now source.now.tokens.now import)) }
 {
-    let alias = add_text(text, source.text(import.alias))?;
-    let imported = add_text(text, source.text(import.imported))?;
+    let alias = add_text(text, source.of(import.alias))?;
+    let imported = add_text(text, source.of(import.imported))?;
     Ok(ImportRow {
         alias,
         start: source.start(import.alias),
@@ -173,7 +178,7 @@ fn add_import(text: &mut Vec<u8>, source: &Source, import: Import) -> Result<Imp
 pub(crate) fn add_imports(
     alloc: Global,
     text: &mut Vec<u8>,
-    source: &Source,
+    source: &TokenTexts,
     imports: &[Import],
 ) -> Result<Vec<ImportRow>, AllocError>
     requires { AreInText source.now.bytes.now source.now.tokens.now }

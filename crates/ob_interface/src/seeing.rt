@@ -8,14 +8,14 @@ ghost use Rattle.ob_decls.specs.Declaring.{rows_in};
 ghost use Rattle.ob_interface.specs.Interfaces.{interface_of, is_part_by, outer_by};
 ghost use Rattle.ob_interface.specs.Rowed.{interface_in};
 
+use crate::buffer::add_text;
 use crate::forms::{add_parts, parts_of};
 use crate::members::{add_bases, add_declarations, add_imports};
 use crate::outers::outers_of;
 use crate::rows::Rows;
-use crate::source::{Source, add_text};
 use indexmap::IndexMap;
 use ob_decls::{Declarer, FormPart, Table};
-use ob_scan::Token;
+use ob_scan::{Token, TokenTexts};
 use std::alloc::{AllocError, Global};
 use std::marker::Model;
 
@@ -25,7 +25,7 @@ fn fill_rows(
     rows: &mut Rows,
     alloc: Global,
     table: &Table,
-    source: &Source,
+    source: &TokenTexts,
     outers: &IndexMap<u32, Declarer>,
     own: &[FormPart],
 ) -> Result<(), AllocError>
@@ -35,7 +35,7 @@ fn fill_rows(
     requires same { (k : ℕ) → IsSome (get nat_eq outers.now k) → filter (is_part_by k) own.now ≡ filter (is_part_by k) (rows_in table.now).parts }
     ensures { OnOk result (interface_in rows.new ≡ interface_of source.now.bytes.now source.now.tokens.now (rows_in table.now)) }
 {
-    rows.name = add_text(&mut rows.text, source.text(1))?;
+    rows.name = add_text(&mut rows.text, source.of(1))?;
     let declared = table.declared();
     rows.declarations = add_declarations(alloc, &mut rows.text, source, outers, own, declared)?;
     rows.bases = add_bases(alloc, &mut rows.text, source, outers, table.records())?;
@@ -48,7 +48,7 @@ fn fill_rows(
 fn rows_by(
     alloc: Global,
     table: &Table,
-    source: &Source,
+    source: &TokenTexts,
     outers: &IndexMap<u32, Declarer>,
 ) -> Result<Rows, AllocError>
     requires in_text { AreInText source.now.bytes.now source.now.tokens.now }
@@ -67,10 +67,10 @@ fn rows_of(alloc: Global, table: &Table, tokens: &[Token], bytes: &[u8]) -> Resu
     ensures { IfOk result (λ rows. interface_in rows ≡ interface_of bytes.now tokens.now (rows_in table.now)) }
 {
     let outers = outers_of(alloc, table.declarers())?;
-    rows_by(alloc, table, &Source { bytes, tokens }, &outers)
+    rows_by(alloc, table, &TokenTexts { bytes, tokens }, &outers)
 }
 
-/// What other modules see of a module, with its texts in one buffer. A contract sees it as the `ModuleInterface`.
+/// What other modules see of a module, with its texts in one buffer. A contract sees it as the `ModuleInterface`. It holds no borrow.
 #[derive(Drop)]
 pub struct Seen {
     pub(crate) rows: Rows,

@@ -1,12 +1,13 @@
--- A fault in a loop.
-use Rattle.std.proofs.Common.{◌≡◌, List, Some, refl, sym, ◌∙◌}
+-- The fault of a part, and of a turn, is that of the whole.
+use Rattle.std.proofs.Common.{◌≡◌, List, Some, Ok, Err, refl, sym, ◌∙◌}
+use Rattle.std.specs.Prelude.{IsErrAnd, Result}
 use Rattle.ob_scan.specs.declared.token.Token.{Token}
 use Rattle.ob_tree.specs.declared.token.Leaf.{Leaf}
 use Rattle.ob_tree.specs.Marks.{Out}
 use Rattle.ob_parse.specs.declared.stop.Stop.{Stop}
 use Rattle.ob_parse.specs.declared.stop.Stop.TheVariants as stops
-use Rattle.ob_parse.specs.Forms.{Read, Reader, Start, many}
-use Rattle.ob_parse.specs.Accords.{Fails}
+use Rattle.ob_parse.specs.Forms.{Read, Reader, Refusal, Start, many}
+use Rattle.ob_parse.specs.Accords.{Accords, Fails}
 use Rattle.ob_parse.proofs.Loops.{Advances, with_front, many_step}
 
 -- a turn that fails: the loop fails with it
@@ -15,3 +16,8 @@ pub ends : (start : Start) (r : Reader) → Advances start r → (ts : List Toke
 ends start r adv ts stops.Memory front ls s total e f h = tt
 ends start r adv ts (stops.Unexpected i) front ls s total e f h = sym h ∙ rw (many_step start r adv ls, e, f) refl
 ends start r adv ts (stops.TooDeep i) front ls s total e f h = sym h ∙ rw (many_step start r adv ls, e, f) refl
+
+-- the fault of a part is that of the whole
+pub stopped : {Y Z : Type 0} (ts : List Token) (view : Y → Z) (answer : Result Y Stop) (stop : Stop) (read : Result Z Refusal) → IsErrAnd answer (λ e. e ≡ stop) → Fails ts stop read → Accords ts view answer read
+stopped ts view (Ok x) stop read is fails = absurd is
+stopped ts view (Err e) stop read is fails = rw is fails

@@ -1,13 +1,15 @@
 -- The whole text: one tree, or none.
 use Rattle.std.proofs.Common.{◌≡◌, ℕ, ◌+◌, ◌<◌, ◌≤◌, List, ◌∷◌, ◌^◌, ◌++◌, Option, None, Some, slice_get, get_or, drop, Result, Ok, Err, length, refl, sym, ap, ◌∙◌, subst, arith, length-append, inl, inr}
 use Rattle.std.proofs.Math.Seq.{get_or-append_seam}
-use Rattle.std.proofs.lemmas.Option.{get_or_from_slice_get, slice_get_cases, slice_get_within}
+use Rattle.std.proofs.lemmas.Option.{slice_get_cases}
 use Rattle.std.proofs.lemmas.Bool.{cases_lt}
 use Rattle.std.proofs.lemmas.List.{drop_all, drop_more, length-map, take_all}
 use Rattle.std.specs.Prelude.{All}
+use Rattle.ob_scan.proofs.InText.{found_in_text}
 use Rattle.ob_scan.specs.declared.kind.Kind.{Kind}
 use Rattle.ob_scan.specs.declared.token.Token.{Token}
 use Rattle.ob_scan.specs.Spelling.{AreInText}
+use Rattle.ob_scan.specs.Texts.{bytes_of}
 use Rattle.ob_tree.specs.declared.declaration.Module.{Module}
 use Rattle.ob_tree.specs.Declaring.{module_outline}
 use Rattle.ob_tree.specs.Derives.{Derives, depth, endings_in, spelling}
@@ -23,7 +25,7 @@ use Rattle.ob_parse.specs.declared.cursor.Cursor.{Cursor}
 use Rattle.ob_parse.specs.declared.stop.Stop.{Stop}
 use Rattle.ob_parse.specs.declared.stop.Stop.TheVariants as stops
 use Rattle.ob_parse.specs.Ends.{AreTokenNumbers, IsPlaced, deep_told, told}
-use Rattle.ob_parse.specs.Parsed.{Pair, IsOneTree, IsTheTree, IsRightEnd, IsWrongEnd, IsEndFault, IsFaultOf, IsPlace, kinds_of, bytes_of, from_token, read_left, start_or}
+use Rattle.ob_parse.specs.Parsed.{Pair, IsOneTree, IsTheTree, IsRightEnd, IsWrongEnd, IsEndFault, IsFaultOf, IsPlace, kinds_of, from_token, read_left, start_or}
 use Rattle.ob_parse.specs.ReadModules.{all_of}
 use Rattle.ob_parse.proofs.Ahead.{leaves_length}
 use Rattle.ob_parse.proofs.SoundModules.{all_sound}
@@ -138,12 +140,7 @@ no_fault bytes ts m faults.Memory t f = refl
 
 pub place_in_text : (bytes : List ℕ) (ts : List Token) (at : ℕ) → AreInText bytes ts → IsPlace bytes ts at → at ≤ length bytes
 place_in_text bytes ts at h (inr end) = omega (arith, end)
-place_in_text bytes ts at h (inl s) =
-    let here : get_or ts s.number s.token ≡ s.token = get_or_from_slice_get ts s.number s.token s.token s.there in
-    let in_list : s.number < length ts = slice_get_within ts s.number s.token s.there in
-    let token = tokens_placed bytes ts h s.number s.token in_list in
-    let start : (get_or ts s.number s.token).start ≡ at = ap (λ (t : Token). t.start) here ∙ s.begins in
-    omega (arith, token.0, token.1, start)
+place_in_text bytes ts at h (inl s) = omega (arith, found_in_text bytes ts s.number s.token h s.there, s.begins)
 
 -- a tree of a text has no more tokens than the text has bytes
 pub few_tokens : (bytes : List ℕ) (ts : List Token) (m : Module) → AreInText bytes ts → length bytes ≤ 16777216 → Derives (kinds_of ts) m → length (spelling m) < 2 ^ 32

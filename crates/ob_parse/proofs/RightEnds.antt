@@ -9,12 +9,13 @@ use Rattle.std.proofs.lemmas.List.{take_more, take_all, take-append-drop, drop_m
 use Rattle.std.proofs.lemmas.List.Elements.{All-push}
 use Rattle.ob_scan.specs.declared.kind.Kind.TheVariants as kinds
 use Rattle.ob_scan.specs.declared.token.Token.{Token}
+use Rattle.ob_scan.specs.Texts.{bytes_of}
 use Rattle.ob_parse.specs.Ends.{IsEnd}
-use Rattle.ob_parse.specs.Parsed.{Pair, IsRightEnd, IsFirstWrong, bytes_of}
+use Rattle.ob_parse.specs.Parsed.{Pair, IsRightEnd, IsFirstWrong}
 
 -- what stands for a token beyond the list
-abbrev pub no_token : Token
-no_token = record { kind = kinds.Ident; start = 0; end = 0 }
+abbrev pub any_token : Token
+any_token = record { kind = kinds.Ident; start = 0; end = 0 }
 
 abbrev pair_at : (ts : List Token) (n k : ℕ) (d : Token) → n < length ts → k < length ts → Pair ts (n, k)
 pair_at ts n k d a b = record {

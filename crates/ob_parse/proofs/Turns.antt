@@ -1,13 +1,13 @@
 -- What the grammar repeats, and a loop that keeps what it reads of it at the end of a list.
 use Rattle.std.proofs.Common.{◌≡◌, ◌<◌, List, [], ◌∷◌, ◌++◌, length, Some, None, Ok, Err, refl}
-use Rattle.std.specs.Prelude.{IsErrAnd, Result}
+use Rattle.std.specs.Prelude.{Result}
 use Rattle.ob_scan.specs.declared.kind.Kind.{Kind}
 use Rattle.ob_scan.specs.declared.token.Token.{Token}
 use Rattle.ob_tree.specs.declared.token.Leaf.{Leaf}
 use Rattle.ob_tree.specs.Marks.{Out, each, word}
 use Rattle.ob_parse.specs.declared.cursor.Cursor.{Cursor}
 use Rattle.ob_parse.specs.declared.stop.Stop.{Stop}
-use Rattle.ob_parse.specs.Forms.{Front, Reader, Refusal, Start, many}
+use Rattle.ob_parse.specs.Forms.{Front, Reader, Start, many}
 use Rattle.ob_parse.specs.Accords.{Accords, Collects, Fails, ahead}
 use Rattle.ob_parse.specs.ReadExpressions.{as_word}
 use Rattle.ob_parse.proofs.Kept.{kept, unkept}
@@ -27,13 +27,8 @@ abbrev pub all_shown : {T : Type 0} → Repetition T → List T → Out
 all_shown r xs = each (λ x. r.marks ++ r.shown x) xs
 
 -- these were read from the one place up to the other
-abbrev pub AreRead : {T : Type 0} → List Token → Repetition T → List T → Cursor → Cursor → Type 0
-AreRead ts r xs input here = with_front (all_shown r xs) (many r.start r.read (ahead ts here)) ≡ many r.start r.read (ahead ts input)
-
--- the fault of a part is that of the whole
-pub stopped : {Y Z : Type 0} (ts : List Token) (view : Y → Z) (answer : Result Y Stop) (stop : Stop) (read : Result Z Refusal) → IsErrAnd answer (λ e. e ≡ stop) → Fails ts stop read → Accords ts view answer read
-stopped ts view (Ok x) stop read is fails = absurd is
-stopped ts view (Err e) stop read is fails = rw is fails
+abbrev pub AreTurnsRead : {T : Type 0} → List Token → Repetition T → List T → Cursor → Cursor → Type 0
+AreTurnsRead ts r xs input here = with_front (all_shown r xs) (many r.start r.read (ahead ts here)) ≡ many r.start r.read (ahead ts input)
 
 module _ {X T : Type 0} (ts : List Token) (r : Repetition T) (result : Result (X × Cursor) Stop) (value : X → T) (here behind : Cursor) (old new : List T) where
   -- a turn takes tokens
@@ -45,19 +40,19 @@ module _ {X T : Type 0} (ts : List Token) (r : Repetition T) (result : Result (X
 
   -- the list has one more
   pub turn_kept : (next input : Cursor) → r.start (ahead ts here) ≡ Some (r.marks, ahead ts behind) → Accords ts (λ x. (r.shown (value x.0), ahead ts x.1)) result (r.read (ahead ts behind)) →
-      Collects value old new result (Ok next) → AreRead ts r old input here → AreRead ts r new input next
+      Collects value old new result (Ok next) → AreTurnsRead ts r old input here → AreTurnsRead ts r new input next
   turn_kept next input found gives keeps h =
       let k = kept ts r.shown result value old new next (r.read (ahead ts behind)) gives keeps in
       pushed r.start r.read r.advances (λ x. r.marks ++ r.shown x) old new k.item (ahead ts here) (r.marks, ahead ts behind) (r.shown k.item, ahead ts next) _ k.items found k.is_read refl h
 
   -- a turn that fails: the loop fails with it
   pub turn_failed : (stop : Stop) (input : Cursor) → r.start (ahead ts here) ≡ Some (r.marks, ahead ts behind) → Accords ts (λ x. (r.shown (value x.0), ahead ts x.1)) result (r.read (ahead ts behind)) →
-      Collects value old new result (Err stop) → AreRead ts r old input here → Fails ts stop (many r.start r.read (ahead ts input))
+      Collects value old new result (Err stop) → AreTurnsRead ts r old input here → Fails ts stop (many r.start r.read (ahead ts input))
   turn_failed stop input found gives keeps h =
       ends r.start r.read r.advances ts stop (all_shown r old) (ahead ts here) (r.marks, ahead ts behind) _ found (unkept ts r.shown result value old new stop (r.read (ahead ts behind)) gives keeps) h
 
 -- behind the last turn
-pub turns_done : {T : Type 0} (ts : List Token) (r : Repetition T) (xs : List T) (here input : Cursor) → r.start (ahead ts here) ≡ None → AreRead ts r xs input here →
+pub turns_done : {T : Type 0} (ts : List Token) (r : Repetition T) (xs : List T) (here input : Cursor) → r.start (ahead ts here) ≡ None → AreTurnsRead ts r xs input here →
     many r.start r.read (ahead ts input) ≡ Ok (all_shown r xs, ahead ts here)
 turns_done ts r xs here input none h = is_done r.start r.read r.advances (all_shown r xs) (ahead ts here) _ none h
 

@@ -2,11 +2,12 @@
 use Rattle.std.specs.Prelude.{◌≢◌, ◌≤◌, ◌<◌, ℕ, List, length, slice_get, Bool, true, false, Option, Some, None}
 use Rattle.std.specs.List.{All}
 use Rattle.ob_scan.specs.declared.token.Token.{Token}
+use Rattle.ob_scan.specs.Texts.{bytes_of}
 use Rattle.ob_parse.specs.declared.fault.ParseFault.{ParseFault}
 use Rattle.ob_parse.specs.declared.fault.ParseFault.TheVariants as faults
 use Rattle.ob_parse.specs.declared.stop.Stop.{Stop}
 use Rattle.ob_parse.specs.declared.stop.Stop.TheVariants as stops
-use Rattle.ob_parse.specs.Parsed.{Pair, IsRightEnd, IsFirstWrong, bytes_of, start_or}
+use Rattle.ob_parse.specs.Parsed.{Pair, IsRightEnd, IsFirstWrong, start_or}
 
 -- both are numbers of tokens
 abbrev pub AreTokenNumbers : List Token → ℕ × ℕ → Type 0

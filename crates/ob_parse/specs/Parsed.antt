@@ -1,8 +1,9 @@
 -- What the tree of a text is, and why there is none (Oberon-07 report, appendix).
-use Rattle.std.specs.Prelude.{◌≡◌, ◌≢◌, ◌≤◌, ◌<◌, ◌-◌, ℕ, List, ◌∷◌, ◌++◌, map, take, drop, Option, Some, None, Result, Err, slice_get, length, ◌⊎◌}
+use Rattle.std.specs.Prelude.{◌≡◌, ◌≢◌, ◌≤◌, ◌<◌, ℕ, List, ◌∷◌, ◌++◌, map, drop, Option, Some, None, Result, Err, slice_get, length, ◌⊎◌}
 use Rattle.std.specs.List.{All}
 use Rattle.ob_scan.specs.declared.kind.Kind.{Kind}
 use Rattle.ob_scan.specs.declared.token.Token.{Token}
+use Rattle.ob_scan.specs.Texts.{bytes_of}
 use Rattle.ob_tree.specs.declared.declaration.Module.{Module}
 use Rattle.ob_tree.specs.Declaring.{module_outline}
 use Rattle.ob_tree.specs.Derives.{Derives, depth, endings_in}
@@ -17,10 +18,6 @@ use Rattle.ob_parse.specs.declared.fault.ParseFault.TheVariants as faults
 
 abbrev pub kinds_of : List Token → List Kind
 kinds_of ts = map (λ t. t.kind) ts
-
--- the bytes of a token
-abbrev pub bytes_of : List ℕ → Token → List ℕ
-bytes_of bytes t = take (t.end - t.start) (drop t.start bytes)
 
 -- a pair of tokens, by their numbers: an identifier, and the name after END that has to repeat it
 pub record Pair (ts : List Token) (e : ℕ × ℕ) : Type 0 where

@@ -3,7 +3,7 @@
 ghost use Rattle.std.specs.Prelude.{◌≡◌, ◌<◌, ◌≤◌, length};
 ghost use Rattle.std.specs.List.{All};
 ghost use Rattle.ob_parse.specs.Ends.{FirstWrong, IsEnd, AreTokenNumbers, IsPlaced};
-ghost use Rattle.ob_parse.specs.Parsed.{bytes_of};
+ghost use Rattle.ob_scan.specs.Texts.{bytes_of};
 
 use ob_scan::Token;
 

@@ -1,5 +1,5 @@
 //! The selectors of one designator after another, where designators are asked for in order.
-ghost use Rattle.std.specs.Prelude.{◌≡◌, ◌<◌, ◌≤◌, ℕ, true, Some, nat_eq, slice_get, length, IfSome};
+ghost use Rattle.std.specs.Prelude.{◌≡◌, ◌<◌, ◌≤◌, ℕ, true, Some, nat_eq, slice_get, IfSome};
 ghost use Rattle.std.specs.List.{filter};
 ghost use Rattle.ob_decls.specs.Declaring.{rows_in};
 ghost use Rattle.ob_decls.specs.Order.{RiseBy};

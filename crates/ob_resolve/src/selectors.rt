@@ -1,5 +1,5 @@
 //! What the names behind the dots of designators stand for.
-ghost use Rattle.std.specs.Prelude.{◌≡◌, ◌<◌, IfOk, Some, slice_get, length};
+ghost use Rattle.std.specs.Prelude.{◌≡◌, ◌<◌, IfOk, Some, length};
 ghost use Rattle.ob_decls.specs.declared.rows.Step.TheVariants as steps;
 ghost use Rattle.ob_targets.specs.Steps.{begins_designator, Knows};
 ghost use Rattle.ob_resolve.specs.Selected.{AreNamed, IsBehind, IsLed};

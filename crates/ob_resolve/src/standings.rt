@@ -1,7 +1,6 @@
 //! Where each identifier stands, by its token.
-ghost use Rattle.std.specs.Prelude.{◌≡◌, ◌<◌, ℕ, List, Bool, IfOk, Some, length, slice_get, nat_eq};
+ghost use Rattle.std.specs.Prelude.{◌≡◌, ◌<◌, ℕ, Bool, IfOk, Some, slice_get};
 ghost use Rattle.ob_decls.specs.Declaring.{rows_in};
-ghost use Rattle.ob_decls.specs.declared.rows.Declared.{Declared as DeclaredRow};
 ghost use Rattle.ob_targets.specs.Standing.{is_token, is_alias, is_imported_name, is_declared, is_end_name, is_use, is_selected, is_second, name_of, standing, standing_or};
 ghost use Rattle.ob_targets.specs.declared.standing.Standing.{Standing as StandingSeen};
 ghost use Rattle.ob_targets.specs.declared.standing.Standing.TheVariants as standings;

@@ -4,7 +4,7 @@ ghost use Rattle.type_search.specs.Searches.{HasElement, HasTarget};
 ghost use Rattle.ob_types.specs.Same.{same};
 ghost use Rattle.ob_types.specs.Shapes.{shape};
 ghost use Rattle.ob_targets.specs.declared.known.Known.TheVariants as knowns;
-ghost use Rattle.ob_targets.specs.Steps.{Follows, StepsTo, Levels, Selects};
+ghost use Rattle.ob_targets.specs.Steps.{Follows, Levels, Selects};
 
 use crate::meaning::{exported_target, field_target};
 use ob_targets::{Known, Target};

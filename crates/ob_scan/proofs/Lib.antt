@@ -1,6 +1,7 @@
 pub mod Capitals
 pub mod Closings
 pub mod Continuing
+pub mod InText
 pub mod LineStarts
 pub mod LineTables
 pub mod LinesPassed

@@ -10,6 +10,7 @@ use Rattle.ob_scan.specs.declared.token.Token.{Token}
 use Rattle.ob_scan.specs.Kinds.{text_of}
 use Rattle.ob_scan.specs.Numbers.{digits, hex_digits, is_next, number_token, decimal_of, fraction_of, with_scale, scale_of}
 use Rattle.ob_scan.specs.Spelling.{Scanned, start, gap, token, Spells}
+use Rattle.ob_scan.specs.Texts.{bytes_of}
 use Rattle.ob_scan.specs.Tokens.{IsText, fixed, name, quoted, IsToken, number, longest, is_name}
 
 -- what begins with a digit is no identifier
@@ -51,7 +52,7 @@ ident_name {n = n} {bs = bs} (longest {text = text} c x s l h) is =
 
 -- the text of this token is a name where it is an identifier
 abbrev pub IsNamed : List ℕ → Token → Type 0
-IsNamed bytes t = t.kind ≡ kinds.Ident → is_name (take (t.end - t.start) (drop t.start bytes)) ≡ true
+IsNamed bytes t = t.kind ≡ kinds.Ident → is_name (bytes_of bytes t) ≡ true
 
 scanned_named : {bytes : List ℕ} {ts : List Token} {at : ℕ} → Scanned bytes ts at → All (IsNamed bytes) ts
 scanned_named {bytes} start = All-nil (IsNamed bytes)

@@ -6,4 +6,5 @@ pub mod Pieces
 pub mod Position
 pub mod Spelling
 pub mod Tables
+pub mod Texts
 pub mod Tokens

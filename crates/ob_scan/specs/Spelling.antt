@@ -1,6 +1,6 @@
 -- What a text spells: blanks, closed comments and tokens in a row, to its end or to the place where none begins
 -- (Oberon-07 report, section 3).
-use Rattle.std.specs.Prelude.{◌≡◌, ◌+◌, ◌≤◌, ◌<◌, ℕ, List, [], ◌∷◌, ◌++◌, length, drop, Option, None, Bool, true, false, nat_lt, ◌==◌, Result, Ok, Err}
+use Rattle.std.specs.Prelude.{◌≡◌, ◌+◌, ◌≤◌, ◌<◌, ℕ, List, [], ◌∷◌, ◌++◌, length, drop, None, Bool, true, false, nat_lt, ◌==◌, Result, Ok, Err}
 use Rattle.std.specs.List.{list_all, All, AllPairs}
 use Rattle.ob_scan.specs.declared.kind.Kind.{Kind}
 use Rattle.ob_scan.specs.declared.token.Token.{Token}

@@ -1,10 +1,11 @@
 //! Laws of texts and tokens. Each function is a law: its body is empty, and its contract is proved.
-ghost use Rattle.std.specs.Prelude.{◌≡◌, ◌-◌, ℕ, All, List, Result, drop, take, true};
+ghost use Rattle.std.specs.Prelude.{◌≡◌, ℕ, All, List, Result, true};
 ghost use Rattle.ob_scan.specs.declared.fault.ScanFault.{ScanFault};
 ghost use Rattle.ob_scan.specs.declared.kind.Kind.TheVariants.{Ident};
 ghost use Rattle.ob_scan.specs.declared.token.Token.{Token};
 ghost use Rattle.ob_scan.specs.Position.{IsPosition};
 ghost use Rattle.ob_scan.specs.Spelling.{AreInText, IsOutcome, Spells};
+ghost use Rattle.ob_scan.specs.Texts.{bytes_of};
 ghost use Rattle.ob_scan.specs.Tokens.{is_name};
 
 /// A text spells at most one list of tokens.
@@ -36,5 +37,5 @@ pub fn one_position()
 
 /// The text of each identifier that a text spells is a name.
 pub fn names_are_names()
-    ensures { (bytes : List ℕ) (ts : List Token) → Spells bytes ts → All (λ t. t.kind ≡ Ident → is_name (take (t.end - t.start) (drop t.start bytes)) ≡ true) ts }
+    ensures { (bytes : List ℕ) (ts : List Token) → Spells bytes ts → All (λ t. t.kind ≡ Ident → is_name (bytes_of bytes t) ≡ true) ts }
 {}

@@ -1,4 +1,4 @@
-//! From the bytes of an Oberon-07 module to its tokens, and from offsets to lines and columns.
+//! From the bytes of an Oberon-07 module to its tokens and their texts, and from offsets to lines and columns.
 //! Stands on `texts`, with `thiserror` for its faults.
 //! Its contract: the tokens spell the bytes, or at the fault's offset nothing begins, for the named reason.
 #![tactic(auto)]
@@ -17,6 +17,7 @@ mod piece;
 mod place;
 mod scanner;
 mod token;
+mod token_texts;
 mod words;
 
 pub use fault::ScanFault;
@@ -26,3 +27,4 @@ pub use line_table::Lines;
 pub use place::Position;
 pub use scanner::scan;
 pub use token::{Token, Tokens};
+pub use token_texts::TokenTexts;

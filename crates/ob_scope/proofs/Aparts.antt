@@ -7,7 +7,7 @@ use Rattle.std.proofs.lemmas.Option.{slice_get_within}
 use Rattle.ob_scope.specs.declared.apart.Passed.{Passed}
 use Rattle.ob_scope.specs.declared.members.Member.{Member}
 use Rattle.ob_scope.specs.declared.members.Scope.{Scope}
-use Rattle.ob_scope.specs.declared.numbering.Name.{Name}
+use Rattle.text_hash.specs.declared.name.Name.{Name}
 use Rattle.ob_scope.specs.Apart.{IsPassed}
 use Rattle.ob_scope.specs.Scope.{AreTwice, NoneTwice}
 use Rattle.ob_scope.specs.Sights.{name_number, AreNumbered}

@@ -5,13 +5,13 @@ use Rattle.std.specs.Str.{IsUtf8}
 use Rattle.std.proofs.lemmas.List.{length-map, take_all}
 use Rattle.std.proofs.lemmas.Option.{slice_get_within}
 use Rattle.ob_scan.specs.declared.token.Token.{Token}
+use Rattle.ob_scan.specs.Texts.{text_at, token_at}
 use Rattle.ob_decls.specs.declared.rows.Import.{Import}
 use Rattle.ob_decls.specs.declared.rows.Used.{Used}
 use Rattle.ob_decls.specs.Parts.{Rows}
 use Rattle.ob_scope.specs.declared.meaning.Resolution.{Resolution}
 use Rattle.ob_scope.specs.declared.members.Member.{Member}
 use Rattle.ob_scope.specs.declared.module_scopes.Alias.{Alias}
-use Rattle.ob_scope.specs.Texts.{text_at, token_at}
 use Rattle.ob_scope.specs.Members.{members_of}
 use Rattle.ob_scope.specs.Scope.{IsFirstTwice, NoneTwice}
 use Rattle.ob_scope.specs.Counted.{Counts, HasUses, IsQualifiedBy}

@@ -4,6 +4,7 @@ use Rattle.std.specs.Prelude.{Contains}
 use Rattle.std.proofs.lemmas.List.{take_all, take_more}
 use Rattle.std.proofs.lemmas.Option.{slice_get_within, slice_get-get_or}
 use Rattle.ob_scan.specs.declared.token.Token.{Token}
+use Rattle.ob_scan.specs.Texts.{text_at}
 use Rattle.ob_decls.specs.declared.rows.Import.{Import}
 use Rattle.ob_decls.specs.declared.rows.Used.{Used}
 use Rattle.ob_decls.specs.declared.rows.Sort.TheVariants as sorts
@@ -15,7 +16,6 @@ use Rattle.ob_scope.specs.Crossings.{no_use, crossing, other_use, AreCrossings, 
 use Rattle.ob_scope.specs.Members.{members_of}
 use Rattle.ob_scope.specs.Scope.{ResolvesTo}
 use Rattle.ob_scope.specs.Scoped.{AliasUses, IsAlias, ModuleScopes}
-use Rattle.ob_scope.specs.Texts.{text_at}
 use Rattle.ob_scope.proofs.Elements.{ascend_one, contains_slice, slice_contains, slice_there}
 use Rattle.ob_scope.proofs.Meanings.{means-member, means_once}
 use Rattle.ob_scope.proofs.Placing.{members_ascend}

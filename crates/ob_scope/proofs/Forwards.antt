@@ -1,18 +1,16 @@
 -- The types that blocks declare, one by one, and the type that stands behind a use.
 use Rattle.std.proofs.Common.{◌≡◌, ℕ, ◌+◌, ◌<◌, ◌≤◌, inl, inr, Bool, true, false, List, [], ◌∷◌, length, get_or, cond, Option, None, Some, refl, sym, ap, ◌∙◌, subst, eqb-true, arith, ⊎_elim}
-use Rattle.std.specs.Prelude.{nat_eq, slice_get, slice_index, ◌&&◌, IfNone, IfSome}
-use Rattle.std.specs.List.{position_or_len}
+use Rattle.std.specs.Prelude.{nat_eq, slice_get, ◌&&◌}
 use Rattle.std.specs.Option.{IsSome}
 use Rattle.std.specs.Str.{bytes_eq}
 use Rattle.std.proofs.lemmas.Bool.{cases_Bool, cases_lt, false≢true}
-use Rattle.std.proofs.lemmas.Option.{slice_get_within, slice_get-get_or, get_or_from_slice_get}
+use Rattle.std.proofs.lemmas.Option.{slice_get_within, get_or_from_slice_get}
 use Rattle.std.proofs.lemmas.Slice.Eq.{bytes_eq-Decides}
 use Rattle.indexmap.specs.IndexMap.{get, IndexMap}
 use Rattle.ob_decls.specs.declared.rows.Sort.TheVariants as sorts
 use Rattle.ob_scope.specs.declared.members.Member.{Member}
-use Rattle.ob_scope.specs.declared.members.Scope.{Scope}
 use Rattle.ob_scope.specs.declared.members.Scope.TheVariants.{Block}
-use Rattle.ob_scope.specs.declared.numbering.Name.{Name}
+use Rattle.text_hash.specs.declared.name.Name.{Name}
 use Rattle.ob_scope.specs.Forward.{same_type, AreTypes, IsTypeAt, TypeKey}
 use Rattle.ob_scope.specs.Looked.{IsNamedIn, IsTypeAfter}
 use Rattle.ob_scope.specs.Scope.{NoneTwice}

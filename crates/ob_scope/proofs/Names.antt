@@ -1,5 +1,5 @@
 -- Identifiers are names, and names are texts.
-use Rattle.std.proofs.Common.{◌≡◌, ℕ, ◌-◌, inl, inr, true, List, [], ◌∷◌, length, take, drop, refl, sym, ap, ◌∙◌, subst}
+use Rattle.std.proofs.Common.{◌≡◌, ℕ, inl, inr, true, List, [], ◌∷◌, length, refl, sym, ap, ◌∙◌, subst}
 use Rattle.std.specs.List.{All}
 use Rattle.std.specs.Str.{IsUtf8}
 use Rattle.std.proofs.lemmas.Bool.{cases_lt}
@@ -7,18 +7,19 @@ use Rattle.std.proofs.lemmas.List.{get_or_past}
 use Rattle.std.proofs.lemmas.List.Elements.{All-get_or}
 use Rattle.texts.specs.Fields as fields
 use Rattle.texts.proofs.FieldNames as names
+use Rattle.ob_scan.proofs.NameTokens.{IsNamed}
 use Rattle.ob_scan.specs.declared.kind.Kind.TheVariants as kinds
 use Rattle.ob_scan.specs.declared.token.Token.{Token}
 use Rattle.ob_scan.specs.Spelling.{Spells}
 use Rattle.ob_scan.specs.Tokens.{is_name}
 use Rattle.ob_scan.proofs.NameTokens.{spelled_names}
+use Rattle.ob_scan.specs.Texts.{no_token, text_at, token_at}
 use Rattle.ob_decls.specs.declared.rows.Import.{Import}
 use Rattle.ob_decls.specs.Parts.{Rows}
 use Rattle.ob_scope.specs.declared.members.Member.{Member}
 use Rattle.ob_scope.specs.Found.{AreTexts}
 use Rattle.ob_scope.specs.Identified.{AreIdentifiers, AreNames}
 use Rattle.ob_scope.specs.Members.{members_of}
-use Rattle.ob_scope.specs.Texts.{no_token, text_at, token_at}
 
 -- the scanner's names are names of texts
 pub same_test : (bytes : List ℕ) → is_name bytes ≡ fields.is_name bytes
@@ -37,11 +38,11 @@ are_texts name r h = record {
 
 -- the texts of all identifiers are names
 abbrev AreNamed : List ℕ → List Token → Type 0
-AreNamed bytes ts = All (λ t. t.kind ≡ kinds.Ident → is_name (take (t.end - t.start) (drop t.start bytes)) ≡ true) ts
+AreNamed bytes ts = All (IsNamed bytes) ts
 
 ident_named : (bytes : List ℕ) (ts : List Token) (k : ℕ) → AreNamed bytes ts → (token_at ts k).kind ≡ kinds.Ident → is_name (text_at bytes ts k) ≡ true
 ident_named bytes ts k named e = elim (cases_lt k (length ts)) [
-  | inl within ↦ All-get_or (λ (t : Token). t.kind ≡ kinds.Ident → is_name (take (t.end - t.start) (drop t.start bytes)) ≡ true) ts k no_token within named e
+  | inl within ↦ All-get_or (IsNamed bytes) ts k no_token within named e
   | inr past ↦ let none : kinds.Dot ≡ kinds.Ident = sym (ap (λ (t : Token). t.kind) (get_or_past ts k no_token past)) ∙ e in absurd cc
 ]
 

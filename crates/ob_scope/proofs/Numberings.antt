@@ -9,7 +9,7 @@ use Rattle.std.proofs.lemmas.Option.{slice_get_within}
 use Rattle.std.proofs.lemmas.Slice.Eq.{bytes_eq-Decides}
 use Rattle.std.proofs.Math.Seq.{get_or-append_seam}
 use Rattle.ob_scope.specs.declared.members.Member.{Member}
-use Rattle.ob_scope.specs.declared.numbering.Name.{Name}
+use Rattle.text_hash.specs.declared.name.Name.{Name}
 use Rattle.ob_scope.specs.Sights.{name_number, AreNumbered}
 use Rattle.ob_scope.proofs.Elements.{some_one}
 use Rattle.ob_scope.proofs.Keyed.{front_get, get_front}

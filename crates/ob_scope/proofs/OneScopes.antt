@@ -2,12 +2,12 @@
 use Rattle.std.proofs.Common.{◌≡◌, ℕ, zero, suc, ◌<◌, ◌⊎◌, inl, inr, List, [], ◌∷◌, length, slice_get, Some, Contains, refl, sym, ap, ap₂, ◌∙◌, arith}
 use Rattle.std.proofs.lemmas.Option.{slice_get_within}
 use Rattle.ob_scan.specs.declared.token.Token.{Token}
+use Rattle.ob_scan.specs.Texts.{text_at}
 use Rattle.ob_decls.specs.Order.{AscendBy}
 use Rattle.ob_decls.specs.Parts.{Rows}
 use Rattle.ob_scope.specs.Counted.{IsQualifiedBy}
 use Rattle.ob_scope.specs.Members.{members_of}
 use Rattle.ob_scope.specs.Scoped.{AliasUses, AreScopes, Meaning, ModuleScopes}
-use Rattle.ob_scope.specs.Texts.{text_at}
 use Rattle.ob_scope.proofs.Counting.{counts-once}
 use Rattle.ob_scope.proofs.Elements.{contains_slice, slice_contains, slice_there}
 

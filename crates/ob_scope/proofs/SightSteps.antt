@@ -6,7 +6,7 @@ use Rattle.std.proofs.lemmas.Option.{slice_get-get_or, get_or_from_slice_get}
 use Rattle.ob_decls.specs.declared.rows.Block.{Block}
 use Rattle.ob_decls.specs.Order.{AscendBy}
 use Rattle.ob_scope.specs.declared.members.Member.{Member}
-use Rattle.ob_scope.specs.declared.numbering.Name.{Name}
+use Rattle.text_hash.specs.declared.name.Name.{Name}
 use Rattle.ob_scope.specs.declared.members.Scope.TheVariants as places
 use Rattle.ob_scope.specs.declared.opened.Open.{Open}
 use Rattle.ob_scope.specs.declared.sight.Sight.{Sight}

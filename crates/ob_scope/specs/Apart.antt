@@ -1,5 +1,5 @@
 -- The places of members of one name, where they begin one behind the other.
-use Rattle.std.specs.Prelude.{ℕ, ◌<◌}
+use Rattle.std.specs.Prelude.{◌<◌}
 use Rattle.ob_scope.specs.declared.apart.Passed.{Passed}
 use Rattle.ob_scope.specs.declared.members.Scope.{Scope}
 use Rattle.ob_scope.specs.declared.members.Scope.TheVariants.{Block, Record}

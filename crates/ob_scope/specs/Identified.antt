@@ -3,11 +3,11 @@ use Rattle.std.specs.Prelude.{◌≡◌, ℕ, List, true, Contains}
 use Rattle.ob_scan.specs.declared.kind.Kind.TheVariants as kinds
 use Rattle.ob_scan.specs.declared.token.Token.{Token}
 use Rattle.ob_scan.specs.Tokens.{is_name}
+use Rattle.ob_scan.specs.Texts.{token_at}
 use Rattle.ob_decls.specs.declared.rows.Import.{Import}
 use Rattle.ob_decls.specs.Parts.{Rows}
 use Rattle.ob_scope.specs.declared.members.Member.{Member}
 use Rattle.ob_scope.specs.Members.{members_of}
-use Rattle.ob_scope.specs.Texts.{token_at}
 
 -- the module's name is one, each declared identifier is, and each that names an imported module
 pub record AreNames (name : ℕ → List ℕ) (rows : Rows) : Type 0 where

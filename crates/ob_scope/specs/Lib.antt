@@ -1,4 +1,3 @@
-pub mod Texts
 pub mod Members
 pub mod Scope
 pub mod Counted

@@ -2,6 +2,7 @@
 use Rattle.std.specs.Prelude.{◌≡◌, ℕ, ◌<◌, ◌↔◌, List, length, slice_get, Some, Contains}
 use Rattle.std.specs.String.{string_bytes}
 use Rattle.ob_scan.specs.declared.token.Token.{Token}
+use Rattle.ob_scan.specs.Texts.{text_at, token_at}
 use Rattle.ob_decls.specs.declared.rows.Import.{Import}
 use Rattle.ob_decls.specs.declared.rows.Used.{Used}
 use Rattle.ob_decls.specs.Parts.{Rows}
@@ -9,7 +10,6 @@ use Rattle.ob_scope.specs.declared.fault.ScopeFault.{ScopeFault}
 use Rattle.ob_scope.specs.declared.fault.ScopeFault.TheVariants as faults
 use Rattle.ob_scope.specs.declared.members.Member.{Member}
 use Rattle.ob_scope.specs.declared.members.Scope.TheVariants.{Block, Record}
-use Rattle.ob_scope.specs.Texts.{text_at, token_at}
 use Rattle.ob_scope.specs.Members.{members_of}
 use Rattle.ob_scope.specs.Scope.{ResolvesTo, IsFirstTwice, NoneTwice}
 use Rattle.ob_scope.specs.Counted.{HasUses}

@@ -1,6 +1,7 @@
 //! The uses that cross an import.
 ghost use Rattle.std.specs.Prelude.{◌≡◌, ℕ, true, List, Contains, IfNone, IfOk, IfSome};
 ghost use Rattle.ob_scan.specs.declared.token.Token.{Token};
+ghost use Rattle.ob_scan.specs.Texts.{text_at};
 ghost use Rattle.ob_decls.specs.Declaring.{rows_in};
 ghost use Rattle.ob_decls.specs.Order.{AscendBy};
 ghost use Rattle.ob_decls.specs.Parts.{Rows};
@@ -8,7 +9,6 @@ ghost use Rattle.ob_scope.specs.declared.members.Member.{Member};
 ghost use Rattle.ob_scope.specs.Counted.{Crosses};
 ghost use Rattle.ob_scope.specs.Crossings.{AreCrossings, AreKnown, IsAliasFor, IsImportAt, IsOfUse};
 ghost use Rattle.ob_scope.specs.Scoped.{AreScopes};
-ghost use Rattle.ob_scope.specs.Texts.{text_at};
 
 use crate::Scopes;
 use crate::members::{Member, members_by};

@@ -1,15 +1,15 @@
 //! Whether members are told apart without a table: those of one name mostly stand in places that begin one behind the other.
 ghost use Rattle.std.specs.Prelude.{◌≡◌, [], true, length, take, IfOk, IfSome, OnOk};
 ghost use Rattle.ob_scan.specs.Spelling.{AreInText};
+ghost use Rattle.ob_scan.specs.Texts.{text_at};
 ghost use Rattle.ob_scope.specs.Apart.{IsPassed};
 ghost use Rattle.ob_scope.specs.Scope.{NoneTwice};
 ghost use Rattle.ob_scope.specs.Sights.{AreNumbered};
-ghost use Rattle.ob_scope.specs.Texts.{text_at};
 ghost use Rattle.ob_scope.specs.declared.members.Scope.{Scope as Place};
 
 use crate::members::{Member, Scope};
 use crate::numbering::{Numbered, number_next};
-use crate::text::Text;
+use ob_scan::TokenTexts;
 use std::alloc::{AllocError, Global};
 
 /// The places of a name so far: its blocks begin before this token, and so do its records before that one.
@@ -47,7 +47,7 @@ fn pass(passed: Passed, place: Scope) -> Option<Passed>
 /// Numbers the names of members, up to the first whose place doesn't begin behind the places of its name; and tells whether there is no
 /// such member.
 fn ascend<'a>(
-    text: &Text<'a>,
+    text: &TokenTexts<'a>,
     members: &[Member],
     named: &mut Numbered<'a>,
     passed: &mut [Passed],
@@ -73,7 +73,7 @@ fn ascend<'a>(
 /// as far as it tells.
 pub(crate) fn are_apart<'a>(
     alloc: Global,
-    text: &Text<'a>,
+    text: &TokenTexts<'a>,
     members: &[Member],
     named: &mut Numbered<'a>,
 ) -> Result<bool, AllocError>

@@ -1,6 +1,7 @@
 //! Scopes from a table.
 ghost use Rattle.std.specs.Prelude.{◌≡◌, ◌≤◌, [], length, take, IfOk, IfErr, OnOk};
 ghost use Rattle.ob_scan.specs.Spelling.{AreInText, Spells};
+ghost use Rattle.ob_scan.specs.Texts.{text_at};
 ghost use Rattle.ob_decls.specs.Declaring.{rows_in};
 ghost use Rattle.ob_decls.specs.Parts.{Rows};
 ghost use Rattle.ob_scope.specs.Found.{AreAliasesOf, AreCounted, AreMeant, IsCountOf};
@@ -11,7 +12,6 @@ ghost use Rattle.ob_scope.specs.Places.{TellsTwice};
 ghost use Rattle.ob_scope.specs.Scope.{NoneTwice};
 ghost use Rattle.ob_scope.specs.Scoped.{AreScopes, IsScopeFault};
 ghost use Rattle.ob_scope.specs.Sights.{AreNumbered};
-ghost use Rattle.ob_scope.specs.Texts.{text_at};
 ghost use Rattle.ob_scope.specs.declared.members.Member.{Member};
 
 use crate::apart::are_apart;
@@ -19,11 +19,10 @@ use crate::identified::are_identifiers;
 use crate::members::{Member, Scope, members_by};
 use crate::numbering::{Numbered, no_names, number_rest};
 use crate::places::{IndexFault, index_of};
-use crate::text::Text;
 use crate::uses::{Resolved, found_by};
 use crate::{Alias, ScopeFault, Scopes};
 use ob_decls::{Import, Table, place_of};
-use ob_scan::Token;
+use ob_scan::{Token, TokenTexts};
 use std::alloc::{AllocError, Global};
 
 /// No text has more uses.
@@ -44,7 +43,7 @@ fn uses_of(members: &[Member], counts: &[u64], alias: u32) -> u64
 /// The aliases of the import items, in order.
 fn aliases_of(
     alloc: Global,
-    text: &Text,
+    text: &TokenTexts,
     members: &[Member],
     counts: &[u64],
     imports: &[Import],
@@ -69,7 +68,7 @@ fn aliases_of(
 /// The fault of two members of one name in one place.
 fn fault_of(
     alloc: Global,
-    text: &Text,
+    text: &TokenTexts,
     members: &[Member],
     fault: IndexFault,
 ) -> Result<ScopeFault, AllocError>
@@ -103,7 +102,7 @@ fn fault_of(
 /// The scopes of what was found.
 fn scopes_of(
     alloc: Global,
-    text: &Text,
+    text: &TokenTexts,
     table: &Table,
     members: &[Member],
     found: Resolved,
@@ -137,7 +136,7 @@ fn scopes_of(
 /// apart: it tells a fault before further names are numbered.
 fn refuse_twice<'a>(
     alloc: Global,
-    text: &Text<'a>,
+    text: &TokenTexts<'a>,
     members: &[Member],
     named: &mut Numbered<'a>,
 ) -> Result<(), ScopeFault>
@@ -161,7 +160,7 @@ fn refuse_twice<'a>(
 /// The scopes of a module with this table, whose members are told apart, and some of whose names are numbered.
 fn scopes_with<'a>(
     alloc: Global,
-    text: &Text<'a>,
+    text: &TokenTexts<'a>,
     table: &Table,
     members: &[Member],
     named: &mut Numbered<'a>,
@@ -183,7 +182,7 @@ fn scopes_with<'a>(
 /// The scopes of a module with this table, or the fault of two members of one name in one place.
 fn scopes_by(
     alloc: Global,
-    text: &Text,
+    text: &TokenTexts,
     table: &Table,
     members: &[Member],
 ) -> Result<Scopes, ScopeFault>
@@ -221,7 +220,7 @@ pub fn scopes_from(
     ensures fault { IfErr result (IsScopeFault bytes.now tokens.now (rows_in table.now)) }
 {
     table.keeps();
-    let text = Text { bytes, tokens };
+    let text = TokenTexts { bytes, tokens };
     let members = members_by(alloc, table.declarers(), table.declared())?;
     let members = members.as_slice();
     if table.uses().len() > MOST_USES || !are_identifiers(tokens, members, table.imports()) {

@@ -1,5 +1,5 @@
 //! The scopes of a module.
-ghost use Rattle.std.specs.Prelude.{◌≡◌, map, IfErr, IfOk, Ok};
+ghost use Rattle.std.specs.Prelude.{map, IfErr, IfOk, Ok};
 ghost use Rattle.ob_scan.specs.Spelling.{IsOutcome};
 ghost use Rattle.ob_tree.specs.Derives.{Derives};
 ghost use Rattle.ob_decls.specs.Declaring.{rows_of};

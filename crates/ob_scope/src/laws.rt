@@ -1,6 +1,7 @@
 //! Laws of scopes. Each function is a law: its body is empty, and its contract is proved.
-ghost use Rattle.std.specs.Prelude.{◌≡◌, ◌≤◌, ◌<◌, ℕ, List, Contains, Some, length, slice_get};
+ghost use Rattle.std.specs.Prelude.{◌≡◌, ◌≤◌, ℕ, List, Contains, length};
 ghost use Rattle.ob_scan.specs.declared.token.Token.{Token};
+ghost use Rattle.ob_scan.specs.Texts.{text_at};
 ghost use Rattle.ob_decls.specs.declared.rows.Block.{Block};
 ghost use Rattle.ob_decls.specs.declared.rows.Declared.{Declared};
 ghost use Rattle.ob_decls.specs.declared.rows.Used.{Used};
@@ -13,7 +14,6 @@ ghost use Rattle.ob_decls.specs.Order.{AscendBy};
 ghost use Rattle.ob_scope.specs.Members.{members_of};
 ghost use Rattle.ob_scope.specs.Scope.{IsFirstTwice, ResolvesTo, NoneTwice};
 ghost use Rattle.ob_scope.specs.Scoped.{AliasUses, AreScopes, ModuleScopes};
-ghost use Rattle.ob_scope.specs.Texts.{text_at};
 ghost use Rattle.ob_scope.specs.Weights.{uses_across, uses_of_all};
 
 /// Where nothing is declared twice, a use means at most one declaration.

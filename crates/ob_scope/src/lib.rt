@@ -19,7 +19,6 @@ mod opened;
 mod places;
 mod resolve;
 mod sight;
-mod text;
 mod uses;
 
 pub use across::{Crossing, crossings};

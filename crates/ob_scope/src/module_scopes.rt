@@ -1,11 +1,11 @@
 //! The scopes of a module, and their readers.
-ghost use Rattle.std.specs.Prelude.{◌≡◌, ◌<◌, ◌≤◌, ℕ, true, Some, IfOk, IfSome, IfNone, Contains, map, slice_get};
+ghost use Rattle.std.specs.Prelude.{◌≡◌, ◌<◌, ◌≤◌, ℕ, true, Some, IfSome, IfNone, Contains, map, slice_get};
 ghost use Rattle.ob_decls.specs.Order.{AscendBy, HasNoneBy, IsPlaceBy};
 ghost use Rattle.ob_scope.specs.Crossings.{IsAliasFor};
 ghost use Rattle.ob_scope.specs.Kept.{alias_of, AreValidScopes};
 ghost use Rattle.ob_scope.specs.declared.meaning.Resolution.{Resolution};
 ghost use Rattle.ob_scope.specs.declared.module_scopes.Alias.{Alias};
-ghost use Rattle.ob_scope.specs.Scoped.{AliasUses, Meaning};
+ghost use Rattle.ob_scope.specs.Scoped.{AliasUses};
 
 use crate::meaning::Resolution;
 use ob_decls::{Keyed, place_of};

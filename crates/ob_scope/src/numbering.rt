@@ -1,33 +1,14 @@
 //! The names of members, numbered.
 ghost use Rattle.std.specs.Prelude.{◌≡◌, ◌≤◌, ◌<◌, ◌+◌, ◌∷◌, ◌++◌, [], length, take, IfOk, IfSome, IfNone, OnOk};
-ghost use Rattle.std.specs.Cmp.Rules.{hashing};
-ghost use Rattle.std.proofs.Common.{rules};
 ghost use Rattle.ob_scan.specs.Spelling.{AreInText};
+ghost use Rattle.ob_scan.specs.Texts.{text_at};
 ghost use Rattle.ob_scope.specs.Sights.{name_number, AreNumbered};
-ghost use Rattle.ob_scope.specs.Texts.{text_at};
 
 use crate::members::Member;
-use crate::text::Text;
 use indexmap::IndexSet;
+use ob_scan::TokenTexts;
 use std::alloc::{AllocError, Global};
-use std::hash::{Hash, Hasher};
-use text_hash::Seed;
-
-/// A name. It is hashed as a whole, where a slice is hashed byte by byte.
-#[derive(Clone, Copy, PartialEq, Eq)]
-pub(crate) struct Name<'a> {
-    pub(crate) bytes: &'a [u8],
-}
-
-impl Hash for Name<'_> {
-    ghost hash_input = { λ n. n.bytes.now ∷ [] };
-
-    ghost respects_eq = { Prim.search (hashing, rules) };
-
-    fn hash<H: Hasher>(&self, state: &mut H) {
-        state.write(self.bytes);
-    }
-}
+use text_hash::{Name, Seed};
 
 /// The names of members, in the order in which each stands first, and for each member the number of its name.
 #[derive(Drop)]
@@ -39,7 +20,7 @@ pub(crate) struct Numbered<'a> {
 /// No names of a text, with room for the numbers of so many members.
 pub(crate) fn no_names<'a>(
     alloc: Global,
-    text: &Text<'a>,
+    text: &TokenTexts<'a>,
     count: usize,
 ) -> Result<Numbered<'a>, AllocError>
     ensures names { IfOk result (λ r. r.names.keys ≡ []) }
@@ -52,7 +33,7 @@ pub(crate) fn no_names<'a>(
 
 /// Numbers the name of the member at this place, behind those before it, and tells the number.
 pub(crate) fn number_next<'a>(
-    text: &Text<'a>,
+    text: &TokenTexts<'a>,
     members: &[Member],
     named: &mut Numbered<'a>,
     at: usize,
@@ -76,7 +57,7 @@ pub(crate) fn number_next<'a>(
 
 /// Numbers the names of the members that have no number yet.
 pub(crate) fn number_rest<'a>(
-    text: &Text<'a>,
+    text: &TokenTexts<'a>,
     members: &[Member],
     named: &mut Numbered<'a>,
 ) -> Result<(), AllocError>

@@ -1,15 +1,14 @@
 //! An index of what is declared, by place and name.
 ghost use Rattle.std.specs.Prelude.{◌≡◌, IfOk, IfErr};
 ghost use Rattle.ob_scan.specs.Spelling.{AreInText};
-ghost use Rattle.ob_scope.specs.Texts.{text_at};
+ghost use Rattle.ob_scan.specs.Texts.{text_at};
 ghost use Rattle.ob_scope.specs.Places.{entry_of, entry_said, IsIndex, TellsTwice};
 
 use crate::members::{Member, Scope};
-use crate::numbering::Name;
-use crate::text::Text;
 use indexmap::IndexSet;
+use ob_scan::TokenTexts;
 use std::alloc::Global;
-use text_hash::Seed;
+use text_hash::{Name, Seed};
 
 /// A place and a name in it.
 #[derive(Clone, Copy, PartialEq, Eq, Hash)]
@@ -26,7 +25,7 @@ pub(crate) enum IndexFault {
 }
 
 /// What a member declares.
-fn key_of<'a>(text: &Text<'a>, member: &Member) -> Key<'a>
+fn key_of<'a>(text: &TokenTexts<'a>, member: &Member) -> Key<'a>
     requires { AreInText text.now.bytes.now text.now.tokens.now }
     ensures { entry_said result ≡ entry_of (text_at text.now.bytes.now text.now.tokens.now) member.now }
 {
@@ -41,7 +40,7 @@ fn key_of<'a>(text: &Text<'a>, member: &Member) -> Key<'a>
 /// The index of the members, by their places in the list, where nothing is declared twice.
 pub(crate) fn index_of<'a>(
     alloc: Global,
-    text: &Text<'a>,
+    text: &TokenTexts<'a>,
     seed: Seed,
     members: &[Member],
 ) -> Result<IndexSet<Key<'a>, Seed>, IndexFault>

@@ -1,6 +1,7 @@
 //! What a use means: what it resolves to, or for a target the type that is declared later.
 ghost use Rattle.std.specs.Prelude.{◌≡◌, ◌≤◌, ◌<◌, ℕ, Some, length, slice_get, IfOk, IfSome, IfNone, OnOk};
 ghost use Rattle.ob_scan.specs.Spelling.{AreInText};
+ghost use Rattle.ob_scan.specs.Texts.{text_at};
 ghost use Rattle.ob_decls.specs.declared.rows.Block.{Block};
 ghost use Rattle.ob_decls.specs.Order.{AscendBy};
 ghost use Rattle.indexmap.specs.IndexMap.{get};
@@ -10,14 +11,13 @@ ghost use Rattle.ob_scope.specs.declared.members.Member.{Member};
 ghost use Rattle.ob_scope.specs.Scope.{IsDirectlyIn, NoneTwice};
 ghost use Rattle.ob_scope.specs.Sighted.{IsFrontBefore, IsSight};
 ghost use Rattle.ob_scope.specs.Sights.{name_number, AreNumbered};
-ghost use Rattle.ob_scope.specs.Texts.{text_at};
 
 use crate::members::Member;
 use crate::numbering::{Numbered, name_number};
 use crate::sight::{Sight, resolved};
-use crate::text::Text;
 use indexmap::IndexMap;
 use ob_decls::{Block, Used, place_of};
+use ob_scan::TokenTexts;
 use std::alloc::AllocError;
 use text_hash::Seed;
 
@@ -34,7 +34,7 @@ fn type_named(
 
 /// The place of the type that has the name of this token, is declared in this block and stands behind the token.
 fn type_after(
-    text: &Text,
+    text: &TokenTexts,
     types: &IndexMap<(u32, usize), usize, Seed>,
     members: &[Member],
     named: &Numbered,
@@ -73,7 +73,7 @@ pub(crate) fn outer_of(blocks: &[Block], block: u32) -> Option<u32>
 
 /// The place of the member that a use means. Uses are asked for in the order of their tokens.
 pub(crate) fn meaning(
-    text: &Text,
+    text: &TokenTexts,
     types: &IndexMap<(u32, usize), usize, Seed>,
     blocks: &[Block],
     members: &[Member],

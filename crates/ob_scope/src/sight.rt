@@ -10,13 +10,13 @@ ghost use Rattle.ob_scope.specs.Looked.{use_in, IsResolved};
 ghost use Rattle.ob_scope.specs.Scope.{ResolvesToNothing};
 ghost use Rattle.ob_scope.specs.Sighted.{IsFrontBefore, IsSight};
 ghost use Rattle.ob_scope.specs.Sights.{name_number, AreNumbered, AreSeen, IsOpenScope, IsStart};
-ghost use Rattle.ob_scope.specs.Texts.{text_at};
+ghost use Rattle.ob_scan.specs.Texts.{text_at};
 
 use crate::members::{Member, Scope};
 use crate::numbering::Numbered;
 use crate::opened::{Open, enter, is_open};
-use crate::text::Text;
 use ob_decls::Block;
+use ob_scan::TokenTexts;
 use std::alloc::{AllocError, Global};
 
 /// What is seen in the open blocks.
@@ -157,7 +157,7 @@ fn declare_before(
 
 /// The place of the member that the name of this token, with its number, resolves to from this block. Tokens are asked for in their order.
 pub(crate) fn resolved(
-    text: &Text,
+    text: &TokenTexts,
     blocks: &[Block],
     members: &[Member],
     named: &Numbered,

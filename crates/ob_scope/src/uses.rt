@@ -1,6 +1,7 @@
 //! What all uses mean, and how many uses each import qualifies.
 ghost use Rattle.std.specs.Prelude.{◌≡◌, ◌+◌, ◌^◌, ◌<◌, ℕ, [], length, slice_index, slice_set, IfOk, OnOk};
 ghost use Rattle.ob_scan.specs.Spelling.{AreInText};
+ghost use Rattle.ob_scan.specs.Texts.{text_at};
 ghost use Rattle.ob_decls.specs.declared.rows.Block.{Block};
 ghost use Rattle.ob_decls.specs.declared.rows.Used.{Used};
 ghost use Rattle.ob_scope.specs.Found.{counted_for, is_import, AreCounted, AreMeant};
@@ -9,7 +10,6 @@ ghost use Rattle.ob_scope.specs.Forward.{AreTypes};
 ghost use Rattle.ob_scope.specs.Scope.{NoneTwice};
 ghost use Rattle.ob_scope.specs.Sighted.{IsSight};
 ghost use Rattle.ob_scope.specs.Sights.{AreNumbered};
-ghost use Rattle.ob_scope.specs.Texts.{text_at};
 ghost use Rattle.ob_scope.specs.declared.members.Member.{Member};
 
 use crate::forward::types_of;
@@ -18,9 +18,9 @@ use crate::members::Member;
 use crate::numbering::Numbered;
 use crate::resolve::meaning;
 use crate::sight::{Sight, no_sight};
-use crate::text::Text;
 use indexmap::IndexMap;
 use ob_decls::{Block, Sort, Used};
+use ob_scan::TokenTexts;
 use std::alloc::{AllocError, Global};
 use text_hash::Seed;
 
@@ -58,7 +58,7 @@ fn count(counts: &mut [u64], at: usize, member: Member, used: Used)
 
 /// Looks up each use.
 fn find_each(
-    text: &Text,
+    text: &TokenTexts,
     types: &IndexMap<(u32, usize), usize, Seed>,
     blocks: &[Block],
     members: &[Member],
@@ -101,7 +101,7 @@ fn find_each(
 /// What the uses mean, by the numbers of the members' names.
 fn found_with(
     alloc: Global,
-    text: &Text,
+    text: &TokenTexts,
     types: &IndexMap<(u32, usize), usize, Seed>,
     blocks: &[Block],
     members: &[Member],
@@ -138,7 +138,7 @@ fn found_with(
 /// What the uses mean.
 pub(crate) fn found_by(
     alloc: Global,
-    text: &Text,
+    text: &TokenTexts,
     blocks: &[Block],
     members: &[Member],
     named: &Numbered,

@@ -1,6 +1,6 @@
 -- Lists of expressions, and what stands in the parentheses of a call, of parts that were told.
-use Rattle.std.proofs.Common.{◌≡◌, ℕ, zero, suc, ◌+◌, ◌<◌, false, List, [], ◌∷◌, ◌++◌, length, Option, Some, None, Ok, Err, refl, sym, ap, subst, ◌∙◌, arith, length-append}
-use Rattle.std.specs.Global.{Box, Vec, Global}
+use Rattle.std.proofs.Common.{◌≡◌, ℕ, suc, ◌+◌, ◌<◌, false, List, [], ◌∷◌, ◌++◌, length, Option, Some, None, Ok, Err, refl, sym, ap, ◌∙◌, arith, length-append}
+use Rattle.std.specs.Global.{Box, Vec}
 use Rattle.std.specs.Prelude.{Result}
 use Rattle.ob_scan.specs.declared.kind.Kind.{Kind}
 use Rattle.ob_scan.specs.declared.kind.Kind.TheVariants as kinds
@@ -10,7 +10,7 @@ use Rattle.ob_tree.specs.declared.expression.Factor.TheOpen as layers
 use Rattle.ob_tree.specs.declared.expression.Selector.{Selector}
 use Rattle.ob_tree.specs.declared.expression.Selector.TheVariants as selectors
 use Rattle.ob_tree.specs.declared.expression.Expr.{Expr}
-use Rattle.ob_tree.specs.declared.expression.ExprList.{ExprList, ExprList-F, roll-ExprList, out-ExprList, out-roll-ExprList}
+use Rattle.ob_tree.specs.declared.expression.ExprList.{ExprList, roll-ExprList, out-roll-ExprList}
 use Rattle.ob_tree.specs.Constructs as constructs
 use Rattle.ob_tree.specs.Marks.{Out, construct, word, each, tokens_of}
 use Rattle.ob_tree.specs.Expressions.{expr_outline, expr_list_outline}
@@ -21,18 +21,18 @@ use Rattle.ob_decls.specs.declared.rows.TypeName.{TypeName}
 use Rattle.ob_decls.specs.declared.draft.Context.{Context}
 use Rattle.ob_decls.specs.declared.draft.Draft.{Draft}
 use Rattle.ob_decls.specs.Drafts.{Stage, stage_of, after, passed, settled, ComesTo}
-use Rattle.ob_decls.specs.Parts.{Piece, token, both}
+use Rattle.ob_decls.specs.Parts.{token, both}
 use Rattle.ob_decls.specs.Parts.{each as pieces}
-use Rattle.ob_decls.specs.Expressions.{Selected, selected, between, listed, expr_piece, expr_list_piece}
+use Rattle.ob_decls.specs.Expressions.{Selected, between, listed, expr_piece, expr_list_piece}
 use Rattle.ob_decls.proofs.ExpressionLayers as told
 use Rattle.ob_decls.proofs.Steps.{after_each, after_nothing, number_of}
 use Rattle.ob_parse.specs.declared.cursor.Cursor.{Cursor}
 use Rattle.ob_parse.specs.declared.stop.Stop.{Stop}
-use Rattle.ob_parse.specs.Forms.{Read, Reader, Start, seq, node, prefixed, optional, unless, many, several, accept_at, expect_at}
-use Rattle.ob_parse.specs.Accords.{ahead, Fails}
+use Rattle.ob_parse.specs.Forms.{Reader, seq, node, prefixed, optional, unless, many, several, accept_at, expect_at}
+use Rattle.ob_parse.specs.Accords.{ahead}
 use Rattle.ob_parse.specs.ReadExpressions.{expr_at}
 use Rattle.ob_parse.proofs.Loops.{Advances, shortens_expect}
-use Rattle.ob_parse.proofs.Sound.{Sound, Takes, sound_optional, sound_several, unless_sound}
+use Rattle.ob_parse.proofs.Sound.{Sound, sound_optional, sound_several, unless_sound}
 use Rattle.ob_parse.proofs.SoundExpressions.{expr_at_sound}
 use Rattle.ob_table.specs.Choosing.{is_there, Picked, picked_outline, picking, Counted, counted_outline, Counts, Further, further_outline, CountsFurther}
 use Rattle.ob_table.specs.LoneNames.{lone_of}

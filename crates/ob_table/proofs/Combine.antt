@@ -1,17 +1,16 @@
 -- If the parts were told, the whole is told.
-use Rattle.std.proofs.Common.{◌≡◌, ℕ, ◌≤◌, ◌+◌, false, [], ◌++◌, List, length, Result, Ok, Err, Some, None, refl, sym, ap, ◌∙◌, arith}
-use Rattle.std.specs.Global.{Global}
+use Rattle.std.proofs.Common.{◌≡◌, ◌+◌, false, [], ◌++◌, List, Result, Ok, Err, Some, None, refl, sym, ap, ◌∙◌, arith}
 use Rattle.ob_scan.specs.declared.token.Token.{Token}
 use Rattle.ob_tree.specs.Constructs.{Construct}
 use Rattle.ob_tree.specs.Marks.{Out, construct}
 use Rattle.ob_parse.specs.declared.cursor.Cursor.{Cursor}
 use Rattle.ob_parse.specs.declared.stop.Stop.{Stop}
 use Rattle.ob_parse.specs.declared.stop.Stop.TheVariants as stops
-use Rattle.ob_parse.specs.Forms.{Read, Reader, Start, ◌>>=◌, seq, prefixed, node, optional, if_found}
+use Rattle.ob_parse.specs.Forms.{Read, Reader, Start, ◌>>=◌, seq, prefixed, node, optional}
 use Rattle.ob_parse.specs.Accords.{Fails, ahead}
 use Rattle.ob_decls.specs.declared.draft.Draft.{Draft}
 use Rattle.ob_decls.specs.Drafts.{Stage, stage_of, ComesTo}
-use Rattle.ob_table.specs.Tabulating.{IsTold, Told, TabulatesBy}
+use Rattle.ob_table.specs.Tabulating.{Told, TabulatesBy}
 
 -- reading on after a fault
 fails_on : (ts : List Token) (e : Stop) (read : Read) (k : Read → Read) → ((x : _) → k (Err x) ≡ Err x) → Fails ts e read → Fails ts e (k read)

@@ -1,6 +1,6 @@
 -- Designators and selectors of parts that were told.
-use Rattle.std.proofs.Common.{◌≡◌, ℕ, zero, suc, ◌+◌, ◌≤◌, ◌<◌, Bool, true, false, List, [], ◌∷◌, ◌++◌, length, map, set, Option, Some, None, Ok, Err, refl, sym, ap, subst, ◌∙◌, arith, length-append}
-use Rattle.std.specs.Global.{Box, Vec, Global}
+use Rattle.std.proofs.Common.{◌≡◌, ℕ, zero, suc, ◌+◌, ◌<◌, Bool, true, false, List, [], ◌∷◌, ◌++◌, length, map, set, Option, Some, None, Ok, refl, sym, ap, subst, ◌∙◌, arith, length-append}
+use Rattle.std.specs.Global.{Global}
 use Rattle.std.specs.Prelude.{Result}
 use Rattle.ob_scan.specs.declared.kind.Kind.{Kind}
 use Rattle.ob_scan.specs.declared.kind.Kind.TheVariants as kinds
@@ -15,7 +15,7 @@ use Rattle.ob_tree.specs.declared.expression.ExprList.{ExprList}
 use Rattle.ob_tree.specs.Constructs as constructs
 use Rattle.ob_tree.specs.Marks.{Out, construct, word, used, each}
 use Rattle.ob_tree.specs.Marks as marks
-use Rattle.ob_tree.specs.Expressions.{selector_outline, designator_outline, expr_list_outline}
+use Rattle.ob_tree.specs.Expressions.{selector_outline, designator_outline}
 use Rattle.ob_tree.proofs.ExpressionLayers as shown
 use Rattle.ob_decls.specs.declared.rows.Selector.{Selector as SelectorRow}
 use Rattle.ob_decls.specs.declared.rows.Step.TheVariants as steps

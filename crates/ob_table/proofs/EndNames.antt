@@ -1,18 +1,16 @@
 -- Names behind END that are compared when they are read.
-use Rattle.std.proofs.Common.{◌≡◌, ◌<◌, ℕ, ◌++◌, false, List, length, Option, Some, Ok, Err, Result, get_or, slice_get, refl, sym, ap, ◌∙◌}
+use Rattle.std.proofs.Common.{◌≡◌, ◌<◌, ℕ, false, List, length, Option, Some, Ok, get_or, slice_get, refl, sym, ap, ◌∙◌}
 use Rattle.std.proofs.lemmas.Option.{slice_get-get_or}
 use Rattle.ob_scan.specs.declared.token.Token.{Token}
-use Rattle.ob_tree.specs.Marks.{Out, repeated}
+use Rattle.ob_tree.specs.Marks.{repeated}
 use Rattle.ob_parse.specs.declared.cursor.Cursor.{Cursor}
 use Rattle.ob_parse.specs.Forms.{identifier_at, name_at}
 use Rattle.ob_parse.specs.Accords.{ahead}
-use Rattle.ob_parse.specs.Parsed.{IsRightEnd, bytes_of}
-use Rattle.ob_decls.specs.declared.draft.Context.{Context}
+use Rattle.ob_parse.specs.Parsed.{IsRightEnd}
 use Rattle.ob_decls.specs.declared.draft.Draft.{Draft}
-use Rattle.ob_decls.specs.Drafts.{Stage, after, ComesTo}
-use Rattle.ob_decls.specs.Parts.{Piece}
+use Rattle.ob_decls.specs.Drafts.{Stage, ComesTo}
 use Rattle.ob_table.specs.Ended.{RightName}
-use Rattle.ob_table.specs.Tabulating.{Told, TabulatesBy}
+use Rattle.ob_table.specs.Tabulating.{Told}
 
 -- a name that was read, compared and told
 pub name_told : (bytes : List ℕ) (ts : List Token) (name end : ℕ) (step : Stage → Stage) (old mid new : Draft) (input rest : Cursor) → identifier_at (ahead ts input) ≡ Ok (end, ahead ts rest) →

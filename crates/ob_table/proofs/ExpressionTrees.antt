@@ -1,39 +1,34 @@
 -- Expressions of parts that were told: their outlines and what they tell.
-use Rattle.std.proofs.Common.{◌≡◌, ℕ, zero, suc, ◌+◌, ◌-◌, false, List, [], ◌∷◌, ◌++◌, Option, Some, None, Ok, Err, refl, sym, ap, ◌∙◌, arith}
-use Rattle.std.specs.Global.{Box, Vec}
+use Rattle.std.proofs.Common.{◌≡◌, ℕ, zero, suc, ◌+◌, ◌-◌, List, [], ◌++◌, Option, Some, None, Ok, Err, refl, sym, ap, ◌∙◌, arith}
+use Rattle.std.specs.Global.{Vec}
 use Rattle.std.specs.Prelude.{Result}
 use Rattle.ob_scan.specs.declared.token.Token.{Token}
 use Rattle.ob_tree.specs.declared.expression.Relation.{Relation}
 use Rattle.ob_tree.specs.declared.expression.Sign.{Sign}
 use Rattle.ob_tree.specs.declared.expression.AddOperator.{AddOperator}
 use Rattle.ob_tree.specs.declared.expression.MulOperator.{MulOperator}
-use Rattle.ob_tree.specs.declared.expression.Expr.{Expr, Expr-F, roll-Expr, out-Expr, out-roll-Expr}
-use Rattle.ob_tree.specs.declared.expression.ExprList.{ExprList, ExprList-F, roll-ExprList, out-ExprList, out-roll-ExprList}
-use Rattle.ob_tree.specs.declared.expression.Element.{Element, Element-F, roll-Element, out-Element, out-roll-Element}
-use Rattle.ob_tree.specs.declared.expression.ElementList.{ElementList, ElementList-F, roll-ElementList, out-ElementList, out-roll-ElementList}
-use Rattle.ob_tree.specs.declared.expression.SimpleExpression.{SimpleExpression, SimpleExpression-F, roll-SimpleExpression, out-SimpleExpression, out-roll-SimpleExpression}
+use Rattle.ob_tree.specs.declared.expression.Expr.{Expr, roll-Expr, out-roll-Expr}
+use Rattle.ob_tree.specs.declared.expression.SimpleExpression.{SimpleExpression, roll-SimpleExpression, out-roll-SimpleExpression}
 use Rattle.ob_tree.specs.declared.expression.Term.{Term}
 use Rattle.ob_tree.specs.declared.expression.Factor.{Factor}
-use Rattle.ob_tree.specs.declared.expression.Selector.{Selector}
-use Rattle.ob_tree.specs.declared.expression.Designator.{Designator}
 use Rattle.ob_tree.specs.Constructs as constructs
-use Rattle.ob_tree.specs.Marks.{Out, construct, word}
-use Rattle.ob_tree.specs.Expressions.{relation_kind, expr_outline, sum_outline, term_outline, factor_outline, element_outline, element_list_outline, expr_list_outline}
-use Rattle.ob_tree.proofs.ExpressionLayers.{expr_made, sum_made, term_out, element_made, element_list_made, expr_list_made}
+use Rattle.ob_tree.specs.Marks.{construct, word}
+use Rattle.ob_tree.specs.Expressions.{relation_kind, expr_outline, sum_outline, term_outline, factor_outline}
+use Rattle.ob_tree.proofs.ExpressionLayers.{expr_made, sum_made, term_out}
 use Rattle.ob_decls.specs.declared.draft.Context.{Context}
 use Rattle.ob_decls.specs.declared.draft.Draft.{Draft}
 use Rattle.ob_decls.specs.Drafts.{Stage, stage_of, after, passed, ComesTo}
-use Rattle.ob_decls.specs.Parts.{Piece, token, both, if_there, each}
-use Rattle.ob_decls.specs.Expressions.{expr_piece, sum_piece, term_piece, factor_piece, element_piece, element_list_piece, expr_list_piece}
+use Rattle.ob_decls.specs.Parts.{Piece, both}
+use Rattle.ob_decls.specs.Expressions.{expr_piece, sum_piece, term_piece, factor_piece}
 use Rattle.ob_decls.proofs.Steps.{after_both, after_token, after_nothing}
 use Rattle.ob_decls.proofs.ExpressionLayers as told
 use Rattle.ob_parse.specs.declared.cursor.Cursor.{Cursor}
 use Rattle.ob_parse.specs.declared.stop.Stop.{Stop}
-use Rattle.ob_parse.specs.Forms.{Read, Reader, seq, node, optional, nothing, many}
+use Rattle.ob_parse.specs.Forms.{Read, seq, optional, nothing, many}
 use Rattle.ob_parse.specs.Accords.{ahead, Fails}
 use Rattle.ob_parse.specs.ReadExpressions.{relation_start, sign_start, add_start, mul_start, expr_with, sum_with, term_with, expr_at, sum_at, term_at, factor_at}
 use Rattle.ob_table.specs.Shapes.{Compared, compared_outline, compared_piece, sign_outline, sign_piece, terms_outline, terms_piece, factors_outline, factors_piece}
-use Rattle.ob_table.specs.Tabulating.{Told, Tabulates, TabulatesBy}
+use Rattle.ob_table.specs.Tabulating.{Told, Tabulates}
 use Rattle.ob_table.proofs.Combine.{told_as, told_node, told_then, told_there, told_behind, failed_node, failed_then}
 use Rattle.ob_table.proofs.Lists.{word_after}
 use Rattle.ob_table.proofs.Made.{boxed}

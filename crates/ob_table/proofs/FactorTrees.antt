@@ -1,5 +1,5 @@
 -- Factors, sets and elements of parts that were told.
-use Rattle.std.proofs.Common.{◌≡◌, ℕ, zero, suc, ◌+◌, ◌-◌, false, true, List, [], ◌∷◌, ◌++◌, Option, Some, None, Ok, Err, refl, sym, ap, subst, ◌∙◌, arith}
+use Rattle.std.proofs.Common.{◌≡◌, ℕ, zero, suc, ◌+◌, ◌-◌, false, true, List, [], ◌++◌, Option, Some, None, Ok, refl, sym, ap, subst, ◌∙◌, arith}
 use Rattle.std.specs.Global.{Box, Vec}
 use Rattle.std.specs.Prelude.{Result}
 use Rattle.ob_scan.specs.declared.kind.Kind.{Kind}
@@ -10,8 +10,8 @@ use Rattle.ob_tree.specs.declared.expression.Factor.{Factor}
 use Rattle.ob_tree.specs.declared.expression.Factor.TheVariants as factors
 use Rattle.ob_tree.specs.declared.expression.Expr.{Expr}
 use Rattle.ob_tree.specs.declared.expression.Designator.{Designator}
-use Rattle.ob_tree.specs.declared.expression.Element.{Element, Element-F, roll-Element, out-Element, out-roll-Element}
-use Rattle.ob_tree.specs.declared.expression.ElementList.{ElementList, ElementList-F, roll-ElementList, out-ElementList, out-roll-ElementList}
+use Rattle.ob_tree.specs.declared.expression.Element.{Element, roll-Element, out-roll-Element}
+use Rattle.ob_tree.specs.declared.expression.ElementList.{ElementList, roll-ElementList, out-roll-ElementList}
 use Rattle.ob_tree.specs.Constructs.{Construct}
 use Rattle.ob_tree.specs.Constructs as constructs
 use Rattle.ob_tree.specs.Marks.{Out, construct, word}
@@ -27,11 +27,11 @@ use Rattle.ob_decls.proofs.ExpressionLayers as told
 use Rattle.ob_parse.specs.declared.cursor.Cursor.{Cursor}
 use Rattle.ob_parse.specs.declared.stop.Stop.{Stop}
 use Rattle.ob_parse.specs.Front.{uncons, front, is_word}
-use Rattle.ob_parse.specs.Forms.{Read, Reader, seq, node, prefixed, optional, unless, several, many, accept_at, expect_at}
+use Rattle.ob_parse.specs.Forms.{Reader, seq, node, prefixed, optional, unless, several, many, accept_at, expect_at}
 use Rattle.ob_parse.specs.Accords.{ahead, Fails}
-use Rattle.ob_parse.specs.ReadExpressions.{factor_from, factor_with, element_with, designator_with, expr_at, negated_at, factor_at}
+use Rattle.ob_parse.specs.ReadExpressions.{factor_from, factor_with, element_with, expr_at, negated_at, factor_at}
 use Rattle.ob_table.specs.Shapes.{set_outline, set_piece, elements_outline, elements_piece, high_outline, high_piece}
-use Rattle.ob_table.specs.Tabulating.{Told, Tabulates, TabulatesBy}
+use Rattle.ob_table.specs.Tabulating.{Tabulates, TabulatesBy}
 use Rattle.ob_table.proofs.Made.{boxed}
 use Rattle.ob_table.proofs.Combine.{told_as, told_node, told_then, told_prefixed, told_behind, told_there, failed_node, failed_prefixed, failed_then}
 use Rattle.ob_table.proofs.ExpressionTrees.{both_after}

@@ -1,6 +1,6 @@
 -- Lists that a loop reads and tells, one thing after the other.
 use Rattle.std.proofs.Common.{◌≡◌, ℕ, ◌≤◌, ◌<◌, ◌+◌, false, List, [], ◌∷◌, ◌++◌, length, Ok, Err, Some, None, refl, sym, ap, ◌∙◌, arith, length-append}
-use Rattle.std.specs.Global.{Vec, Global}
+use Rattle.std.specs.Global.{Vec}
 use Rattle.ob_scan.specs.declared.token.Token.{Token}
 use Rattle.ob_tree.specs.Marks.{Out, each, word}
 use Rattle.ob_tree.proofs.Walks.{each_push}
@@ -18,7 +18,7 @@ use Rattle.ob_decls.specs.Parts.{Piece, token, both}
 use Rattle.ob_decls.specs.Parts.{each as pieces}
 use Rattle.ob_decls.specs.Drafts.{Stage, stage_of, after, passed, ComesTo}
 use Rattle.ob_decls.proofs.Steps.{after_both, after_each, after_nothing, after_token}
-use Rattle.ob_table.specs.Tabulating.{Told, TabulatesBy, Tabulates}
+use Rattle.ob_table.specs.Tabulating.{TabulatesBy, Tabulates}
 use Rattle.ob_table.proofs.Combine.{told_as, told_behind}
 use Rattle.ob_table.proofs.Made.{listed}
 

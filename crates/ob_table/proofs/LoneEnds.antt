@@ -1,15 +1,14 @@
 -- A name alone between two tokens, by the tokens ahead of both.
-use Rattle.std.proofs.Common.{◌≡◌, ℕ, zero, suc, ◌+◌, ◌-◌, ◌<◌, Bool, true, false, cond, List, [], ◌∷◌, ◌++◌, length, map, drop, take, Option, Some, None, refl, sym, ap, subst, ◌∙◌, arith, length-append}
+use Rattle.std.proofs.Common.{◌≡◌, ℕ, ◌+◌, ◌-◌, ◌<◌, Bool, true, false, cond, List, [], ◌∷◌, ◌++◌, length, map, drop, take, Option, Some, None, refl, sym, ap, subst, ◌∙◌, arith, length-append}
 use Rattle.std.proofs.lemmas.List.{length-drop, length-map}
 use Rattle.ob_scan.specs.declared.kind.Kind.{Kind}
 use Rattle.ob_scan.specs.declared.kind.Kind.TheVariants as kinds
 use Rattle.ob_scan.specs.declared.token.Token.{Token}
 use Rattle.ob_tree.specs.declared.token.Leaf.{Leaf}
 use Rattle.ob_tree.specs.declared.token.Leaf.TheVariants as leafs
-use Rattle.ob_tree.specs.Leaves.{same_kind, leaves_from}
+use Rattle.ob_tree.specs.Leaves.{same_kind}
 use Rattle.ob_tree.specs.Marks.{Out, word}
 use Rattle.ob_tree.proofs.Same.{same_is}
-use Rattle.ob_decls.specs.declared.rows.TypeName.{TypeName}
 use Rattle.ob_parse.specs.declared.cursor.Cursor.{Cursor}
 use Rattle.ob_parse.specs.Front.{uncons}
 use Rattle.ob_parse.specs.Forms.{accept_at}

@@ -1,5 +1,5 @@
 -- Boxes and lists that hold what is given, in the logic alone.
-use Rattle.std.proofs.Common.{◌≡◌, ◌≤◌, List, length, refl, arith}
+use Rattle.std.proofs.Common.{◌≤◌, List, length, refl, arith}
 use Rattle.std.specs.Global.{Box, Vec, Global}
 use denote.RawPtr.{null_ptr}
 

@@ -1,5 +1,5 @@
 -- Modules of parts that were told.
-use Rattle.std.proofs.Common.{◌≡◌, ℕ, List, [], ◌∷◌, ◌++◌, Option, Some, None, Result, Ok, Err, refl, sym, ap, subst, ◌∙◌}
+use Rattle.std.proofs.Common.{◌≡◌, ℕ, List, ◌++◌, Option, Some, None, Result, Ok, Err, refl, sym, ap, subst}
 use Rattle.std.specs.List.{All}
 use Rattle.std.proofs.lemmas.List.Elements.{All-push}
 use Rattle.ob_scan.specs.declared.kind.Kind.TheVariants as kinds
@@ -10,32 +10,30 @@ use Rattle.ob_tree.specs.declared.statement.StatementSequence.{StatementSequence
 use Rattle.ob_tree.specs.declared.declaration.ImportItem.{ImportItem}
 use Rattle.ob_tree.specs.declared.declaration.Module.{Module}
 use Rattle.ob_tree.specs.declared.token.Leaf.{Leaf}
-use Rattle.ob_tree.specs.Marks.{Out, construct, word, named, repeated, separated}
-use Rattle.ob_tree.specs.Marks.{if_there as shown_there}
-use Rattle.ob_tree.specs.Declaring.{declarations_outline, import_outline, module_outline}
+use Rattle.ob_tree.specs.Marks.{Out, construct, word, named, repeated}
+use Rattle.ob_tree.specs.Declaring.{declarations_outline, module_outline}
 use Rattle.ob_tree.specs.Derives.{endings_in}
 use Rattle.ob_tree.proofs.DeclarationLayers.{module_out}
 use Rattle.ob_tree.proofs.EndNames.{module_ends}
 use Rattle.ob_decls.specs.declared.draft.Context.{Context}
 use Rattle.ob_decls.specs.declared.draft.Draft.{Draft}
 use Rattle.ob_decls.specs.Drafts.{Stage, after, passed, ComesTo}
-use Rattle.ob_decls.specs.Parts.{Piece, token, both, tells, if_there}
+use Rattle.ob_decls.specs.Parts.{token, tells, if_there}
 use Rattle.ob_decls.specs.Declaring.{declarations_piece, imports_piece, module_end, module_piece}
-use Rattle.ob_decls.proofs.Steps.{after_both, after_token}
 use Rattle.ob_decls.proofs.DeclarationLayers as told
 use Rattle.ob_parse.specs.declared.cursor.Cursor.{Cursor}
 use Rattle.ob_parse.specs.declared.stop.Stop.{Stop}
 use Rattle.ob_parse.specs.declared.stop.Stop.TheVariants as stops
 use Rattle.ob_parse.specs.Front.{uncons}
-use Rattle.ob_parse.specs.Forms.{Refusal, Unexpected, Read, Reader, ◌>>=◌, seq, node, prefixed, expect_at, identifier_at, name_at}
-use Rattle.ob_parse.specs.Accords.{Fails, ahead, seen}
+use Rattle.ob_parse.specs.Forms.{Refusal, Unexpected, Read, Reader, ◌>>=◌, seq, prefixed, expect_at, identifier_at, name_at}
+use Rattle.ob_parse.specs.Accords.{Fails, ahead}
 use Rattle.ob_parse.specs.Parsed.{IsRightEnd}
 use Rattle.ob_parse.specs.ReadStatements.{block_at}
 use Rattle.ob_parse.specs.ReadModules.{imports_at, declarations_at, body_with, module_behind_name, name_then, module_at, nothing_left, all_of}
 use Rattle.ob_table.specs.DeclarationShapes.{body_outline, body_piece, ModuleParts, parts_shown, parts_step, ModuleEnd, end_shown, end_step, ModuleBehind, imports_shown, behind_shown, behind_step}
-use Rattle.ob_table.specs.Ended.{RightEnds, EndedDeclarations, EndedModule, RightName, WholeTold, TabulatesWhole}
+use Rattle.ob_table.specs.Ended.{RightEnds, EndedDeclarations, EndedModule, RightName, WholeTold}
 use Rattle.ob_table.specs.Tabulating.{Told, Tabulates, TabulatesBy}
-use Rattle.ob_table.proofs.Combine.{told_as, told_node, told_then, told_prefixed, told_behind, failed_node, failed_then, failed_prefixed}
+use Rattle.ob_table.proofs.Combine.{told_as, told_node, told_then, told_prefixed, told_behind, failed_node, failed_then}
 use Rattle.ob_table.proofs.SectionTrees.{failed_behind}
 
 pub end_told : (bytes : List ℕ) (ts : List Token) (name : ℕ) (c : Context) (old first second new : Draft) (input a b : Cursor) (result : Result Cursor Stop) →

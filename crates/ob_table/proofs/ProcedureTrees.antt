@@ -1,5 +1,5 @@
 -- Procedures of parts that were told, and lists of them.
-use Rattle.std.proofs.Common.{◌≡◌, ℕ, zero, suc, ◌-◌, Bool, List, [], ◌∷◌, ◌++◌, Option, Some, None, Result, Ok, Err, length, refl, sym, ap, subst, ◌∙◌, arith}
+use Rattle.std.proofs.Common.{◌≡◌, ℕ, zero, suc, ◌-◌, Bool, List, [], ◌∷◌, ◌++◌, Option, Some, None, Result, Ok, length, refl, sym, ap, subst, ◌∙◌, arith}
 use Rattle.std.specs.List.{All}
 use Rattle.std.specs.Global.{Box, Vec, Global}
 use Rattle.std.proofs.lemmas.List.{append-nil}
@@ -9,14 +9,13 @@ use Rattle.ob_scan.specs.declared.token.Token.{Token}
 use Rattle.ob_tree.specs.Constructs as constructs
 use Rattle.ob_tree.specs.declared.name.Identdef.{Identdef}
 use Rattle.ob_tree.specs.declared.expression.Expr.{Expr}
-use Rattle.ob_tree.specs.declared.statement.StatementSequence.{StatementSequence}
 use Rattle.ob_tree.specs.declared.declaration.ConstDecl.{ConstDecl}
 use Rattle.ob_tree.specs.declared.declaration.TypeDecl.{TypeDecl}
 use Rattle.ob_tree.specs.declared.declaration.VarDecl.{VarDecl}
 use Rattle.ob_tree.specs.declared.declaration.Parameters.{Parameters}
-use Rattle.ob_tree.specs.declared.declaration.Declarations.{Declarations, Declarations-F, roll-Declarations, out-Declarations, out-roll-Declarations}
-use Rattle.ob_tree.specs.declared.declaration.ProcDecl.{ProcDecl, ProcDecl-F, roll-ProcDecl, out-ProcDecl, out-roll-ProcDecl}
-use Rattle.ob_tree.specs.Marks.{Out, construct, word, each, repeated, if_so}
+use Rattle.ob_tree.specs.declared.declaration.Declarations.{Declarations, Declarations-F, roll-Declarations, out-roll-Declarations}
+use Rattle.ob_tree.specs.declared.declaration.ProcDecl.{ProcDecl, ProcDecl-F, roll-ProcDecl, out-roll-ProcDecl}
+use Rattle.ob_tree.specs.Marks.{Out, construct, word, repeated, if_so}
 use Rattle.ob_tree.specs.Marks.{if_there as shown_there}
 use Rattle.ob_tree.specs.Names.{identdef_outline}
 use Rattle.ob_tree.specs.Expressions.{expr_outline}
@@ -31,7 +30,7 @@ use Rattle.ob_decls.specs.declared.rows.Sort.TheVariants as sorts
 use Rattle.ob_decls.specs.declared.rows.Declarer.{Declarer}
 use Rattle.ob_decls.specs.declared.draft.Context.{Context}
 use Rattle.ob_decls.specs.declared.draft.Draft.{Draft}
-use Rattle.ob_decls.specs.Drafts.{Stage, stage_of, after, passed, added, closed, ComesTo}
+use Rattle.ob_decls.specs.Drafts.{Stage, after, passed, added, closed, ComesTo}
 use Rattle.ob_decls.specs.Parts.{Piece, token, both, tells, if_there, declarer, declaring, declaring_at, in_block, opens_block, one_block, one_declarer}
 use Rattle.ob_decls.specs.Parts.{each as pieces}
 use Rattle.ob_decls.specs.Expressions.{expr_piece}
@@ -42,18 +41,17 @@ use Rattle.ob_decls.proofs.Steps.{after_both, after_token}
 use Rattle.ob_decls.proofs.DeclarationLayers as told
 use Rattle.ob_parse.specs.declared.cursor.Cursor.{Cursor}
 use Rattle.ob_parse.specs.declared.stop.Stop.{Stop}
-use Rattle.ob_parse.specs.Front.{is_word}
-use Rattle.ob_parse.specs.Forms.{Read, Reader, seq, node, optional, nothing, many, begins, accept_at, expect_at, identifier_at, name_at, behind_name}
+use Rattle.ob_parse.specs.Forms.{Reader, seq, optional, nothing, accept_at, expect_at, identifier_at, name_at, behind_name}
 use Rattle.ob_parse.specs.Accords.{Fails, ahead}
 use Rattle.ob_parse.specs.Parsed.{IsRightEnd}
 use Rattle.ob_parse.specs.ReadExpressions.{expr_at}
 use Rattle.ob_parse.specs.ReadNames.{identdef_after}
 use Rattle.ob_parse.specs.ReadStatements.{block_at}
-use Rattle.ob_parse.specs.ReadTypes.{some_parameters_at, type_at}
-use Rattle.ob_parse.specs.ReadModules.{const_with, type_decl_with, variable_with, part_with, procedures_with, declarations_with, declarations_at, body_with, procedure_named, procedure_with, procedure_at, with_semicolon}
+use Rattle.ob_parse.specs.ReadTypes.{some_parameters_at}
+use Rattle.ob_parse.specs.ReadModules.{const_with, type_decl_with, variable_with, part_with, procedures_with, declarations_with, declarations_at, body_with, procedure_named, procedure_with, procedure_at}
 use Rattle.ob_parse.proofs.Stars.{star_read}
 use Rattle.ob_table.specs.DeclarationShapes.{ended_outline, ended_piece, body_outline, body_piece, returned_outline, returned_piece, behind_procedure, behind_procedure_piece, Ending, ending_shown, ending_step, Block, block_shown, block_step}
-use Rattle.ob_table.specs.Ended.{RightEnds, Ended, EndedProcedure, EndedProcedures, EndedDeclarations, RightName, procedures_outline}
+use Rattle.ob_table.specs.Ended.{RightEnds, EndedProcedure, EndedProcedures, EndedDeclarations, RightName, procedures_outline}
 use Rattle.ob_table.specs.Tabulating.{Told, Tabulates, TabulatesBy}
 use Rattle.ob_table.proofs.Combine.{told_as, told_node, told_then, failed_node, failed_then, told_walked}
 use Rattle.ob_table.proofs.Lists.{word_after}

@@ -1,5 +1,5 @@
 -- Places for selectors, one more at a time.
-use Rattle.std.proofs.Common.{◌≡◌, ℕ, zero, suc, ◌+◌, List, [], ◌∷◌, ◌++◌, refl, ap, ◌∙◌, arith, append_assoc}
+use Rattle.std.proofs.Common.{◌≡◌, ℕ, zero, suc, ◌+◌, List, [], ◌∷◌, ◌++◌, refl, ap, arith, append_assoc}
 use Rattle.std.proofs.lemmas.List.{append-nil}
 use Rattle.ob_decls.specs.declared.rows.Selector.{Selector as SelectorRow}
 use Rattle.ob_decls.specs.declared.rows.Step.TheVariants as steps

@@ -1,5 +1,5 @@
 -- Declarations of parts that were told, section by section.
-use Rattle.std.proofs.Common.{◌≡◌, ℕ, List, ◌++◌, [], Option, Some, None, Result, Ok, Err, length, refl, ap, ◌∙◌}
+use Rattle.std.proofs.Common.{◌≡◌, ℕ, List, ◌++◌, Option, Some, None, Result, Ok, Err, length, refl, ap, ◌∙◌}
 use Rattle.std.specs.Global.{Vec}
 use Rattle.ob_scan.specs.declared.kind.Kind.{Kind}
 use Rattle.ob_scan.specs.declared.kind.Kind.TheVariants as kinds
@@ -12,7 +12,6 @@ use Rattle.ob_tree.specs.Names.{identdef_outline}
 use Rattle.ob_tree.specs.Declaring.{part as shown_part}
 use Rattle.ob_decls.specs.declared.rows.Sort.{Sort}
 use Rattle.ob_decls.specs.declared.rows.Sort.TheVariants as sorts
-use Rattle.ob_decls.specs.declared.rows.Block.{Block}
 use Rattle.ob_decls.specs.declared.rows.Declarer.{Declarer}
 use Rattle.ob_decls.specs.declared.draft.Context.{Context}
 use Rattle.ob_decls.specs.declared.draft.Draft.{Draft}
@@ -24,13 +23,13 @@ use Rattle.ob_decls.specs.Declaring.{part}
 use Rattle.ob_decls.proofs.Steps.{after_both, after_token, after_declaring, after_tells, after_within}
 use Rattle.ob_parse.specs.declared.cursor.Cursor.{Cursor}
 use Rattle.ob_parse.specs.declared.stop.Stop.{Stop}
-use Rattle.ob_parse.specs.Forms.{Read, Reader, seq, node, optional, accept_at, expect_at, many, begins}
+use Rattle.ob_parse.specs.Forms.{Read, Reader, seq, node, accept_at, expect_at, many, begins}
 use Rattle.ob_parse.specs.Accords.{Fails, ahead}
 use Rattle.ob_parse.specs.ReadNames.{identdef_at}
 use Rattle.ob_parse.specs.ReadModules.{is_identifier, with_semicolon, part_with}
 use Rattle.ob_table.specs.DeclarationShapes.{ended_outline, ended_piece}
-use Rattle.ob_table.specs.Tabulating.{Told, Tabulates, TabulatesBy}
-use Rattle.ob_table.proofs.Combine.{told_at, told_as, told_node, told_then, told_there, told_behind, told_before, failed_node, failed_then}
+use Rattle.ob_table.specs.Tabulating.{Tabulates, TabulatesBy}
+use Rattle.ob_table.proofs.Combine.{told_at, told_as, told_node, told_then, told_behind, told_before, failed_node, failed_then}
 use Rattle.ob_table.proofs.Behind.{absent_told, declaring_told, word_there_told}
 use Rattle.ob_table.proofs.Lists.{word_after}
 

@@ -1,7 +1,6 @@
 -- From the tokens of a whole text to its one tree.
 use Rattle.std.proofs.Common.{◌≡◌, ℕ, List, Result, Ok, sym, ap, subst, ◌∙◌}
 use Rattle.ob_scan.specs.declared.token.Token.{Token}
-use Rattle.ob_tree.specs.declared.declaration.Module.{Module}
 use Rattle.ob_tree.specs.Declaring.{module_outline}
 use Rattle.ob_tree.specs.Leaves.{leaves_from}
 use Rattle.ob_tree.specs.Marks.{Out}

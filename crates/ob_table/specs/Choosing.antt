@@ -18,7 +18,7 @@ use Rattle.ob_decls.specs.declared.rows.Step.TheVariants as steps
 use Rattle.ob_decls.specs.declared.draft.Context.{Context}
 use Rattle.ob_decls.specs.declared.draft.Draft.{Draft}
 use Rattle.ob_decls.specs.Drafts.{Stage, after, settled}
-use Rattle.ob_decls.specs.Expressions.{Selected, selected, first_name, listed, expr_list_piece}
+use Rattle.ob_decls.specs.Expressions.{selected, first_name, listed, expr_list_piece}
 use Rattle.ob_decls.specs.Settling.{row_at, settling}
 use Rattle.ob_table.specs.Shapes.{exprs_outline, exprs_piece}
 use Rattle.ob_table.specs.Tabulating.{Told}

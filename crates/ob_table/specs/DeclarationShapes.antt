@@ -1,31 +1,26 @@
 -- Parts of declarations that have no name in the tree, by their outlines and by what they tell.
 use Rattle.std.specs.Prelude.{ℕ, ◌++◌, List, Option}
-use Rattle.std.specs.Global.{Box, Vec}
 use Rattle.ob_scan.specs.declared.kind.Kind.TheVariants as kinds
 use Rattle.ob_scan.specs.declared.token.Token.{Token}
-use Rattle.ob_tree.specs.declared.name.Identdef.{Identdef}
 use Rattle.ob_tree.specs.declared.expression.Expr.{Expr}
 use Rattle.ob_tree.specs.declared.statement.StatementSequence.{StatementSequence}
-use Rattle.ob_tree.specs.declared.declaration.ConstDecl.{ConstDecl}
-use Rattle.ob_tree.specs.declared.declaration.TypeDecl.{TypeDecl}
-use Rattle.ob_tree.specs.declared.declaration.VarDecl.{VarDecl}
 use Rattle.ob_tree.specs.declared.declaration.ProcDecl.{ProcDecl, out-ProcDecl}
 use Rattle.ob_tree.specs.declared.declaration.ImportItem.{ImportItem}
 use Rattle.ob_tree.specs.declared.name.OneOrMore.{OneOrMore}
 use Rattle.ob_tree.specs.Marks.{Out, word, repeated, separated}
-use Rattle.ob_tree.specs.Marks.{if_there as shown_there, each as shown_each}
+use Rattle.ob_tree.specs.Marks.{if_there as shown_there}
 use Rattle.ob_tree.specs.Names.{identdef_outline}
 use Rattle.ob_tree.specs.Expressions.{expr_outline}
 use Rattle.ob_tree.specs.Statements.{block_outline}
 use Rattle.ob_tree.specs.Types.{parameters_outline}
-use Rattle.ob_tree.specs.Declaring.{part, const_outline, type_decl_outline, variable_outline, declarations_outline, import_outline}
+use Rattle.ob_tree.specs.Declaring.{declarations_outline, import_outline}
 use Rattle.ob_decls.specs.declared.draft.Context.{Context}
 use Rattle.ob_decls.specs.Drafts.{Stage, after, passed}
-use Rattle.ob_decls.specs.Parts.{Piece, token, both, tells, if_there, each}
+use Rattle.ob_decls.specs.Parts.{Piece, token, both, tells, if_there}
 use Rattle.ob_decls.specs.Expressions.{expr_piece}
 use Rattle.ob_decls.specs.Statements.{block_piece}
 use Rattle.ob_decls.specs.Types.{identdef_piece, parameters_piece}
-use Rattle.ob_decls.specs.Declaring.{const_piece, type_decl_piece, variable_piece, declarations_piece, procedure_end, module_end, imports_piece}
+use Rattle.ob_decls.specs.Declaring.{declarations_piece, procedure_end, module_end, imports_piece}
 use Rattle.ob_table.specs.Ended.{EndedDeclarations, RightName}
 
 -- a declaration with its semicolon

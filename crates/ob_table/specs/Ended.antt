@@ -1,12 +1,10 @@
 -- Trees whose names after END are right, and what is told of a whole text.
-use Rattle.std.specs.Prelude.{◌≡◌, ℕ, List, Bool, Option, Result, Ok, Err, ◌++◌}
+use Rattle.std.specs.Prelude.{◌≡◌, ℕ, List, Result, Ok, Err, ◌++◌}
 use Rattle.std.specs.List.{All}
 use Rattle.std.specs.Global.{Vec}
 use Rattle.ob_scan.specs.declared.kind.Kind.TheVariants as kinds
 use Rattle.ob_scan.specs.declared.token.Token.{Token}
-use Rattle.ob_tree.specs.declared.declaration.Declarations.{Declarations}
 use Rattle.ob_tree.specs.declared.declaration.ProcDecl.{ProcDecl}
-use Rattle.ob_tree.specs.declared.declaration.Module.{Module}
 use Rattle.ob_tree.specs.Declaring.{declarations_outline, procedure_outline, module_outline}
 use Rattle.ob_tree.specs.Derives.{endings_in}
 use Rattle.ob_tree.specs.Marks.{Out, each, word}

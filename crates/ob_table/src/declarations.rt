@@ -10,7 +10,6 @@ ghost use Rattle.ob_tree.specs.declared.declaration.TypeForm.{TypeForm};
 ghost use Rattle.ob_tree.specs.declared.declaration.ConstDecl.{ConstDecl};
 ghost use Rattle.ob_tree.specs.declared.declaration.TypeDecl.{TypeDecl};
 ghost use Rattle.ob_tree.specs.declared.declaration.VarDecl.{VarDecl};
-ghost use Rattle.ob_tree.specs.declared.declaration.ProcDecl.{ProcDecl};
 ghost use Rattle.ob_tree.specs.Marks.{word, each, if_there, repeated};
 ghost use Rattle.ob_tree.specs.Names.{identdef_outline};
 ghost use Rattle.ob_tree.specs.Expressions.{expr_outline};
@@ -26,7 +25,7 @@ ghost use Rattle.ob_parse.specs.Forms.{optional, accept_at, expect_at, name_at, 
 ghost use Rattle.ob_parse.specs.ReadExpressions.{expr_at};
 ghost use Rattle.ob_parse.specs.ReadNames.{identdef_at};
 ghost use Rattle.ob_parse.specs.ReadStatements.{block_at};
-ghost use Rattle.ob_parse.specs.ReadTypes.{some_parameters_at, type_at};
+ghost use Rattle.ob_parse.specs.ReadTypes.{type_at};
 ghost use Rattle.ob_parse.specs.ReadModules.{is_identifier, with_semicolon, const_with, type_decl_with, variable_with, part_with, procedures_with, body_with, procedure_named, procedure_with, procedure_at, declarations_at};
 ghost use Rattle.ob_parse.specs.Accords.{ahead};
 ghost use Rattle.ob_table.specs.DeclarationShapes.{ended_outline, ended_piece, body_outline, body_piece, returned_outline, returned_piece, behind_procedure, behind_procedure_piece, Block, block_shown, block_step, Ending, ending_shown, ending_step};

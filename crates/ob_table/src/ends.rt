@@ -8,7 +8,8 @@ ghost use Rattle.ob_decls.specs.Parts.{tells, token};
 ghost use Rattle.ob_tree.specs.Marks.{repeated};
 ghost use Rattle.ob_parse.specs.Forms.{name_at};
 ghost use Rattle.ob_parse.specs.Accords.{ahead};
-ghost use Rattle.ob_parse.specs.Parsed.{IsRightEnd, bytes_of};
+ghost use Rattle.ob_scan.specs.Texts.{bytes_of};
+ghost use Rattle.ob_parse.specs.Parsed.{IsRightEnd};
 ghost use Rattle.ob_table.specs.Ended.{RightName};
 ghost use Rattle.ob_table.specs.Tabulating.{TabulatesBy};
 

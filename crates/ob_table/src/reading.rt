@@ -2,7 +2,7 @@
 
 ghost use Rattle.std.specs.Prelude.{◌≡◌, ◌<◌, ◌^◌, length, ℕ, List, Ok, IfOk, IfErr};
 ghost use Rattle.ob_decls.specs.Declaring.{rows_in, rows_of, module_piece, outermost};
-ghost use Rattle.ob_decls.specs.Drafts.{after, stage_of, start};
+ghost use Rattle.ob_decls.specs.Drafts.{after};
 ghost use Rattle.ob_scan.specs.Spelling.{IsOutcome};
 ghost use Rattle.ob_scan.specs.declared.token.Token.{Token};
 ghost use Rattle.ob_tree.specs.Declaring.{module_outline};

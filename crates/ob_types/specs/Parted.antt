@@ -6,7 +6,7 @@ use Rattle.indexmap.specs.IndexMap.{get, IndexMap}
 use Rattle.ob_decls.specs.declared.rows.Import.{Import}
 use Rattle.ob_decls.specs.Declaring.{rows_in}
 use Rattle.ob_interface.specs.Interfaces.{ModuleInterface}
-use Rattle.ob_types.specs.declared.name.Name.{Name}
+use Rattle.text_hash.specs.declared.name.Name.{Name}
 use Rattle.ob_types.specs.declared.parts.Parts.{Parts}
 use Rattle.ob_types.specs.Homes.{home_in}
 use Rattle.ob_types.specs.World.{World, field_at, text}

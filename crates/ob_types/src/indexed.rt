@@ -12,11 +12,10 @@ ghost use Rattle.type_search.specs.declared.shape.Shape.TheVariants as shapes;
 ghost use Rattle.ob_types.specs.Homes.{AreByName};
 ghost use Rattle.ob_types.specs.Parted.{home_by, world_of, AreFields, IsFew};
 ghost use Rattle.type_search.specs.ToldFields.{AreAllFields};
-ghost use Rattle.ob_types.specs.Shapes.{exported_type, field_of, home_meant, is_type, known, named_here, own_type, type_there, TypeShape};
+ghost use Rattle.ob_types.specs.Shapes.{exported_type, field_of, home_meant, is_type, known, named_here, own_type, type_there};
 ghost use Rattle.ob_types.specs.World.{field_at, form_of, home, home_of, meaning, text};
 
 use crate::homes::Homes;
-use crate::name::Name;
 use crate::names::{fields_of, item_homes};
 use crate::nodes::{Named, Node, Record};
 use crate::parts::Parts;
@@ -24,7 +23,7 @@ use crate::told::fields_told;
 use indexmap::IndexMap;
 use ob_decls::Sort;
 use std::alloc::{AllocError, Global};
-use text_hash::Seed;
+use text_hash::{Name, Seed};
 use type_search::{OwnField, Shape};
 
 /// What a module is known by, with the places of modules by their names and by import items, and the fields by their records and names.

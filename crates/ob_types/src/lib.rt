@@ -6,7 +6,6 @@
 mod hints;
 mod homes;
 mod indexed;
-mod name;
 mod names;
 mod nodes;
 mod parts;

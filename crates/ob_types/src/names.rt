@@ -9,12 +9,11 @@ ghost use Rattle.ob_types.specs.Parted.{home_by, same_field, world_of, AreFields
 ghost use Rattle.ob_types.specs.World.{declarer_from, is_of_record, text};
 
 use crate::homes::Homes;
-use crate::name::Name;
 use crate::parts::Parts;
 use indexmap::IndexMap;
 use ob_decls::Declared;
 use std::alloc::{AllocError, Global};
-use text_hash::Seed;
+use text_hash::{Name, Seed};
 
 /// The places of the modules that import items name, item by item.
 pub(crate) fn item_homes(

@@ -10,7 +10,7 @@ use crate::hints::Hints;
 use crate::places::{declared_here, declarer_here, form_here, place_of_alias, place_of_form};
 use ob_decls::{Declared, Declarer, FormPart, Record, Sort, Table};
 use ob_interface::Interface;
-use ob_scan::Token;
+use ob_scan::{Token, TokenTexts};
 use ob_scope::Scopes;
 use std::sync::Arc;
 
@@ -31,10 +31,11 @@ impl<'a> Parts<'a> {
         requires { AreInText self.now.bytes.now self.now.tokens.now }
         ensures { result.now ≡ text (world_of self.now) number }
     {
-        match self.tokens.get(number as usize) {
-            Some(token) => &self.bytes[token.start as usize..token.end as usize],
-            None => &self.bytes[..0],
-        }
+        let texts = TokenTexts {
+            bytes: self.bytes,
+            tokens: self.tokens,
+        };
+        texts.of(number)
     }
 
     /// The token that declares what a use means.

@@ -1,5 +1,5 @@
 //! Random numbers, the same for the same seed, and names made of numbers.
-ghost use Rattle.std.specs.Prelude.{◌<◌, length};
+ghost use Rattle.std.specs.Prelude.{◌<◌};
 
 use std::alloc::AllocError;
 

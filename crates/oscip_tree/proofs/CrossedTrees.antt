@@ -2,9 +2,9 @@
 use Rattle.std.proofs.Common.{◌≡◌, ℕ, zero, suc, ◌+◌, ◌<◌, ◌≤◌, List, [], ◌∷◌, ◌++◌, length, get_or, take, Some, None, Ok, refl, sym, ap, ◌∙◌, subst, inl, inr, arith}
 use Rattle.std.specs.Prelude.{Contains, slice_get}
 use Rattle.std.specs.Str.{bytes_eq}
-use Rattle.std.proofs.lemmas.Bool.{cases_lt, false≢true}
-use Rattle.std.proofs.lemmas.List.{get_or_past, length-map, take_more}
-use Rattle.std.proofs.lemmas.List.Elements.{All-get_or, Contains-append_cases}
+use Rattle.std.proofs.lemmas.Bool.{false≢true}
+use Rattle.std.proofs.lemmas.List.{length-map, take_more}
+use Rattle.std.proofs.lemmas.List.Elements.{Contains-append_cases}
 use Rattle.std.proofs.lemmas.List.Quantifiers.{position-Some}
 use Rattle.std.proofs.lemmas.Option.{get_or_from_slice_get, slice_get-get_or, slice_get_within}
 use Rattle.std.proofs.lemmas.Slice.Eq.{bytes_eq-Decides}
@@ -22,12 +22,12 @@ use Rattle.ob_imports.proofs.Places.{place_found, place_is}
 use Rattle.ob_parse.specs.Parsed.{IsTheTree}
 use Rattle.ob_scan.proofs.Outcomes.{spelled_once}
 use Rattle.ob_scan.specs.declared.token.Token.{Token}
-use Rattle.ob_scan.specs.Spelling.{AreInText, IsOutcome}
+use Rattle.ob_scan.specs.Spelling.{IsOutcome}
+use Rattle.ob_scan.specs.Texts.{text_at}
 use Rattle.ob_scope.specs.declared.across.Crossing.{Crossing}
 use Rattle.ob_scope.specs.Counted.{Crosses, HasWeight}
 use Rattle.ob_scope.specs.Crossings.{AreCrossings}
 use Rattle.ob_scope.specs.Scoped.{AreScopes, ModuleScopes}
-use Rattle.ob_scope.specs.Texts.{no_token, text_at, token_at}
 use Rattle.ob_scope.proofs.Counting.{counts-once}
 use Rattle.ob_scope.proofs.Crossed.{crossings_weigh}
 use Rattle.ob_tree.specs.declared.declaration.Module.{Module}
@@ -46,22 +46,6 @@ use Rattle.oscip_tree.proofs.TreeFiles.{there}
 use Rattle.oscip_tree.proofs.TreeNet.{at_left, member_at, place_of, same_at}
 
 -- ---- places of crossings
-
--- where tokens begin and end is in the text
-pub begin_in_text : (bytes : List ℕ) (ts : List Token) (k : ℕ) → AreInText bytes ts → (token_at ts k).start ≤ length bytes
-begin_in_text bytes ts k stand = elim (cases_lt k (length ts)) [
-  | inl within ↦
-      let some : (token_at ts k).start < (token_at ts k).end = All-get_or (λ t. t.start < t.end) ts k no_token within stand.some in
-      let ended : (token_at ts k).end ≤ length bytes = All-get_or (λ t. t.end ≤ length bytes) ts k no_token within stand.within in
-      omega arith
-  | inr past ↦ rw (get_or_past ts k no_token past) (omega arith)
-]
-
-pub end_in_text : (bytes : List ℕ) (ts : List Token) (k : ℕ) → AreInText bytes ts → (token_at ts k).end ≤ length bytes
-end_in_text bytes ts k stand = elim (cases_lt k (length ts)) [
-  | inl within ↦ All-get_or (λ t. t.end ≤ length bytes) ts k no_token within stand.within
-  | inr past ↦ rw (get_or_past ts k no_token past) (omega arith)
-]
 
 spans_more : (bytes : List ℕ) (ts : List Token) (cs : List Crossing) (spans : List Span) (c : Crossing) (span : Span) → AreSpans bytes ts cs spans → IsSpan bytes ts c span → AreSpans bytes ts (cs ++ c ∷ []) (spans ++ span ∷ [])
 spans_more bytes ts [] [] c span all one = (one, tt)

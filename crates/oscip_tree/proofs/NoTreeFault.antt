@@ -12,6 +12,7 @@ use Rattle.ob_scan.specs.declared.fault.ScanFault.TheVariants as scans
 use Rattle.ob_scan.specs.declared.token.Token.{Token}
 use Rattle.ob_scan.specs.Spelling.{IsOutcome}
 use Rattle.ob_scan.proofs.Outcomes.{outcome_once, spelled_once}
+use Rattle.ob_scan.specs.Texts.{text_at}
 use Rattle.ob_tree.specs.declared.declaration.Module.{Module}
 use Rattle.ob_parse.specs.declared.fault.ParseFault.{ParseFault}
 use Rattle.ob_parse.specs.declared.fault.ParseFault.TheVariants as parses
@@ -24,7 +25,6 @@ use Rattle.ob_scope.specs.declared.fault.ScopeFault.TheVariants as scopes
 use Rattle.ob_scope.specs.Members.{members_of}
 use Rattle.ob_scope.specs.Scope.{NoneTwice}
 use Rattle.ob_scope.specs.Scoped.{IsScopeFault}
-use Rattle.ob_scope.specs.Texts.{text_at}
 use Rattle.ob_scope.proofs.Meanings.{no_first}
 use Rattle.oscip_tree.specs.TreeFaults.{wants_memory}
 use Rattle.oscip_tree.specs.Trees.{files_of, rows, AreAccepted, HasParseFault, HasScanFault, HasScopeFault, IsAccepted, IsFileFault, IsFirstFault, IsGraphFault, IsTree, IsTreeFault, ModuleFile}

@@ -1,5 +1,5 @@
 -- A refused tree has one fault.
-use Rattle.std.proofs.Common.{◌≡◌, ◌≢◌, ℕ, ◌<◌, false, List, [], ◌∷◌, ◌++◌, length, Option, None, Some, Result, Ok, Err, refl, sym, ap, ap₂, ◌∙◌, subst, inl, inr, arith}
+use Rattle.std.proofs.Common.{◌≡◌, ◌≢◌, ℕ, ◌<◌, false, List, [], ◌∷◌, ◌++◌, length, Some, Result, Ok, Err, refl, sym, ap, ap₂, ◌∙◌, subst, inl, inr, arith}
 use Rattle.std.specs.Prelude.{codes, slice_get}
 use Rattle.std.specs.Fmt.{decimal}
 use Rattle.std.specs.List.{flat_map}
@@ -19,6 +19,7 @@ use Rattle.ob_scan.specs.declared.token.Token.{Token}
 use Rattle.ob_scan.specs.Position.{IsPosition}
 use Rattle.ob_scan.specs.Spelling.{IsOutcome}
 use Rattle.ob_scan.proofs.Outcomes.{outcome_once, spelled_once}
+use Rattle.ob_scan.specs.Texts.{text_at, token_at}
 use Rattle.ob_parse.specs.declared.fault.ParseFault.{ParseFault}
 use Rattle.ob_parse.specs.declared.fault.ParseFault.TheVariants as parses
 use Rattle.ob_parse.specs.Parsed.{IsFaultOf}
@@ -33,7 +34,6 @@ use Rattle.ob_scope.specs.declared.members.Scope.TheVariants.{Block, Record}
 use Rattle.ob_scope.specs.Members.{members_of}
 use Rattle.ob_scope.specs.Scope.{IsFirstTwice}
 use Rattle.ob_scope.specs.Scoped.{IsScopeFault}
-use Rattle.ob_scope.specs.Texts.{text_at, token_at}
 use Rattle.ob_scope.proofs.Meanings.{first_once}
 use Rattle.oscip_tree.specs.TreeFaults.{after_space, graph_fault_text, parse_fault_text, placed_text, scan_fault_text, scope_fault_text, tree_fault_text, wants_memory}
 use Rattle.oscip_tree.specs.Trees.{files_of, parse_offset, scan_offset, scope_offset, HasParseFault, HasScanFault, HasScopeFault, IsAccepted, IsFault, IsFileFault, IsFirstFault, IsGraphFault, IsTreeFault, ModuleFile}

@@ -5,14 +5,14 @@ use Rattle.std.specs.declared.alloc.Global.{Global}
 use Rattle.std.proofs.lemmas.List.{length-map}
 use Rattle.std.proofs.lemmas.Option.{slice_get-map, slice_get_within}
 use Rattle.oscip_tree.specs.Trees.{ModuleFile}
-use Rattle.oscip_tree.specs.TreeReading.{AreRead, AreScopesOf}
+use Rattle.oscip_tree.specs.TreeReading.{AreFilesRead, AreScopesOf}
 use Rattle.oscip_tree.specs.Parts.{AreAllParts}
 use Rattle.oscip_tree.specs.declared.parts.ModuleParts.{ModuleParts}
 use Rattle.oscip_tree.specs.declared.source.Source.{Source}
 use Rattle.oscip_tree.proofs.TreeFiles.{there}
 
 -- the scopes of the files are among their parts
-pub parts_read : (sources : List Source) (files : List ModuleFile) (all : List (Box ModuleParts Global)) → AreAllParts sources files all → AreRead sources files (map (λ (b : Box ModuleParts Global). b.value.scopes) all)
+pub parts_read : (sources : List Source) (files : List ModuleFile) (all : List (Box ModuleParts Global)) → AreAllParts sources files all → AreFilesRead sources files (map (λ (b : Box ModuleParts Global). b.value.scopes) all)
 parts_read sources files all are = record {
   accepted = are.accepted;
   as_many = length-map all (λ (b : Box ModuleParts Global). b.value.scopes) ∙ are.as_many;

@@ -6,6 +6,7 @@ use Rattle.ob_imports.specs.Files.{File}
 use Rattle.ob_scan.specs.declared.token.Token.{Token}
 use Rattle.ob_scan.specs.Spelling.{Spells}
 use Rattle.ob_scan.proofs.Outcomes.{spelled_once}
+use Rattle.ob_scan.specs.Texts.{text_at}
 use Rattle.ob_tree.specs.declared.declaration.Module.{Module}
 use Rattle.ob_tree.specs.Declaring.{module_outline}
 use Rattle.ob_tree.specs.Derives.{Derives}
@@ -16,7 +17,6 @@ use Rattle.ob_decls.proofs.ReadingModules.{tables_same}
 use Rattle.ob_decls.specs.Declaring.{rows_of}
 use Rattle.ob_decls.specs.Parts.{Rows}
 use Rattle.ob_decls.specs.declared.rows.Import.{Import}
-use Rattle.ob_scope.specs.Texts.{text_at}
 use Rattle.oscip_tree.specs.Trees.{file_of, files_of, rows, names, AreAccepted, HasImport, IsAccepted, ModuleFile}
 use Rattle.oscip_tree.specs.declared.source.Source.{Source}
 use Rattle.oscip_tree.proofs.TreeFiles.{same_maps, there}

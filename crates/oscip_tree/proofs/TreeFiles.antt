@@ -13,7 +13,7 @@ use Rattle.ob_scope.specs.Kept.{alias_of}
 use Rattle.ob_decls.specs.declared.rows.Import.{Import}
 use Rattle.ob_scope.specs.Scoped.{AliasUses, ModuleScopes}
 use Rattle.oscip_tree.specs.Trees.{file_of, files_of, rows, names, IsAccepted, ModuleFile}
-use Rattle.oscip_tree.specs.TreeReading.{AreRead, AreScopesOf}
+use Rattle.oscip_tree.specs.TreeReading.{AreFilesRead, AreScopesOf}
 use Rattle.oscip_tree.specs.declared.source.Source.{Source}
 
 -- ---- two lists of one length
@@ -85,7 +85,7 @@ alias_next rows aliases i row ns n all l is name so_far =
 
 -- one more file that is told
 pub parsed_next : (sources : List Source) (ss : List ModuleScopes) (files : List ModuleFile) (ps : List Parsed) (p : Parsed) (i : ℕ) (source : Source) (s : ModuleScopes) →
-    AreRead sources files ss → i < length sources → slice_get sources i ≡ Some source → slice_get ss i ≡ Some s →
+    AreFilesRead sources files ss → i < length sources → slice_get sources i ≡ Some source → slice_get ss i ≡ Some s →
     ((file : ModuleFile) → IsAccepted source file → AreScopesOf file s → parsed_file p ≡ file_of file) →
     parsed_files ps ≡ take i (files_of files) → parsed_files (ps ++ p ∷ []) ≡ take (i + 1) (files_of files)
 parsed_next sources ss files ps p i source s read l at_source at_scopes told so_far =
@@ -97,7 +97,7 @@ parsed_next sources ss files ps p i source s read l at_source at_scopes told so_
     ∙ ap (λ (f : File). take i (files_of files) ++ f ∷ []) is ∙ sym (take_at (files_of files) i (file_of file) at)
 
 -- all files are told
-pub parsed_all : (sources : List Source) (ss : List ModuleScopes) (files : List ModuleFile) (ps : List Parsed) (i : ℕ) → AreRead sources files ss → i ≡ length sources →
+pub parsed_all : (sources : List Source) (ss : List ModuleScopes) (files : List ModuleFile) (ps : List Parsed) (i : ℕ) → AreFilesRead sources files ss → i ≡ length sources →
     parsed_files ps ≡ take i (files_of files) → parsed_files ps ≡ files_of files
 parsed_all sources ss files ps i read end so_far =
     let many = read.accepted.as_many in

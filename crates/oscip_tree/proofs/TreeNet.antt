@@ -23,15 +23,15 @@ use Rattle.ob_imports.specs.Outcomes.{AreFilesOfGraph}
 use Rattle.digraph.proofs.Members.{from_map, in_map}
 use Rattle.ob_imports.proofs.Nodes.{nodes_known}
 use Rattle.ob_scan.specs.declared.token.Token.{Token}
+use Rattle.ob_scan.specs.Texts.{text_at}
 use Rattle.ob_scope.specs.Counted.{HasWeight}
 use Rattle.ob_decls.specs.Parts.{Rows}
 use Rattle.ob_decls.specs.declared.rows.Import.{Import as Item}
 use Rattle.ob_scope.specs.Scoped.{AreScopes, ModuleScopes}
-use Rattle.ob_scope.specs.Texts.{text_at}
 use Rattle.ob_scope.specs.Weights.{uses_across}
 use Rattle.ob_scope.proofs.Names.{same_test}
 use Rattle.oscip_tree.specs.Trees.{file_of, files_of, rows, names, HasImport, IsNetOfTree, ModuleFile}
-use Rattle.oscip_tree.specs.TreeReading.{AreRead}
+use Rattle.oscip_tree.specs.TreeReading.{AreFilesRead}
 use Rattle.oscip_tree.specs.declared.source.Source.{Source}
 use Rattle.oscip_tree.proofs.TreeFiles.{there}
 
@@ -102,7 +102,7 @@ module _ (sources : List Source) (files : List ModuleFile) (g : ImportGraph) (ke
       (at_left (names_of (files_of files)) kept.is_graph.nodes.others v (names file 1) (at_map (λ (f : File). f.name) (files_of files) v (file_of file) (at_map file_of files v file at)))
 
   -- all names are names
-  module _ (ss : List ModuleScopes) (read : AreRead sources files ss) where
+  module _ (ss : List ModuleScopes) (read : AreFilesRead sources files ss) where
     named_file : (file : ModuleFile) → Contains files file → (is_name (names file 1) ≡ true) × ((i : Item) → Contains (rows file).imports i → is_name (names file i.imported) ≡ true)
     named_file file has =
         let (v, at) = place_of files file has in
@@ -129,7 +129,7 @@ module _ (sources : List Source) (files : List ModuleFile) (g : ImportGraph) (ke
     pub names_named : All (λ n. is_name n ≡ true) g.names
     names_named k d within = named_node (get_or g.names k d) (node_of (get_or g.names k d) (Contains-get_or g.names k d within))
 
-  module _ (ss : List ModuleScopes) (read : AreRead sources files ss) (weigh : WeightOfAliases) where
+  module _ (ss : List ModuleScopes) (read : AreFilesRead sources files ss) (weigh : WeightOfAliases) where
     -- the weight of an import of the graph is that of the importing file
     weight_there : (v : ℕ) (file : ModuleFile) (n : List ℕ) → slice_get files v ≡ Some file → HasWeight (names file) (rows file) n (uses_across (scopes_at ss v).aliases n)
     weight_there v file n at =

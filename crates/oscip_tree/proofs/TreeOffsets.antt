@@ -1,13 +1,10 @@
 -- Where the faults of a file stand in its text.
-use Rattle.std.proofs.Common.{◌≡◌, ℕ, ◌<◌, ◌≤◌, Bool, List, [], ◌∷◌, length, drop, true, Some, refl, inl, inr, length-drop, arith}
-use Rattle.std.specs.Prelude.{slice_get}
-use Rattle.std.proofs.lemmas.Bool.{cases_lt, false≢true}
-use Rattle.std.proofs.lemmas.List.{get_or_past}
-use Rattle.std.proofs.lemmas.List.Elements.{All-get_or}
-use Rattle.std.proofs.lemmas.Option.{get_or_from_slice_get}
+use Rattle.std.proofs.Common.{◌≡◌, ℕ, ◌<◌, ◌≤◌, Bool, List, [], ◌∷◌, length, drop, true, length-drop, arith}
+use Rattle.std.proofs.lemmas.Bool.{false≢true}
 use Rattle.ob_scan.specs.Comments.{begins_comment}
 use Rattle.ob_scan.specs.Numbers.{first_passes}
 use Rattle.ob_scan.specs.Spelling.{AreInText, Spells}
+use Rattle.ob_scan.proofs.InText.{found_in_text, start_in_text}
 use Rattle.ob_scan.specs.declared.fault.ScanFault.{ScanFault}
 use Rattle.ob_scan.specs.declared.fault.ScanFault.TheVariants as scans
 use Rattle.ob_scan.specs.declared.token.Token.{Token}
@@ -15,7 +12,6 @@ use Rattle.ob_parse.proofs.OneFault.{syntax_place}
 use Rattle.ob_parse.proofs.OneTree.{place_in_text}
 use Rattle.ob_parse.specs.declared.fault.ParseFault.{ParseFault}
 use Rattle.ob_parse.specs.declared.fault.ParseFault.TheVariants as parses
-use Rattle.ob_scope.specs.Texts.{no_token, token_at}
 use Rattle.ob_scope.specs.declared.fault.ScopeFault.{ScopeFault}
 use Rattle.ob_scope.specs.declared.fault.ScopeFault.TheVariants as scopes
 use Rattle.oscip_tree.specs.Trees.{parse_offset, scan_offset, scope_offset, HasParseFault, HasScanFault, HasScopeFault}
@@ -44,31 +40,15 @@ scan_in_text bytes scans.Memory h = omega arith
 abbrev pub StandIn : Type 0
 StandIn = (bytes : List ℕ) (ts : List Token) → Spells bytes ts → AreInText bytes ts
 
-token_in_text : (bytes : List ℕ) (ts : List Token) (k : ℕ) → AreInText bytes ts → (token_at ts k).start ≤ length bytes
-token_in_text bytes ts k stand = elim (cases_lt k (length ts)) [
-  | inl within ↦
-      let some : (token_at ts k).start < (token_at ts k).end = All-get_or (λ t. t.start < t.end) ts k no_token within stand.some in
-      let ended : (token_at ts k).end ≤ length bytes = All-get_or (λ t. t.end ≤ length bytes) ts k no_token within stand.within in
-      omega arith
-  | inr past ↦ rw (get_or_past ts k no_token past) (omega arith)
-]
-
-start_in_text : (bytes : List ℕ) (ts : List Token) (k at : ℕ) (t : Token) → AreInText bytes ts → slice_get ts k ≡ Some t → t.start ≡ at → at ≤ length bytes
-start_in_text bytes ts k at t stand there e =
-    let within = token_in_text bytes ts k stand in
-    let is : token_at ts k ≡ t = get_or_from_slice_get ts k t no_token there in
-    let same : (token_at ts k).start ≡ t.start = rw is refl in
-    omega arith
-
 pub parse_in_text : StandIn → (bytes : List ℕ) (fault : ParseFault) → HasParseFault fault bytes → parse_offset fault ≤ length bytes
 parse_in_text law bytes (parses.Syntax at) (ts, reads, h) = place_in_text bytes ts at (law bytes ts reads.1) (syntax_place bytes ts at h)
 parse_in_text law bytes (parses.EndName at) (ts, reads, h) =
     let wrong = h.first.is_wrong in
-    start_in_text bytes ts _ at wrong.pair.end (law bytes ts reads.1) wrong.pair.end_there wrong.begins
-parse_in_text law bytes (parses.TooDeep at) (ts, reads, h) = start_in_text bytes ts h.0.number at h.0.token (law bytes ts reads.1) h.0.there h.0.begins
+    omega (arith, found_in_text bytes ts _ wrong.pair.end (law bytes ts reads.1) wrong.pair.end_there, wrong.begins)
+parse_in_text law bytes (parses.TooDeep at) (ts, reads, h) = omega (arith, found_in_text bytes ts h.0.number h.0.token (law bytes ts reads.1) h.0.there, h.0.begins)
 parse_in_text law bytes parses.Memory h = omega arith
 
 pub scope_in_text : StandIn → (bytes : List ℕ) (fault : ScopeFault) → HasScopeFault fault bytes → scope_offset fault ≤ length bytes
-scope_in_text law bytes (scopes.Twice name first second) (ts, m, reads, tree, (d, e, block, placed, h)) = rw h.second_at (token_in_text bytes ts e.number (law bytes ts reads.1))
-scope_in_text law bytes (scopes.TwiceField name first second) (ts, m, reads, tree, (d, e, token, placed, h)) = rw h.second_at (token_in_text bytes ts e.number (law bytes ts reads.1))
+scope_in_text law bytes (scopes.Twice name first second) (ts, m, reads, tree, (d, e, block, placed, h)) = rw h.second_at (start_in_text bytes ts e.number (law bytes ts reads.1))
+scope_in_text law bytes (scopes.TwiceField name first second) (ts, m, reads, tree, (d, e, token, placed, h)) = rw h.second_at (start_in_text bytes ts e.number (law bytes ts reads.1))
 scope_in_text law bytes scopes.Memory h = omega arith

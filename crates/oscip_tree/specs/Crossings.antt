@@ -3,10 +3,10 @@ use Rattle.std.specs.Prelude.{◌≡◌, ℕ, List, [], ◌∷◌, Contains}
 use Rattle.std.specs.String.{string_bytes}
 use Rattle.ob_scan.specs.declared.token.Token.{Token}
 use Rattle.ob_scan.specs.Position.{IsPosition}
+use Rattle.ob_scan.specs.Texts.{token_at}
 use Rattle.ob_scope.specs.declared.across.Crossing.{Crossing}
 use Rattle.ob_scope.specs.Crossings.{AreCrossings}
 use Rattle.ob_scope.specs.Scoped.{ModuleScopes}
-use Rattle.ob_scope.specs.Texts.{token_at}
 use Rattle.ob_imports.specs.Files.{IsNode, names_of}
 use Rattle.oscip_tree.specs.Trees.{files_of, names, rows, IsAccepted, IsTree, ModuleFile}
 use Rattle.oscip_tree.specs.TreeReading.{AreScopesOf}

@@ -29,12 +29,12 @@ abbrev pub HasScopes : Source → ModuleScopes → Type 0
 HasScopes source s = HasKept AreScopesOf source s
 
 -- the files are accepted, and there are the scopes of each
-abbrev pub AreRead : List Source → List ModuleFile → List ModuleScopes → Type 0
-AreRead sources files ss = AreAllOf AreScopesOf sources files ss
+abbrev pub AreFilesRead : List Source → List ModuleFile → List ModuleScopes → Type 0
+AreFilesRead sources files ss = AreAllOf AreScopesOf sources files ss
 
 -- the graph is that of the files, and there are the scopes of each
 pub record IsTreeOf (sources : List Source) (tree : Tree) : Type 0 where
   pub files : List ModuleFile
-  pub read : AreRead sources files tree.scopes.items
+  pub read : AreFilesRead sources files tree.scopes.items
   pub kept : AreFilesOfGraph (files_of files) tree.graph
   pub acyclic : IsAcyclic (Imports (files_of files))

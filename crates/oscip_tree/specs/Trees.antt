@@ -8,6 +8,7 @@ use Rattle.ob_scan.specs.declared.token.Token.{Token}
 use Rattle.ob_scan.specs.Faults.{UnlessMemory}
 use Rattle.ob_scan.specs.Position.{IsPosition}
 use Rattle.ob_scan.specs.Spelling.{IsOutcome}
+use Rattle.ob_scan.specs.Texts.{text_at}
 use Rattle.ob_tree.specs.declared.declaration.Module.{Module}
 use Rattle.ob_parse.specs.declared.fault.ParseFault.{ParseFault}
 use Rattle.ob_parse.specs.declared.fault.ParseFault.TheVariants as parses
@@ -20,7 +21,6 @@ use Rattle.ob_scope.specs.Counted.{HasWeight}
 use Rattle.ob_scope.specs.Members.{members_of}
 use Rattle.ob_scope.specs.Scope.{NoneTwice}
 use Rattle.ob_scope.specs.Scoped.{IsScopeFault}
-use Rattle.ob_scope.specs.Texts.{text_at}
 use Rattle.ob_imports.specs.declared.fault.GraphFault.{GraphFault}
 use Rattle.digraph.specs.Chains.{IsAcyclic}
 use Rattle.ob_imports.specs.Files.{File, Imports, IsNode}

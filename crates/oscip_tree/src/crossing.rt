@@ -1,17 +1,15 @@
 //! Where a module of a tree uses another.
 ghost use Rattle.std.specs.Prelude.{◌≡◌, ℕ, List, Some, Contains, IfErr, IfNone, IfOk, IfSome, slice_get, Ok};
-ghost use Rattle.ob_decls.specs.Declaring.{rows_in, rows_of};
+ghost use Rattle.ob_decls.specs.Declaring.{rows_in};
 ghost use Rattle.ob_imports.specs.Files.{names_of};
 ghost use Rattle.ob_imports.specs.Outcomes.{AreFilesOfGraph};
-ghost use Rattle.ob_parse.specs.Parsed.{IsTheTree};
 ghost use Rattle.ob_scan.specs.Position.{line_starts};
 ghost use Rattle.ob_scan.specs.Spelling.{AreInText, IsOutcome};
 ghost use Rattle.ob_scan.specs.declared.token.Token.{Token};
+ghost use Rattle.ob_scan.specs.Texts.{text_at};
 ghost use Rattle.ob_scope.specs.Crossings.{AreCrossings};
 ghost use Rattle.ob_scope.specs.Scoped.{AreScopes};
-ghost use Rattle.ob_scope.specs.Texts.{text_at, token_at};
 ghost use Rattle.ob_scope.specs.declared.across.Crossing.{Crossing};
-ghost use Rattle.ob_tree.specs.declared.declaration.Module.{Module};
 ghost use Rattle.oscip_tree.specs.Crossings.{AreSpans, ArePlaces, IsCrossed, IsCrossedIn, IsSpan};
 ghost use Rattle.oscip_tree.specs.TreeReading.{AreScopesOf, IsTreeOf};
 ghost use Rattle.oscip_tree.specs.Trees.{files_of, names, IsAccepted, IsFileFault, IsTreeFault, ModuleFile};
@@ -22,7 +20,7 @@ use crate::{Source, TreeFault};
 use ob_decls::Table;
 use ob_imports::Graph;
 use ob_scan::laws::tokens_in_text;
-use ob_scan::{Lines, Position, Token, Tokens, lines, scan};
+use ob_scan::{Lines, Position, Token, TokenTexts, Tokens, lines, scan};
 use ob_scope::{Crossing, Scopes, crossings};
 use std::alloc::{AllocError, Global};
 use std::thread::Threads;
@@ -45,33 +43,15 @@ pub enum Crossed {
     NoImported,
 }
 
-/// Where a token begins; 0 beyond the last.
-fn start_of(tokens: &[Token], number: u32) -> u32
-    ensures { result ≡ (token_at tokens.now number).start }
-{
-    match tokens.get(number as usize) {
-        Some(token) => token.start,
-        None => 0,
-    }
-}
-
-/// Where a token ends; 0 beyond the last.
-fn end_of(tokens: &[Token], number: u32) -> u32
-    ensures { result ≡ (token_at tokens.now number).end }
-{
-    match tokens.get(number as usize) {
-        Some(token) => token.end,
-        None => 0,
-    }
-}
-
 /// The place of a crossing.
-fn span_of(lines: &Lines, tokens: &[Token], crossing: Crossing) -> Span
-    ensures { (bytes : List ℕ) → lines.now ≡ line_starts bytes → AreInText bytes tokens.now → IsSpan bytes tokens.now crossing result }
+fn span_of(lines: &Lines, text: &TokenTexts, crossing: Crossing) -> Span
+    requires lined { lines.now ≡ line_starts text.now.bytes.now }
+    requires in_text { AreInText text.now.bytes.now text.now.tokens.now }
+    ensures { IsSpan text.now.bytes.now text.now.tokens.now crossing result }
 {
     Span {
-        start: lines.position(start_of(tokens, crossing.first)),
-        end: lines.position(end_of(tokens, crossing.last)),
+        start: lines.position(text.start(crossing.first)),
+        end: lines.position(text.end(crossing.last)),
     }
 }
 
@@ -86,9 +66,10 @@ fn spans_of(
     ensures { IfOk result (λ v. AreSpans bytes.now tokens.now crossings.now v.items) }
 {
     let lines = lines(alloc, bytes)?;
+    let text = TokenTexts { bytes, tokens };
     let mut spans = Vec::new(alloc);
     for crossing in crossings {
-        spans.push(span_of(&lines, tokens, *crossing))?;
+        spans.push(span_of(&lines, &text, *crossing))?;
     }
     Ok(spans)
 }

@@ -4,7 +4,7 @@ ghost use Rattle.cut_net.specs.Network.{texts};
 ghost use Rattle.ob_imports.specs.Files.{file_of as parsed_file, files_of as parsed_files};
 ghost use Rattle.oscip_tree.specs.declared.source.Source.{Source};
 ghost use Rattle.oscip_tree.specs.Trees.{IsAccepted, IsNetOfTree, IsTreeFault, ModuleFile, file_of, files_of};
-ghost use Rattle.oscip_tree.specs.TreeReading.{AreRead, AreScopesOf, IsTreeOf};
+ghost use Rattle.oscip_tree.specs.TreeReading.{AreFilesRead, AreScopesOf, IsTreeOf};
 
 use crate::files::read_files;
 use crate::{Source, TreeFault};
@@ -58,7 +58,7 @@ fn all_parsed(
     scopes: &[Scopes],
 ) -> Result<Vec<Parsed>, AllocError>
     requires { length scopes.now ≡ length sources.now }
-    ensures { IfOk result (λ v. (files : List ModuleFile) → AreRead sources.now files scopes.now → parsed_files v.items ≡ files_of files) }
+    ensures { IfOk result (λ v. (files : List ModuleFile) → AreFilesRead sources.now files scopes.now → parsed_files v.items ≡ files_of files) }
 {
     let mut all = Vec::new(alloc);
     for i in 0..sources.len() {

@@ -1,5 +1,5 @@
 //! Reading descriptors.
-ghost use Rattle.std.specs.Prelude.{◌≡◌, ◌≤◌, ◌<◌, [], length, option_map};
+ghost use Rattle.std.specs.Prelude.{◌≡◌, ◌≤◌, ◌<◌, length, option_map};
 ghost use Rattle.std.specs.String.{string_bytes};
 ghost use Rattle.scip_symbol.specs.Faults.{Accords, Tells};
 ghost use Rattle.scip_symbol.specs.Views.{plain_descriptor, plain_descriptors};

@@ -1,8 +1,7 @@
 //! Reading a name.
-ghost use Rattle.std.specs.Prelude.{◌≡◌};
 ghost use Rattle.std.specs.String.{string_bytes};
 ghost use Rattle.scip_symbol.specs.Faults.{Accords};
-ghost use Rattle.scip_symbol.specs.Reading.{name_in_front, nonempty_name, quoted_name_at, simple_name_at};
+ghost use Rattle.scip_symbol.specs.Reading.{name_in_front, quoted_name_at, simple_name_at};
 
 use crate::SymbolFault;
 use crate::cuts::{after_mark, ended_in, simple_in};

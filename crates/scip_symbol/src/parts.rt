@@ -1,5 +1,4 @@
 //! Reading the four parts of a symbol.
-ghost use Rattle.std.specs.Prelude.{◌≡◌};
 ghost use Rattle.std.specs.String.{string_bytes};
 ghost use Rattle.scip_symbol.specs.Faults.{Accords};
 ghost use Rattle.scip_symbol.specs.Reading.{optional_part_at, part_in_front, parts_at, plain_parts};

@@ -7,7 +7,7 @@ use Rattle.ob_imports.specs.Files.{File, Imports}
 use Rattle.ob_imports.specs.Graphs.{ImportGraph}
 use Rattle.ob_interface.specs.Interfaces.{interface_of, ModuleInterface}
 use Rattle.ob_scan.specs.declared.token.Token.{Token}
-use Rattle.ob_scope.specs.Texts.{text_at}
+use Rattle.ob_scan.specs.Texts.{text_at}
 use Rattle.oscip_tree.specs.Trees.{rows, ModuleFile}
 use Rattle.work_board.specs.Graphs.{Reaches}
 use Rattle.tree_board.specs.Boards.{modules_of}

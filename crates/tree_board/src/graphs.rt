@@ -1,7 +1,6 @@
 //! The graph of a board, of the graph of imports of a tree.
 ghost use Rattle.std.specs.Prelude.{◌≡◌, ◌<◌, length, map, take, IfOk};
 ghost use Rattle.std.specs.String.{string_bytes};
-ghost use Rattle.ob_imports.specs.Graphs.{ImportGraph, IsGraph as IsImportGraph};
 ghost use Rattle.work_board.specs.Graphs.{lists, IsAcyclic};
 ghost use Rattle.tree_board.specs.Boards.{modules_of, rows_below, tree_imports};
 

@@ -1,5 +1,5 @@
 //! The network of a graph of imports and of the scopes of its modules.
-ghost use Rattle.std.specs.Prelude.{◌≡◌, ◌<◌, ◌≤◌, ◌++◌, true, All, IfOk, List, OnOk, length, map, ℕ};
+ghost use Rattle.std.specs.Prelude.{◌≡◌, ◌<◌, ◌++◌, true, All, IfOk, List, OnOk, length, map, ℕ};
 ghost use Rattle.ob_imports.specs.Graphs.{imported, name_of};
 ghost use Rattle.ob_scope.specs.Weights.{uses_across};
 ghost use Rattle.texts.specs.Fields.{is_name};

@@ -9,7 +9,7 @@ use Rattle.std.specs.Prelude.{◌&&◌, IfNone, IfSome}
 use Rattle.std.specs.List.{All, list_any}
 use Rattle.std.proofs.lemmas.List.Elements.{All-push}
 use Rattle.std.proofs.lemmas.List.Folds.{Any-from_list_any}
-use Rattle.type_search.specs.declared.name.Name.{Name}
+use Rattle.text_hash.specs.declared.name.Name.{Name}
 use Rattle.type_search.specs.declared.shape.Shape.{Shape}
 use Rattle.type_search.specs.Searches.{IsMetAgain}
 use Rattle.type_search.specs.Leading.{IsTypeEnd, TypeLeadsTo}

@@ -5,14 +5,13 @@ ghost use Rattle.type_search.specs.Searches.{Finds, HasElement, HasTarget};
 use crate::graph::TypeGraph;
 use crate::lay::lay_if_due;
 use crate::line::Line;
-use crate::name::Name;
 use crate::parts::{element_in, target_in};
 use crate::records::find_in;
 use crate::sought::Sought;
 use indexmap::IndexMap;
 use std::alloc::{AllocError, Global};
 use std::marker::Model;
-use text_hash::Seed;
+use text_hash::{Name, Seed};
 
 /// Searches in a graph of types. What they come to by names and pointers is kept, so that each declaration is passed once, however many
 /// searches come to it. Once searches for fields climbed far, all records are put in a line, along which they hop. A contract sees the graph.

@@ -14,7 +14,6 @@ pub mod laws;
 mod lay;
 mod line;
 mod meet;
-mod name;
 mod owned;
 mod parts;
 mod records;

@@ -10,13 +10,12 @@ use crate::ends::end_of;
 use crate::graph::TypeGraph;
 use crate::hop::Hop;
 use crate::line::{Line, hop};
-use crate::name::Name;
 use crate::shape::Shape;
 use crate::sought::Sought;
 use crate::way::{Way, comes_back, no_way, pass};
 use indexmap::IndexMap;
 use std::alloc::AllocError;
-use text_hash::Seed;
+use text_hash::{Name, Seed};
 
 /// The record that a type is.
 fn shape_record<N: Copy + Drop, D: Copy + Drop, R: Copy + Drop>(shape: Shape<N, D, R>) -> Option<R>

@@ -1,7 +1,7 @@
 //! The rows of expressions and designators.
 
 ghost use Rattle.std.specs.Prelude.{◌≡◌, ◌+◌, IfOk, false, length, map};
-ghost use Rattle.ob_decls.specs.Drafts.{added, after, settled, stage_of, ComesTo};
+ghost use Rattle.ob_decls.specs.Drafts.{added, after, settled, ComesTo};
 ghost use Rattle.ob_decls.specs.Expressions.{behind_dot, between, denoted, designator_piece, dotted, element_list_piece, element_piece, expr_list_piece, expr_phrase, expr_piece, factor_phrase, factor_piece, first_name, listed, selected, sum_phrase, sum_piece, term_phrase, term_piece, used};
 ghost use Rattle.ob_decls.specs.Parts.{these_selectors};
 ghost use Rattle.ob_decls.specs.Settling.{blanks, row_at, settling};

@@ -3,7 +3,7 @@ use Rattle.std.specs.Prelude.{Contains}
 use Rattle.std.specs.Str.{IsUtf8}
 use Rattle.std.proofs.lemmas.List.Elements.{Contains-get_or}
 use Rattle.ob_scan.specs.declared.token.Token.{Token}
-use Rattle.ob_scope.specs.Texts.{text_at}
+use Rattle.ob_scan.specs.Texts.{text_at}
 use Rattle.ob_targets.specs.Refers.{unresolved}
 use Rattle.ob_board.proofs.Identifiers.{texts_of}
 use Rattle.ob_board.proofs.found.found_in.Goals as goal

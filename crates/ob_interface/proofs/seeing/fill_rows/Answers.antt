@@ -30,7 +30,7 @@ returns c =
     assembled bytes ts (rows_in c.args.table.now) ps outers rows c.add_text.new.text.items c.add_declarations.new.text.items c.add_bases.new.text.items c.add_imports.new.text.items (record {
       outer = c.requires.outer;
       same = c.requires.same;
-    }) (λ more. c.in_ok-rows.ensures.tells more ∙ c.text.ensures) c.in_ok-rows-2.ensures.grown
+    }) (λ more. c.in_ok-rows.ensures.tells more ∙ c.of.ensures) c.in_ok-rows-2.ensures.grown
     (λ more. c.in_ok-rows-2.ensures.tell more ∙ ap (λ (xs : List Declared). filter_map (λ r. declaration_by bytes ts ps r (outers r.declared_by)) xs) c.declared-declared.ensures) c.in_ok-rows-3.ensures.grown
     (λ more. c.in_ok-rows-3.ensures.tell more ∙ ap (λ (xs : List Record). filter_map (λ r. base_by bytes ts r (outers r.owner)) xs) c.records.ensures) c.in_ok-rows-4.ensures.grown
     (λ more. c.in_ok-rows-4.ensures.tell more ∙ ap (λ (xs : List Import). map (imported_of bytes ts) xs) c.imports.ensures) c.in_ok-rows-5.ensures.grown c.in_ok-rows-5.ensures.tell

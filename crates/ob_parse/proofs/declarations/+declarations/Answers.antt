@@ -11,7 +11,8 @@ use Rattle.ob_tree.proofs.NameLayers.{names_made}
 use Rattle.ob_parse.proofs.Stars.{star_read}
 use Rattle.ob_parse.proofs.Boxes.{gives_boxed}
 use Rattle.ob_parse.proofs.Repetitions.{procedures}
-use Rattle.ob_parse.proofs.Turns.{stopped, turn_shorter, turn_kept, turn_failed, turns_done}
+use Rattle.ob_parse.proofs.LoopEnds.{stopped}
+use Rattle.ob_parse.proofs.Turns.{turn_shorter, turn_kept, turn_failed, turns_done}
 use Rattle.ob_parse.proofs.declarations.+declarations.Goals as goal
 
 pub procedures-more-smaller : goal.procedures-more-smaller

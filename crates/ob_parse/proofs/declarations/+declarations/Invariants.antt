@@ -1,7 +1,7 @@
 use Rattle.std.proofs.Common.{◌+◌, ◌*◌, length}
 use Rattle.ob_parse.specs.Accords.{ahead}
 use Rattle.ob_parse.proofs.Repetitions.{procedures}
-use Rattle.ob_parse.proofs.Turns.{AreRead}
+use Rattle.ob_parse.proofs.Turns.{AreTurnsRead}
 use Rattle.ob_parse.proofs.declarations.+declarations.Given as goal
 
 abbrev pub decreases-procedure : goal.decreases-procedure
@@ -23,7 +23,7 @@ abbrev pub decreases-procedure_within : goal.decreases-procedure_within
 decreases-procedure_within l = 16 * l.depth + 5
 
 abbrev pub invariant-procedures-more : goal.invariant-procedures-more
-invariant-procedures-more l = AreRead l.fn.tokens (procedures l.depth) l.declared.items l.fn.input l.here
+invariant-procedures-more l = AreTurnsRead l.fn.tokens (procedures l.depth) l.declared.items l.fn.input l.here
 
 abbrev pub decreases-procedures-more : goal.decreases-procedures-more
 decreases-procedures-more l = length (ahead l.fn.tokens l.here)

@@ -2,7 +2,8 @@ use Rattle.std.proofs.Common.{sym, ◌∙◌}
 use Rattle.ob_parse.specs.ReadModules.{is_identifier}
 use Rattle.ob_parse.proofs.Loops.{has_begun, has_not_begun}
 use Rattle.ob_parse.proofs.Repetitions.{constants}
-use Rattle.ob_parse.proofs.Turns.{stopped, turn_shorter, turn_kept, turn_failed, turns_done}
+use Rattle.ob_parse.proofs.LoopEnds.{stopped}
+use Rattle.ob_parse.proofs.Turns.{turn_shorter, turn_kept, turn_failed, turns_done}
 use Rattle.ob_parse.proofs.declarations.constants.Goals as goal
 
 pub more-smaller : goal.more-smaller

@@ -1,10 +1,10 @@
 use Rattle.std.proofs.Common.{◌≡◌, ◌∙◌, refl, get_or}
 use Rattle.std.specs.Str.{bytes_eq}
-use Rattle.ob_parse.specs.Parsed.{bytes_of}
-use Rattle.ob_parse.proofs.RightEnds.{end_is, no_token}
+use Rattle.ob_scan.specs.Texts.{bytes_of}
+use Rattle.ob_parse.proofs.RightEnds.{end_is, any_token}
 use Rattle.ob_parse.proofs.ends.is_right.Goals as goal
 
 pub returns : goal.returns
 returns c =
-    let same : c.eq.result ≡ bytes_eq (bytes_of c.args.bytes.now (get_or c.args.tokens.now c.args.name no_token)) (bytes_of c.args.bytes.now (get_or c.args.tokens.now c.args.end no_token)) = c.eq.ensures ∙ rw (c.text.ensures, c.text-2.ensures) refl in
-    end_is c.args.bytes.now c.args.tokens.now c.args.name c.args.end no_token c.eq.result c.requires.known.0 c.requires.known.1 same
+    let same : c.eq.result ≡ bytes_eq (bytes_of c.args.bytes.now (get_or c.args.tokens.now c.args.name any_token)) (bytes_of c.args.bytes.now (get_or c.args.tokens.now c.args.end any_token)) = c.eq.ensures ∙ rw (c.text.ensures, c.text-2.ensures) refl in
+    end_is c.args.bytes.now c.args.tokens.now c.args.name c.args.end any_token c.eq.result c.requires.known.0 c.requires.known.1 same

@@ -1,4 +1,4 @@
-use Rattle.ob_parse.proofs.RightEnds.{right_more, all_right, first_wrong, no_token}
+use Rattle.ob_parse.proofs.RightEnds.{right_more, all_right, first_wrong, any_token}
 use Rattle.ob_parse.proofs.ends.wrong_end.Goals as goal
 
 pub ends-preserved : goal.ends-preserved
@@ -7,7 +7,7 @@ ends-preserved c = right_more c.args.bytes.now c.args.tokens.now c.args.ends.now
 pub returns-then-not-is_right : goal.returns-then-not-is_right
 returns-then-not-is_right c =
     let known = c.requires.known c.ends.name-index (0, 0) c.ends-test.true in
-    first_wrong c.args.bytes.now c.args.tokens.now c.args.ends.now c.ends.name-index (0, 0) no_token c.ends-test.true c.ends.invariant known.1 c.if-not-is_right.ensures
+    first_wrong c.args.bytes.now c.args.tokens.now c.args.ends.now c.ends.name-index (0, 0) any_token c.ends-test.true c.ends.invariant known.1 c.if-not-is_right.ensures
 
 pub returns : goal.returns
 returns c = all_right c.args.bytes.now c.args.tokens.now c.args.ends.now c.ends.name-index c.ends-test.false c.ends.invariant

@@ -10,7 +10,8 @@ use Rattle.ob_tree.proofs.ExpressionLayers.{expressions_made, sum_made, term_out
 use Rattle.ob_parse.proofs.Boxes.{gives_boxed}
 use Rattle.ob_parse.proofs.Somes.{gives_some, not_closed}
 use Rattle.ob_parse.proofs.Repetitions.{expressions, elements, selectors, factor_operations, term_operations}
-use Rattle.ob_parse.proofs.Turns.{stopped, turn_shorter, turn_kept, turn_failed, turns_done, operation_shorter, operation_kept, operation_failed, operations_done}
+use Rattle.ob_parse.proofs.LoopEnds.{stopped}
+use Rattle.ob_parse.proofs.Turns.{turn_shorter, turn_kept, turn_failed, turns_done, operation_shorter, operation_kept, operation_failed, operations_done}
 use Rattle.ob_parse.proofs.Fronts.{leaf_stands, word_stands, factor_seen, selector_seen}
 use Rattle.ob_parse.proofs.expressions.+expressions.Goals as goal
 

@@ -1,7 +1,7 @@
 use Rattle.std.proofs.Common.{◌+◌, ◌*◌, length}
 use Rattle.ob_parse.specs.Accords.{ahead}
 use Rattle.ob_parse.proofs.Repetitions.{elements, expressions, factor_operations, selectors, term_operations}
-use Rattle.ob_parse.proofs.Turns.{AreOperationsRead, AreRead}
+use Rattle.ob_parse.proofs.Turns.{AreOperationsRead, AreTurnsRead}
 use Rattle.ob_parse.proofs.expressions.+expressions.Given as goal
 
 abbrev pub decreases-expression : goal.decreases-expression
@@ -77,7 +77,7 @@ abbrev pub decreases-compared : goal.decreases-compared
 decreases-compared l = 16 * l.depth + 14
 
 abbrev pub invariant-more_expressions-more : goal.invariant-more_expressions-more
-invariant-more_expressions-more l = AreRead l.fn.tokens (expressions l.depth) l.rest.items l.fn.input l.here
+invariant-more_expressions-more l = AreTurnsRead l.fn.tokens (expressions l.depth) l.rest.items l.fn.input l.here
 
 abbrev pub decreases-more_expressions-more : goal.decreases-more_expressions-more
 decreases-more_expressions-more l = length (ahead l.fn.tokens l.here)
@@ -95,13 +95,13 @@ abbrev pub decreases-more_factors-more : goal.decreases-more_factors-more
 decreases-more_factors-more l = length (ahead l.fn.tokens l.here)
 
 abbrev pub invariant-more_elements-more : goal.invariant-more_elements-more
-invariant-more_elements-more l = AreRead l.fn.tokens (elements l.depth) l.rest.items l.fn.input l.here
+invariant-more_elements-more l = AreTurnsRead l.fn.tokens (elements l.depth) l.rest.items l.fn.input l.here
 
 abbrev pub decreases-more_elements-more : goal.decreases-more_elements-more
 decreases-more_elements-more l = length (ahead l.fn.tokens l.here)
 
 abbrev pub invariant-more_selectors-more : goal.invariant-more_selectors-more
-invariant-more_selectors-more l = AreRead l.fn.tokens (selectors l.depth) l.selectors.items l.fn.input l.here
+invariant-more_selectors-more l = AreTurnsRead l.fn.tokens (selectors l.depth) l.selectors.items l.fn.input l.here
 
 abbrev pub decreases-more_selectors-more : goal.decreases-more_selectors-more
 decreases-more_selectors-more l = length (ahead l.fn.tokens l.here)

@@ -4,8 +4,7 @@ use Rattle.ob_tree.specs.Marks.{times}
 use Rattle.ob_parse.specs.Forms.{many, accept_at, expect_at}
 use Rattle.ob_parse.specs.Accords.{ahead, skipped}
 use Rattle.ob_parse.proofs.Loops.{is_done}
-use Rattle.ob_parse.proofs.LoopEnds.{ends}
-use Rattle.ob_parse.proofs.Turns.{stopped}
+use Rattle.ob_parse.proofs.LoopEnds.{ends, stopped}
 use Rattle.ob_parse.proofs.Arrays.{array_of, array_advances, fewer, one_more, few_ahead}
 use Rattle.ob_parse.proofs.parameters.open_arrays.Goals as goal
 

@@ -9,7 +9,8 @@ use Rattle.ob_parse.proofs.StatementSteps.{made}
 use Rattle.ob_parse.proofs.Boxes.{gives_boxed}
 use Rattle.ob_parse.proofs.Somes.{gives_some}
 use Rattle.ob_parse.proofs.Repetitions.{statements, branches, cases}
-use Rattle.ob_parse.proofs.Turns.{stopped, turn_shorter, turn_kept, turn_failed, turns_done}
+use Rattle.ob_parse.proofs.LoopEnds.{stopped}
+use Rattle.ob_parse.proofs.Turns.{turn_shorter, turn_kept, turn_failed, turns_done}
 use Rattle.ob_parse.specs.ReadExpressions.{expr_at}
 use Rattle.ob_parse.proofs.Loops.{has_begun, has_not_begun}
 use Rattle.ob_tree.proofs.StatementLayers.{if_made, while_made, repeat_made, case_made, block_made, branch_made, labelled_made, nothing_made}

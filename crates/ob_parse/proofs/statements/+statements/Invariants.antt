@@ -1,7 +1,7 @@
 use Rattle.std.proofs.Common.{◌+◌, ◌*◌, length}
 use Rattle.ob_parse.specs.Accords.{ahead}
 use Rattle.ob_parse.proofs.Repetitions.{branches, cases, statements}
-use Rattle.ob_parse.proofs.Turns.{AreRead}
+use Rattle.ob_parse.proofs.Turns.{AreTurnsRead}
 use Rattle.ob_parse.proofs.statements.+statements.Given as goal
 
 abbrev pub decreases-statement : goal.decreases-statement
@@ -56,19 +56,19 @@ abbrev pub decreases-statement_within : goal.decreases-statement_within
 decreases-statement_within l = 16 * l.depth + 12
 
 abbrev pub invariant-more_statements-more : goal.invariant-more_statements-more
-invariant-more_statements-more l = AreRead l.fn.tokens (statements l.depth) l.rest.items l.fn.input l.here
+invariant-more_statements-more l = AreTurnsRead l.fn.tokens (statements l.depth) l.rest.items l.fn.input l.here
 
 abbrev pub decreases-more_statements-more : goal.decreases-more_statements-more
 decreases-more_statements-more l = length (ahead l.fn.tokens l.here)
 
 abbrev pub invariant-more_branches-more : goal.invariant-more_branches-more
-invariant-more_branches-more l = AreRead l.fn.tokens (branches l.depth l.keyword) l.rest.items l.fn.input l.here
+invariant-more_branches-more l = AreTurnsRead l.fn.tokens (branches l.depth l.keyword) l.rest.items l.fn.input l.here
 
 abbrev pub decreases-more_branches-more : goal.decreases-more_branches-more
 decreases-more_branches-more l = length (ahead l.fn.tokens l.here)
 
 abbrev pub invariant-more_cases-more : goal.invariant-more_cases-more
-invariant-more_cases-more l = AreRead l.fn.tokens (cases l.depth) l.rest.items l.fn.input l.here
+invariant-more_cases-more l = AreTurnsRead l.fn.tokens (cases l.depth) l.rest.items l.fn.input l.here
 
 abbrev pub decreases-more_cases-more : goal.decreases-more_cases-more
 decreases-more_cases-more l = length (ahead l.fn.tokens l.here)

@@ -10,7 +10,8 @@ use Rattle.ob_tree.proofs.TypeLayers.{types_made, array_made, pointer_made, reco
 use Rattle.ob_parse.proofs.Boxes.{gives_boxed}
 use Rattle.ob_parse.proofs.Somes.{gives_some, not_closed}
 use Rattle.ob_parse.proofs.Repetitions.{field_lists}
-use Rattle.ob_parse.proofs.Turns.{stopped, turn_shorter, turn_kept, turn_failed, turns_done}
+use Rattle.ob_parse.proofs.LoopEnds.{stopped}
+use Rattle.ob_parse.proofs.Turns.{turn_shorter, turn_kept, turn_failed, turns_done}
 use Rattle.ob_parse.specs.ReadExpressions.{expr_at}
 use Rattle.ob_parse.proofs.Fronts.{leaf_stands, word_stands, type_seen}
 use Rattle.ob_parse.proofs.types.+types.Goals as goal

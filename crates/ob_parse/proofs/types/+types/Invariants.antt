@@ -1,7 +1,7 @@
 use Rattle.std.proofs.Common.{◌+◌, ◌*◌, length}
 use Rattle.ob_parse.specs.Accords.{ahead}
 use Rattle.ob_parse.proofs.Repetitions.{field_lists}
-use Rattle.ob_parse.proofs.Turns.{AreRead}
+use Rattle.ob_parse.proofs.Turns.{AreTurnsRead}
 use Rattle.ob_parse.proofs.types.+types.Given as goal
 
 abbrev pub decreases-type_form : goal.decreases-type_form
@@ -26,7 +26,7 @@ abbrev pub decreases-record : goal.decreases-record
 decreases-record l = 16 * l.depth + 6
 
 abbrev pub invariant-more_fields-more : goal.invariant-more_fields-more
-invariant-more_fields-more l = AreRead l.fn.tokens (field_lists l.depth) l.rest.items l.fn.input l.here
+invariant-more_fields-more l = AreTurnsRead l.fn.tokens (field_lists l.depth) l.rest.items l.fn.input l.here
 
 abbrev pub decreases-more_fields-more : goal.decreases-more_fields-more
 decreases-more_fields-more l = length (ahead l.fn.tokens l.here)

@@ -1,11 +1,11 @@
 use Rattle.std.proofs.Common.{length}
 use Rattle.ob_parse.specs.Accords.{ahead}
 use Rattle.ob_parse.proofs.Repetitions.{declared_names}
-use Rattle.ob_parse.proofs.Turns.{AreRead}
+use Rattle.ob_parse.proofs.Turns.{AreTurnsRead}
 use Rattle.ob_parse.proofs.types.more_identdefs.Given as goal
 
 abbrev pub invariant-more : goal.invariant-more
-invariant-more l = AreRead l.fn.tokens declared_names l.rest.items l.fn.input l.here
+invariant-more l = AreTurnsRead l.fn.tokens declared_names l.rest.items l.fn.input l.here
 
 abbrev pub decreases-more : goal.decreases-more
 decreases-more l = length (ahead l.fn.tokens l.here)

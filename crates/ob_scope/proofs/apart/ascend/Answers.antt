@@ -4,9 +4,9 @@ use Rattle.std.proofs.lemmas.Grind.{elements}
 use Rattle.std.proofs.lemmas.List.{length-set}
 use Rattle.std.proofs.lemmas.Option.{slice_get-get_or}
 use Rattle.ob_scope.specs.declared.members.Member.{Member}
-use Rattle.ob_scope.specs.declared.numbering.Name.{Name}
+use Rattle.text_hash.specs.declared.name.Name.{Name}
 use Rattle.ob_scope.specs.Sights.{AreNumbered}
-use Rattle.ob_scope.specs.Texts.{text_at}
+use Rattle.ob_scan.specs.Texts.{text_at}
 use Rattle.ob_scope.proofs.Aparts.{apart_all, apart_more, apart_none}
 use Rattle.ob_scope.proofs.Elements.{slice_there}
 use Rattle.ob_scope.proofs.Numberings.{last_within, numbered_none, numbers_long}

@@ -1,6 +1,6 @@
 use Rattle.std.proofs.Common.{◌≡◌, ◌≤◌, length, take}
 use Rattle.ob_scope.specs.Sights.{AreNumbered}
-use Rattle.ob_scope.specs.Texts.{text_at}
+use Rattle.ob_scan.specs.Texts.{text_at}
 use Rattle.ob_scope.proofs.Aparts.{AreApart}
 use Rattle.ob_scope.proofs.apart.ascend.Given as goal
 

@@ -1,7 +1,7 @@
 -- Alias after alias.
 use Rattle.std.proofs.Common.{refl}
 use Rattle.std.proofs.lemmas.Option.{slice_get-get_or}
-use Rattle.ob_scope.specs.Texts.{text_at}
+use Rattle.ob_scan.specs.Texts.{text_at}
 use Rattle.ob_scope.proofs.Assembling.{aliases_more}
 use Rattle.ob_scope.proofs.build.aliases_of.Goals as goal
 

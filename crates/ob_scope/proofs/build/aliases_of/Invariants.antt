@@ -1,4 +1,4 @@
-use Rattle.ob_scope.specs.Texts.{text_at}
+use Rattle.ob_scan.specs.Texts.{text_at}
 use Rattle.ob_scope.specs.Found.{AreAliasesOf}
 use Rattle.ob_scope.proofs.build.aliases_of.Given as goal
 

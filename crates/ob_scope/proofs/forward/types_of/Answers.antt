@@ -4,7 +4,7 @@ use Rattle.std.specs.Prelude.{slice_index}
 use Rattle.std.proofs.lemmas.Option.{slice_get-get_or}
 use Rattle.ob_scope.specs.declared.members.Member.{Member}
 use Rattle.ob_scope.proofs.Elements.{some_one}
-use Rattle.ob_scope.proofs.Forwards.{types_more, types_none, types_skip}
+use Rattle.ob_scope.proofs.Forwards.{types_more, types_skip}
 use Rattle.ob_scope.proofs.forward.types_of.Goals as goal
 use Rattle.ob_scope.proofs.forward.types_of.Goals.{in-Some+in_ok-insert, in_default}
 

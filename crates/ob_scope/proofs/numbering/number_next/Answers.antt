@@ -1,6 +1,6 @@
 -- The member's name is numbered.
 use Rattle.std.proofs.lemmas.Option.{slice_get-get_or}
-use Rattle.ob_scope.specs.Texts.{text_at}
+use Rattle.ob_scan.specs.Texts.{text_at}
 use Rattle.ob_scope.proofs.Numberings.{numbered_more}
 use Rattle.ob_scope.proofs.numbering.number_next.Goals as goal
 

@@ -1,5 +1,5 @@
 use Rattle.std.specs.Prelude.{take}
-use Rattle.ob_scope.specs.Texts.{text_at}
+use Rattle.ob_scan.specs.Texts.{text_at}
 use Rattle.ob_scope.specs.Places.{IsIndex}
 use Rattle.ob_scope.proofs.places.index_of.Given as goal
 

@@ -6,7 +6,7 @@ use Rattle.ob_decls.specs.declared.rows.Used.{Used}
 use Rattle.ob_scope.specs.declared.members.Member.{Member}
 use Rattle.ob_scope.specs.Scope.{ResolvesTo, by_scope, as_target, IsLaterType, ResolvesToNothing}
 use Rattle.ob_scope.specs.Looked.{use_in}
-use Rattle.ob_scope.specs.Texts.{text_at}
+use Rattle.ob_scan.specs.Texts.{text_at}
 use Rattle.ob_scope.proofs.Named.{none_then, some_then}
 use Rattle.ob_scope.proofs.Seeing.{later_from_place, place_from_later}
 use Rattle.ob_scope.proofs.Resolving.{resolves-as, nothing-as}

@@ -4,7 +4,7 @@ use Rattle.std.proofs.lemmas.Grind.{elements}
 use Rattle.indexmap.specs.IndexMap.{get}
 use Rattle.ob_scope.specs.Forward.{same_type}
 use Rattle.ob_scope.specs.Sights.{name_number}
-use Rattle.ob_scope.specs.Texts.{text_at}
+use Rattle.ob_scan.specs.Texts.{text_at}
 use Rattle.ob_scope.proofs.Forwards.{after_before, after_found, after_undeclared, type_found, type_within, IsTypeOfName}
 use Rattle.ob_scope.proofs.resolve.type_after.Goals as goal
 use Rattle.ob_scope.proofs.resolve.type_after.Goals.{In_ok-number}

@@ -3,7 +3,7 @@ use Rattle.std.proofs.Common.{◌≡◌, ℕ, List, Some, length, refl, ap, ◌�
 use Rattle.std.specs.Prelude.{slice_get, IfSome}
 use Rattle.ob_scope.specs.declared.members.Member.{Member}
 use Rattle.ob_scope.specs.Sights.{IsOpenScope}
-use Rattle.ob_scope.specs.Texts.{text_at}
+use Rattle.ob_scan.specs.Texts.{text_at}
 use Rattle.ob_scope.proofs.Elements.{slice_there}
 use Rattle.ob_scope.proofs.SightSteps.{look_ascend, look_falls, look_found, look_none, look_same, look_sight, look_start, look_unnamed, look_within, sight_as, IsLookUp}
 use Rattle.ob_scope.proofs.sight.resolved.Goals as goal

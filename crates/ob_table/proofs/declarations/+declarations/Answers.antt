@@ -1,10 +1,9 @@
-use Rattle.std.proofs.Common.{◌≡◌, ◌-◌, [], Ok, Err, refl, sym, ap, ◌∙◌, arith}
+use Rattle.std.proofs.Common.{[], Ok, refl, sym, ap, ◌∙◌, arith}
 use Rattle.std.proofs.lemmas.List.Elements.{All-nil}
-use Rattle.std.specs.Global.{Vec}
 use Rattle.ob_scan.specs.declared.kind.Kind.TheVariants as kinds
 use Rattle.ob_tree.specs.declared.declaration.ProcDecl.{ProcDecl}
 use Rattle.ob_tree.specs.Declaring.{procedure_outline}
-use Rattle.ob_tree.specs.Marks.{each, repeated}
+use Rattle.ob_tree.specs.Marks.{repeated}
 use Rattle.ob_decls.specs.Declaring.{procedure_piece}
 use Rattle.ob_decls.specs.declared.draft.Context.{Context}
 use Rattle.ob_decls.specs.Drafts.{after}
@@ -12,13 +11,13 @@ use Rattle.ob_decls.specs.Parts.{in_block}
 use Rattle.ob_decls.specs.Parts.{each as pieces}
 use Rattle.ob_decls.proofs.Steps.{after_nothing, after_each}
 use Rattle.ob_parse.specs.Front.{is_word}
-use Rattle.ob_parse.specs.Forms.{begins, seq, expect_at, name_at, optional, accept_at, behind_name, limit_at}
+use Rattle.ob_parse.specs.Forms.{begins, seq, expect_at, name_at, optional, accept_at, limit_at}
 use Rattle.ob_parse.specs.Accords.{ahead}
 use Rattle.ob_parse.specs.Parsed.{IsRightEnd}
 use Rattle.ob_parse.specs.ReadExpressions.{expr_at}
 use Rattle.ob_parse.specs.ReadStatements.{block_at}
 use Rattle.ob_parse.specs.ReadTypes.{type_at}
-use Rattle.ob_parse.specs.ReadModules.{with_semicolon, procedure_at, procedures_with, declarations_at, declarations_with, body_with, procedure_named}
+use Rattle.ob_parse.specs.ReadModules.{with_semicolon, procedure_at, procedures_with, declarations_at, body_with, procedure_named}
 use Rattle.ob_parse.proofs.Loops.{has_begun, has_not_begun}
 use Rattle.ob_parse.proofs.LoopProcedures.{procedure_advances}
 use Rattle.ob_table.specs.DeclarationShapes.{ended_outline, ended_piece}

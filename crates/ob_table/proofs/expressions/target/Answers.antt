@@ -1,5 +1,4 @@
 use Rattle.ob_table.proofs.DesignatorTrees.{target_told}
-use Rattle.ob_table.proofs.CallTrees.{call_told}
 use Rattle.ob_table.proofs.expressions.target.Goals as goal
 
 pub returns : goal.returns

@@ -1,43 +1,13 @@
-//! Tokens of a file as texts in one buffer.
+//! Texts of tokens in one buffer.
 ghost use Rattle.std.specs.Prelude.{◌≡◌, ◌++◌, IfOk};
 ghost use Rattle.ob_scan.specs.Spelling.{AreInText};
-ghost use Rattle.ob_interface.specs.Interfaces.{part_of, start_at, text_at, type_name};
+ghost use Rattle.ob_interface.specs.Interfaces.{part_of, type_name};
 ghost use Rattle.ob_interface.specs.Texts.{name_in, part_row_in, text_in, IsGrown, TellsOn};
 
 use crate::rows::{NameRow, PartRow, RowPart, Span};
 use ob_decls::{FormPart, Part};
-use ob_scan::Token;
+use ob_scan::TokenTexts;
 use std::alloc::AllocError;
-
-/// The bytes of a file, and its tokens.
-#[derive(Clone, Copy)]
-pub(crate) struct Source<'a> {
-    pub(crate) bytes: &'a [u8],
-    pub(crate) tokens: &'a [Token],
-}
-
-impl<'a> Source<'a> {
-    /// The bytes of a token; there are none beyond the last.
-    pub(crate) fn text(&self, number: u32) -> &'a [u8]
-        requires { AreInText self.now.bytes.now self.now.tokens.now }
-        ensures { result.now ≡ text_at self.now.bytes.now self.now.tokens.now number }
-    {
-        match self.tokens.get(number as usize) {
-            Some(token) => &self.bytes[token.start as usize..token.end as usize],
-            None => &self.bytes[..0],
-        }
-    }
-
-    /// Where a token begins; 0 beyond the last.
-    pub(crate) fn start(&self, number: u32) -> u32
-        ensures { result ≡ start_at self.now.tokens.now number }
-    {
-        match self.tokens.get(number as usize) {
-            Some(token) => token.start,
-            None => 0,
-        }
-    }
-}
 
 /// A length as a place in the buffer. AllocError is answered from 2^32 on.
 pub(crate) fn place(length: usize) -> Result<u32, AllocError>
@@ -63,7 +33,7 @@ pub(crate) fn add_text(text: &mut Vec<u8>, more: &[u8]) -> Result<Span, AllocErr
 /// Adds the texts of a name.
 pub(crate) fn add_name(
     text: &mut Vec<u8>,
-    source: &Source,
+    source: &TokenTexts,
     head: u32,
     member: Option<u32>,
 ) -> Result<NameRow, AllocError>
@@ -71,11 +41,11 @@ pub(crate) fn add_name(
     ensures grown { IfOk result (λ _. IsGrown text.old.items text.new.items) }
     ensures tells { IfOk result (λ n. TellsOn name_in text.new.items n (type_name source.now.bytes.now source.now.tokens.now head member)) }
 {
-    let head = add_text(text, source.text(head))?;
+    let head = add_text(text, source.of(head))?;
     match member {
         None => Ok(NameRow { head, member: None }),
         Some(member) => {
-            let member = add_text(text, source.text(member))?;
+            let member = add_text(text, source.of(member))?;
             Ok(NameRow {
                 head,
                 member: Some(member),
@@ -87,7 +57,7 @@ pub(crate) fn add_name(
 /// Adds the texts of a part.
 pub(crate) fn add_part(
     text: &mut Vec<u8>,
-    source: &Source,
+    source: &TokenTexts,
     part: FormPart,
 ) -> Result<PartRow, AllocError>
     requires { AreInText source.now.bytes.now source.now.tokens.now }

@@ -1,14 +1,14 @@
-//! Names that are looked up.
+//! Names as keys.
 ghost use Rattle.std.specs.Prelude.{◌∷◌, []};
 ghost use Rattle.std.specs.Cmp.Rules.{hashing};
 ghost use Rattle.std.proofs.Common.{rules};
 
 use std::hash::{Hash, Hasher};
 
-/// A name. It is hashed as a whole, where a slice is hashed byte by byte.
+/// A name as a key, by its bytes. It is hashed as a whole, where a slice is hashed byte by byte.
 #[derive(Clone, Copy, PartialEq, Eq)]
-pub(crate) struct Name<'a> {
-    pub(crate) bytes: &'a [u8],
+pub struct Name<'a> {
+    pub bytes: &'a [u8],
 }
 
 impl Hash for Name<'_> {
