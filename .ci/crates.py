@@ -1,6 +1,7 @@
 """The crates of this repository, and work on them side by side."""
 import os
 import re
+import shutil
 import subprocess
 from concurrent.futures import FIRST_COMPLETED, ThreadPoolExecutor, wait
 
@@ -41,45 +42,49 @@ def lines_in(folder, *endings):
     return found
 
 
-def copy_of(root, crates, name, copy):
-    """Makes a repository of a crate and those below it, with these as they are built: a run of rt keeps all others out of the
-    crates below its own, so crates that are worked on side by side want copies. Returns the crate's folder there."""
-    own = [*below(crates, name), name]
-    subprocess.run(["cp", f"{root}/HANDLES", copy], check=True)
+def copied(root, crates, tops, copy, edits=()):
+    """Makes a repository of these crates and those below them, as they stand and with nothing that is built: rt ci proves all of it,
+    or takes what an earlier rt ci on this machine has proved. Only the crates that are named by edits have their edits there."""
+    own = [*dict.fromkeys(it for top in tops for it in [*below(crates, top), top])]
+    os.makedirs(f"{copy}/crates", exist_ok=True)
+    shutil.copy(f"{root}/HANDLES", copy)
     with open(f"{root}/crates.txt", encoding="utf-8") as lines, open(f"{copy}/crates.txt", "w", encoding="utf-8") as kept:
         kept.writelines(line for line in lines if re.match(r"\w*", line)[0] in own)
     for it in own:
-        os.makedirs(f"{copy}/crates/{it}")
-        parts = [f"{root}/crates/{it}/{part}" for part in ("src", "specs", "proofs", "must-fail")]
-        subprocess.run(["cp", "-r", *filter(os.path.isdir, parts), f"{copy}/crates/{it}"], check=True)
-    for it in below(crates, name):
-        os.makedirs(f"{copy}/crates/{it}/out")
-        subprocess.run(["cp", "-al", f"{root}/crates/{it}/out/rlib", f"{copy}/crates/{it}/out"], check=True)
-    return f"{copy}/crates/{name}"
+        left = ["out"] if it in edits else ["out", "must-fail"]
+        shutil.copytree(f"{root}/crates/{it}", f"{copy}/crates/{it}", ignore=shutil.ignore_patterns(*left))
+
+
+def proved(copy):
+    """Runs rt ci in a copy, and prints what it says of whole crates and of edits; where it fails, the rest too. Returns its status and
+    all that it printed."""
+    ran, said = subprocess.Popen(["rt", "ci"], cwd=copy, stdin=subprocess.DEVNULL, stdout=subprocess.PIPE, stderr=subprocess.STDOUT, text=True, errors="replace"), []
+    for line in ran.stdout:
+        said.append(line)
+        if line.startswith("rt: ") and not line.startswith("rt: warning: "):
+            print(line, end="", flush=True)
+    if ran.wait():
+        print("".join(it for it in said if not it.startswith("rt: ")), end="", flush=True)
+    return ran.returncode, said
 
 
 def side_by_side(root, crates, names, work, lanes):
-    """Calls work(name, jobs) for each of these crates, once those of them that it stands on went well, as many at once as there
-    are lanes, and first those with the most lines above them. A call gets as jobs the lanes that no other waits for.
-    Returns what each call gave, and None for a crate above one that didn't go well."""
+    """Calls work(name) for each of these crates, once those of them that it stands on went well, as many at once as there are lanes,
+    and first those with the most lines above them. A crate above one that didn't go well isn't worked on."""
     standing = {it: [dep for dep in below(crates, it) if dep in names] for it in names}
     above = {}
     for it in sorted(names, key=lambda it: -len(below(crates, it))):
         lines = sum(lines_in(f"{root}/crates/{it}/{part}", ".rt", ".antt") for part in ("src", "specs", "proofs"))
         above[it] = lines + max((above[other] for other in above if it in standing[other]), default=0)
-    left, given, running = sorted(names, key=lambda it: -above[it]), {}, {}
+    left, well, running = sorted(names, key=lambda it: -above[it]), set(), {}
     with ThreadPoolExecutor(lanes) as pool:
         while left or running:
-            for it in [it for it in left if any(dep in given and not given[dep] for dep in standing[it])]:
+            for it in [it for it in left if all(dep in well for dep in standing[it])][: lanes - len(running)]:
                 left.remove(it)
-                given[it] = None
-            ready = [it for it in left if all(dep in given for dep in standing[it])]
-            for at, it in enumerate(ready):
-                idle = lanes - sum(jobs for _, jobs in running.values())
-                if idle > 0:
-                    left.remove(it)
-                    jobs = max(1, min(4, idle // (len(ready) - at)))
-                    running[pool.submit(work, it, jobs)] = it, jobs
-            for it in wait(running, return_when=FIRST_COMPLETED).done if running else ():
-                given[running.pop(it)[0]] = it.result()
-    return given
+                running[pool.submit(work, it)] = it
+            if not running:
+                return
+            for done in wait(running, return_when=FIRST_COMPLETED).done:
+                name = running.pop(done)
+                if done.result():
+                    well.add(name)

@@ -3,7 +3,7 @@
 # `rt`; ctags, protoc, valgrind, LEMON and Boost are used by the scripts that look for them. Left out are gate.sh, and what does nothing
 # without a package: dot.sh, encode.sh and library.sh. It ends with status 1 and names the scripts that fail. The programs of timing/,
 # wire/ and workers/ are built while the other scripts run.
-# Build the program first: (cd crates/oscip && rt run -- --help). Then: bench/all.sh [PATH OF THE PROGRAM]
+# Build the program first: .ci/build. Then: bench/all.sh [PATH OF THE PROGRAM]
 set -u
 here=$(cd "$(dirname "$0")" && pwd)
 oscip=$(realpath "${1:-$here/../crates/oscip/out/oscip}")

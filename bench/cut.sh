@@ -2,7 +2,7 @@
 # Times cut-net on generated networks of several shapes, beside a plain solver in C++ and the maximum flows of LEMON and of
 # Boost, where g++ finds their headers. Each report has to have the weight and the imports of the plain solver, and
 # check-net has to say yes to it.
-# Build the program first: (cd crates/oscip && rt run -- --help). Then: bench/cut.sh [PATH OF THE PROGRAM [SHAPE..]]
+# Build the program first: .ci/build. Then: bench/cut.sh [PATH OF THE PROGRAM [SHAPE..]]
 # WORKERS is the number of workers, SIZES names the numbers of modules.
 set -eu
 here=$(cd "$(dirname "$0")" && pwd)

@@ -1,6 +1,6 @@
 #!/usr/bin/env bash
 # Compares cut-net with its definitions on small random networks, and asks check-net of each report.
-# Build the program first: (cd crates/oscip && rt run -- --help).
+# Build the program first: .ci/build.
 # Then: bench/differ.sh [PATH OF THE PROGRAM [SEED [CASES]]]
 set -eu
 here=$(cd "$(dirname "$0")" && pwd)

@@ -1,6 +1,6 @@
 #!/usr/bin/env bash
 # Gives pictures to Graphviz: each has to be a graph that it draws, with each module and each import of the picture.
-# Build the program first: (cd crates/oscip && rt run -- --help). Then: bench/dot.sh [PATH OF THE PROGRAM]
+# Build the program first: .ci/build. Then: bench/dot.sh [PATH OF THE PROGRAM]
 set -eu -o pipefail
 here=$(cd "$(dirname "$0")" && pwd)
 oscip=$(realpath "${1:-$here/../crates/oscip/out/oscip}")

@@ -1,7 +1,7 @@
 #!/usr/bin/env bash
 # Encodes indexes in the style of two producers with `protoc --encode` (foreign.proto), and compares what def and refs print of them
 # with what they have to print; and the example of another producer's index, with its text form. Where protoc isn't there, nothing is
-# compared. Build the program first: (cd crates/oscip && rt run -- --help). Then: bench/encode.sh [PATH OF THE PROGRAM]
+# compared. Build the program first: .ci/build. Then: bench/encode.sh [PATH OF THE PROGRAM]
 set -eu -o pipefail
 here=$(cd "$(dirname "$0")" && pwd)
 oscip=$(realpath "${1:-$here/../crates/oscip/out/oscip}")

@@ -2,7 +2,7 @@
 # Runs the program on every front of the examples, on each of them with one byte changed at each place, and on seeded changes of them,
 # for every command: no run may crash, take two seconds, or end with a status or a line that isn't documented. With fewer than 100,000
 # RUNS, which are those on seeded changes, there are no others.
-# Build the program first: (cd crates/oscip && rt run -- --help). Then: bench/fuzz.sh [PROGRAM [RUNS [SEED]]]
+# Build the program first: .ci/build. Then: bench/fuzz.sh [PROGRAM [RUNS [SEED]]]
 set -eu
 here=$(cd "$(dirname "$0")" && pwd)
 oscip=$(realpath "${1:-$here/../crates/oscip/out/oscip}")

@@ -1,18 +1,16 @@
 """Times what the gate does, in COPY, a copy of the repository's files: processor seconds are those of a command and its children.
 
 gate.py COPY [run]              runs .ci/run and prints what it cost; what an earlier run on this machine passed is proved by it no more
-gate.py COPY crates [CRATE ..]  prints for each crate, or for those that are named, what its proof from nothing cost, with its tests
-                                (rt verdict, by one job), and then its edits (.ci/edits, with a look at what is built below); where all
-                                edits are refused the crate's line is kept in .ci/tried of this checkout; and then the forty functions
-                                that took longest, in wall seconds beside the other crates
+gate.py COPY crates [CRATE ..]  prints for each crate, or for those that are named, what it cost to prove it, with its tests where it has
+                                some, once all below it was proved (rt ci on a copy of both, as the tests' command calls it), and then
+                                what its edits cost (.ci/edits); where all edits are refused the crate's line is kept in .ci/tried of
+                                this checkout. What rt ci has proved or tried before on this machine has no figure
 gate.py COPY slow CRATE         prints the ten functions of a crate that take longest, by the times at which rt check, with one job,
                                 prints that each is checked; one that a check on this machine has checked before takes no time
 
-The libraries below a crate are built first, over those that stand built in this checkout, and not counted. As many crates are timed at
-once as there are processors, or as JOBS says, each in a copy of its own, and first those with the most lines.
+As many crates are timed at once as there are processors, and first those with the most lines above them.
 """
 import os
-import queue
 import re
 import shutil
 import subprocess
@@ -20,11 +18,10 @@ import sys
 import tempfile
 import threading
 import time
-from concurrent.futures import ThreadPoolExecutor, as_completed
 
 sys.dont_write_bytecode = True
 sys.path.insert(0, f"{os.path.dirname(os.path.realpath(__file__))}/../.ci")
-from crates import ROOT, copy_of, crates_of, lines_in, processors
+from crates import ROOT, below, copied, crates_of, lines_in, processors, side_by_side
 
 KEEPING = threading.Lock()
 
@@ -83,97 +80,66 @@ def size_of(copy, name):
     return lines_in(f"{folder}/src", ".rt"), sum(lines_in(f"{folder}/{it}", ".antt") for it in ("specs", "proofs"))
 
 
+def proof_of(copy, name):
+    """What rt ci said of a crate, which it proved with those below it, and the processor and wall seconds of that."""
+    with tempfile.TemporaryDirectory() as own:
+        copied(copy, crates_of(copy), [name], own)
+        said, processor, wall, _ = timed(own, "rt", "ci")
+    return said, processor, wall
+
+
 def edits_tried(copy, name, before):
-    """How many edits a crate has, the processor and wall seconds that they took, and why they weren't all refused, or none."""
-    edits = edits_in(f"{copy}/crates/{name}/must-fail")
-    if not edits:
-        return "-", 0, "-", None
-    try:
-        _, tried, wall, _ = timed(copy, ".ci/edits", name)
-    except SystemExit as why:
-        return edits, 0, "failed", why
-    keep_tried(copy, name, before)
-    return edits, tried, f"{wall:.0f}", None
+    """The processor and wall seconds that a crate's edits took, and why they weren't all refused, or none."""
+    with tempfile.TemporaryDirectory() as folder:
+        own = f"{folder}/own"
+        shutil.copytree(copy, own)
+        try:
+            said, processor, wall, _ = timed(own, ".ci/edits", name)
+        except SystemExit as why:
+            return 0, 0, why
+        keep_tried(own, name, before)
+    return (0, 0, None) if "were tried by an earlier run" in said else (processor, wall, None)
 
 
 def row_of(copy, name, before):
-    """A crate's row, the processor seconds of its proof and of its edits, the seconds of its functions, and why its edits weren't all
-    refused, or none."""
-    with tempfile.TemporaryDirectory(dir=copy) as own:
-        said, proof, wall, spent = timed(copy_of(copy, crates_of(copy), name, own), "rt", "verdict", "--jobs", "1")
-    functions = re.search(r"functions=(\d+)", said)
-    code, text = size_of(copy, name)
-    edits, tried, waited, why = edits_tried(copy, name, before)
-    cells = f"{edits} | {f'{tried:.0f}' if tried else '-'} | {waited}"
-    row = f"| `{name}` | {functions[1] if functions else '-'} | {code} | {text} | {proof:.0f} | {wall:.0f} | {cells} |"
-    return row, proof, tried, {f"{name} {it}": seconds for it, seconds in spent.items()}, why
-
-
-def give_built(root, copy, *how):
-    """Gives the copy the libraries that are built in another one; it does without one that can't be copied."""
-    for name in crates_of(copy):
-        built = f"{root}/crates/{name}/out/rlib"
-        if os.path.isdir(built):
-            os.makedirs(f"{copy}/crates/{name}/out", exist_ok=True)
-            if subprocess.run(["cp", *how, built, f"{copy}/crates/{name}/out"]).returncode:
-                shutil.rmtree(f"{copy}/crates/{name}/out")
-
-
-def copies_of(copy, lanes):
-    """The copy, and as many more as make so many lanes, with the libraries that are built there."""
-    found = queue.Queue()
-    found.put(copy)
-    for lane in range(1, lanes):
-        other = f"{copy}.{lane}"
-        shutil.copytree(copy, other, ignore=shutil.ignore_patterns("out"))
-        give_built(copy, other, "-al")
-        found.put(other)
-    return found
+    """A crate's row, the processor seconds of its proof and of its edits, and why these weren't all refused, or none."""
+    said, proof, wall = proof_of(copy, name)
+    proof, wall = (0, 0) if f"rt: {name} is kept" in said else (proof, wall)
+    functions = re.findall(r"\bfunctions=(\d+)", said)
+    edits = edits_in(f"{copy}/crates/{name}/must-fail")
+    tried, waited, why = edits_tried(copy, name, before) if edits else (0, 0, None)
+    cells = [functions[-1] if functions else 0, *size_of(copy, name), *(f"{it:.0f}" for it in (proof, wall)), edits, *(f"{it:.0f}" for it in (tried, waited))]
+    return f"| `{name}` | {' | '.join(str(it) if it not in (0, '0') else '-' for it in cells)} |", (proof, tried), why
 
 
 def crates(copy, *wanted):
-    names = sorted(wanted or crates_of(copy), key=lambda it: -sum(size_of(copy, it)))
-    before = lines_tried(ROOT)
-    give_built(ROOT, copy, "-a")
-    timed(copy, ".ci/build", *names)
-    copies = copies_of(copy, int(os.environ.get("JOBS", processors())))
+    known, before, sums, failed = crates_of(copy), lines_tried(ROOT), [0, 0], []
+    names = wanted or known
 
     def work(name):
-        own = copies.get()
-        try:
-            return row_of(own, name, before)
-        finally:
-            copies.put(own)
-
-    print("| Crate | Functions | Lines of code | of definitions and proofs | Proof and tests, processor | wall | Edits | processor | wall |")
-    print("|" + "---|" * 9, flush=True)
-    proofs, edits, spent, failed = 0, 0, {}, []
-    with ThreadPoolExecutor(copies.qsize()) as pool:
-        for done in as_completed([pool.submit(work, name) for name in names]):
-            try:
-                row, proof, tried, functions, why = done.result()
-            except (SystemExit, OSError, subprocess.SubprocessError) as ended:
-                failed.append(ended)
-                continue
-            failed += [why] if why else []
-            proofs, edits = proofs + proof, edits + tried
-            spent.update(functions)
+        if name not in names:
+            return bool(proof_of(copy, name))
+        row, took, why = row_of(copy, name, before)
+        with KEEPING:
             print(row, flush=True)
-    print(f"\nall: {proofs / 60:.0f} minutes of processor time for proofs and tests, {edits / 60:.0f} for edits\n")
-    tell_slowest(spent, 40)
+            failed.extend([why] if why else [])
+            sums[:] = [one + more for one, more in zip(sums, took)]
+        return True
+
+    print("| Crate | Functions | Lines of code | of definitions and proofs | Proof, processor | wall | Edits | processor | wall |")
+    print("|" + "---|" * 9, flush=True)
+    side_by_side(copy, known, {dep for it in names for dep in [*below(known, it), it]}, work, int(os.environ.get("JOBS", processors())))
+    print("\nall: {:.0f} minutes of processor time for proofs, {:.0f} for edits".format(*(it / 60 for it in sums)))
     for why in failed:
         print(why)
     sys.exit(1 if failed else 0)
 
 
-def tell_slowest(spent, most):
-    for function in sorted(spent, key=lambda it: -spent[it])[:most]:
-        print(f"{spent[function]:6.0f} {function}")
-
-
 def slow(copy, name):
-    timed(copy, ".ci/build", name)
-    tell_slowest(timed(f"{copy}/crates/{name}", "rt", "check", "--jobs", "1")[3], 10)
+    spent = timed(f"{copy}/crates/{name}", "rt", "check", "--jobs", "1")[3]
+    own = [it for it in spent if it.startswith(f"{name}::")]
+    for function in sorted(own, key=lambda it: -spent[it])[:10]:
+        print(f"{spent[function]:6.0f} {function}")
 
 
 def main(copy, mode="run", *words):

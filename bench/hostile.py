@@ -11,7 +11,7 @@ want of memory, within some seconds.
 
 Each row ends with what is wrong, as more than it may take, or with `ok`. The status is 1 where something is wrong.
 
-Build the program first: (cd crates/oscip && rt run -- --help). Then: bench/hostile.py [PROGRAM [RUNS]]. `cc` compiles
+Build the program first: .ci/build. Then: bench/hostile.py [PROGRAM [RUNS]]. `cc` compiles
 `colliding.c`, which makes names that fall together, and `peak.c`, which tells memory. The environment variable PART divides the sizes of
 the harmful input; the instructions at twice the bytes are judged of the whole alone.
 """

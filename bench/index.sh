@@ -2,7 +2,7 @@
 # Compares index and unresolved with a plain indexer on small random trees and on the editor, decodes the editor's index, and times
 # index on large trees beside an indexer in C++ that looks at no field, beside ctags, where that is there, which takes the files for
 # Pascal, and beside cat and wc.
-# Build the program first: (cd crates/oscip && rt run -- --help).
+# Build the program first: .ci/build.
 # Then: bench/index.sh [PATH OF THE PROGRAM [SEED [CASES]]]
 # PART is what part of the large trees is made (modules.py).
 set -eu

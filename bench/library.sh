@@ -1,6 +1,6 @@
 #!/usr/bin/env bash
 # Times def and refs, and what reads and writes an index, beside Google's protobuf library over the same messages (index.proto).
-# Where protoc or the library isn't there, nothing is timed. Build the program first: (cd crates/oscip && rt run -- --help).
+# Where protoc or the library isn't there, nothing is timed. Build the program first: .ci/build.
 # WIRE names the program of wire.sh; without it that is built.
 # Then: bench/library.sh [PATH OF THE PROGRAM]
 set -eu -o pipefail

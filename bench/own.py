@@ -1,19 +1,17 @@
 #!/usr/bin/env python3
-"""Proves and builds a program of bench/ in a repository of its own: bench/own.py FOLDER timing|wire|workers [WORD ..]
+"""Proves and builds a program of bench/ in a repository of its own: bench/own.py FOLDER timing|wire|workers
 
-The repository is made in the folder, of copies of the crates that the program stands on; those that are built in this checkout aren't
-proved again. The program is run once with these words. It is FOLDER/crates/NAME/out/NAME then.
+The repository is made in the folder, of copies of the crates that the program stands on; those that .ci/build or the tests' command
+proved on this machine aren't proved again. The program is FOLDER/crates/NAME/out/NAME then.
 """
 import os
-import re
 import shutil
-import subprocess
 import sys
 
 sys.dont_write_bytecode = True
 HERE = os.path.dirname(os.path.realpath(__file__))
 sys.path.insert(0, f"{HERE}/../.ci")
-from crates import ROOT, below, crates_of
+from crates import ROOT, copied, crates_of, proved
 
 # What each program says in crates.txt.
 PROGRAMS = {
@@ -23,36 +21,18 @@ PROGRAMS = {
 }
 
 
-def copied(crate, to):
-    """Copies what a crate is made of, and its library where that is built: by links where these can be made."""
-    os.makedirs(f"{to}/out")
-    for part in ("src", "specs", "proofs"):
-        if os.path.isdir(f"{ROOT}/crates/{crate}/{part}"):
-            shutil.copytree(f"{ROOT}/crates/{crate}/{part}", f"{to}/{part}")
-    built = f"{ROOT}/crates/{crate}/out/rlib"
-    if os.path.isdir(built) and subprocess.run(["cp", "-al", built, f"{to}/out"], stderr=subprocess.DEVNULL).returncode:
-        subprocess.run(["cp", "-r", built, f"{to}/out"], check=True)
-
-
-def main(folder, name, *words):
-    lower = below({**crates_of(), name: PROGRAMS[name].partition(":")[2].split()}, name)
-    for crate in lower:
-        copied(crate, f"{folder}/crates/{crate}")
-    shutil.copy(f"{ROOT}/HANDLES", folder)
-    with open(f"{ROOT}/crates.txt", encoding="utf-8") as lines, open(f"{folder}/crates.txt", "w", encoding="utf-8") as kept:
-        kept.writelines(line for line in lines if re.match(r"\w*", line)[0] in lower)
-        print(PROGRAMS[name], file=kept)
+def main(folder, name):
+    crates, line = crates_of(), PROGRAMS[name]
+    copied(ROOT, crates, [it for it in line.partition(":")[2].split() if it in crates], folder)
+    with open(f"{folder}/crates.txt", "a", encoding="utf-8") as lines:
+        print(line, file=lines)
     # `rt ci` refuses sources outside the crates, so those of bench/ have another ending
     for at, _, names in os.walk(f"{HERE}/{name}"):
         to = f"{folder}/crates/{os.path.relpath(at, HERE)}"
         os.makedirs(to)
         for it in names:
             shutil.copy(f"{at}/{it}", f"{to}/{it.removesuffix('.in')}")
-    words = ["rt", "run", "--", *words]
-    ran = subprocess.run(words, cwd=f"{folder}/crates/{name}", stdin=subprocess.DEVNULL, stdout=subprocess.PIPE, stderr=subprocess.STDOUT, errors="replace")
-    if ran.returncode:
-        print(*ran.stdout.splitlines()[-40:], sep="\n")
-    return ran.returncode
+    return proved(folder)[0]
 
 
 if __name__ == "__main__":

@@ -1,7 +1,7 @@
 #!/usr/bin/env bash
 # Compares def and refs on large indexes in the style of two producers with what they have to print, and times them beside a plain
 # reader in C++ and beside reading the same file with wc. Beside Google's library library.sh times them.
-# Build the program first: (cd crates/oscip && rt run -- --help). Then: bench/query.sh [PATH OF THE PROGRAM]
+# Build the program first: .ci/build. Then: bench/query.sh [PATH OF THE PROGRAM]
 # PART divides the documents of the large ones.
 set -eu
 here=$(cd "$(dirname "$0")" && pwd)

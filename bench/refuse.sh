@@ -3,7 +3,7 @@
 # or with Memory, status 4 and at most a front of the right answer on standard output, and no third. Of a cut's right answer the
 # flow may be another one of that value, since it hangs on the workers' turns; check-net and check have to say yes to it. What a run
 # writes into the file out.scip counts as standard output.
-# Build the program first: (cd crates/oscip && rt run -- --help). Then: bench/refuse.sh [PATH OF THE PROGRAM [STEP]]
+# Build the program first: .ci/build. Then: bench/refuse.sh [PATH OF THE PROGRAM [STEP]]
 # STEP is how far one allocation that is refused is behind the last one, 1 without it.
 set -eu
 here=$(cd "$(dirname "$0")" && pwd)

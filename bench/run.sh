@@ -1,6 +1,6 @@
 #!/usr/bin/env bash
 # Times check-net on generated networks, beside a plain checker in C++ and beside reading the same files with wc.
-# Build the program first: (cd crates/oscip && rt run -- --help). Then: bench/run.sh [PATH OF THE PROGRAM]
+# Build the program first: .ci/build. Then: bench/run.sh [PATH OF THE PROGRAM]
 set -eu
 here=$(cd "$(dirname "$0")" && pwd)
 oscip=$(realpath "${1:-$here/../crates/oscip/out/oscip}")

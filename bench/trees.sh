@@ -1,7 +1,7 @@
 #!/usr/bin/env bash
 # Times cut on generated trees of modules, beside reading the same files with cat and wc, and, where that is there, beside ctags over as
 # many bytes of C. The report has to have weights that sum up to its own, and check has to say yes to it.
-# Build the program first: (cd crates/oscip && rt run -- --help). Then: bench/trees.sh [PATH OF THE PROGRAM [SHAPE..]]
+# Build the program first: .ci/build. Then: bench/trees.sh [PATH OF THE PROGRAM [SHAPE..]]
 # KEEP names a folder for the trees and for the two modules of each cut, which parse.sh can use too. PART is
 # what part of the trees is made (modules.py).
 set -eu

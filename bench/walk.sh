@@ -1,6 +1,6 @@
 #!/usr/bin/env bash
 # Runs cut and check on folders of many kinds, and compares standard output, standard error and status with what they have to be.
-# Build the program first: (cd crates/oscip && rt run -- --help). Then: bench/walk.sh [PATH OF THE PROGRAM]
+# Build the program first: .ci/build. Then: bench/walk.sh [PATH OF THE PROGRAM]
 set -eu
 here=$(cd "$(dirname "$0")" && pwd)
 oscip=$(realpath "${1:-$here/../crates/oscip/out/oscip}")

@@ -10,7 +10,7 @@ work=$(mktemp -d)
 trap 'rm -rf "$work"' EXIT
 
 wire=${WIRE:-$work/crates/wire/out/wire}
-[ -n "${WIRE:-}" ] || "$here/own.py" "$work" wire 1 1 1
+[ -n "${WIRE:-}" ] || "$here/own.py" "$work" wire
 [ "$documents" != build ] || { cp "$wire" "$occurrences"; exit 0; }
 "$wire" "$documents" "$occurrences" 7 > "$work/told"
 python3 - "$work/told" <<'END'
