@@ -8,7 +8,7 @@ gate.py COPY crates [CRATE ..]  prints for each crate, or for those that are nam
 gate.py COPY slow CRATE         prints the ten functions of a crate that take longest, by the times at which rt check, with one job,
                                 prints that each is checked; one that a check on this machine has checked before takes no time
 
-As many crates are timed at once as there are processors, and first those with the most lines above them.
+As many crates are timed at once as there are processors, or as JOBS says, and first those with the most lines above them.
 """
 import os
 import re
