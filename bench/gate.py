@@ -1,10 +1,11 @@
 """Times what the gate does, in COPY, a copy of the repository's files: processor seconds are those of a command and its children.
 
 gate.py COPY [run]              runs .ci/run and prints what it cost; what an earlier run on this machine passed is proved by it no more
-gate.py COPY crates [CRATE ..]  prints for each crate, or for those that are named, what it cost to prove it, with its tests where it has
-                                some, once all below it was proved (rt ci on a copy of both, as the tests' command calls it), and then
-                                what its edits cost (.ci/edits); where all edits are refused the crate's line is kept in .ci/tried of
-                                this checkout. What rt ci has proved or tried before on this machine has no figure
+gate.py COPY proofs [CRATE ..]  prints for each crate, or for those that are named, what it cost to prove it, with its tests where it has
+                                some, once all below it was proved (rt ci on a copy of both, as the tests' command calls it)
+gate.py COPY edits [CRATE ..]   prints what their edits cost (.ci/edits), behind a run of proofs; where all edits of a crate are refused
+                                its line is kept in .ci/tried of this checkout. What rt ci has proved or tried before on this machine
+                                has no figure
 gate.py COPY slow CRATE         prints the ten functions of a crate that take longest, by the times at which rt check, with one job,
                                 prints that each is checked; one that a check on this machine has checked before takes no time
 
@@ -62,13 +63,10 @@ def lines_tried(root):
         return {it.split()[0]: it for it in lines if it.strip()}
 
 
-def keep_tried(copy, name, before):
-    """Keeps a crate's line of the copy's .ci/tried in that of this checkout, in the order of crates.txt; where the checkout has another
-    line than before, that one stays."""
+def keep_tried(copy, name):
+    """Keeps a crate's line of the copy's .ci/tried in that of this checkout, in the order of crates.txt."""
     with KEEPING:
         kept, new = lines_tried(ROOT), lines_tried(copy)
-        if name not in new or kept.get(name) != before.get(name):
-            return
         kept[name] = new[name]
         with open(f"{ROOT}/.ci/tried.new", "w", encoding="utf-8") as out:
             out.writelines(kept[it] for it in crates_of() if it in kept)
@@ -88,7 +86,7 @@ def proof_of(copy, name):
     return said, processor, wall
 
 
-def edits_tried(copy, name, before):
+def edits_tried(copy, name):
     """The processor and wall seconds that a crate's edits took, and why they weren't all refused, or none."""
     with tempfile.TemporaryDirectory() as folder:
         own = f"{folder}/own"
@@ -97,42 +95,58 @@ def edits_tried(copy, name, before):
             said, processor, wall, _ = timed(own, ".ci/edits", name)
         except SystemExit as why:
             return 0, 0, why
-        keep_tried(own, name, before)
+        keep_tried(own, name)
     return (0, 0, None) if "were tried by an earlier run" in said else (processor, wall, None)
 
 
-def row_of(copy, name, before):
-    """A crate's row, the processor seconds of its proof and of its edits, and why these weren't all refused, or none."""
-    said, proof, wall = proof_of(copy, name)
-    proof, wall = (0, 0) if f"rt: {name} is kept" in said else (proof, wall)
+def proof_row(copy, name):
+    """A crate's row, the processor seconds of its proof, and none, since a proof that fails ends the run."""
+    said, processor, wall = proof_of(copy, name)
+    kept = f"rt: {name} is kept" in said and f"rt: {name}: its tests are proved" not in said
+    processor, wall = (0, 0) if kept else (processor, wall)
     functions = re.findall(r"\bfunctions=(\d+)", said)
+    return [functions[-1] if functions else 0, *size_of(copy, name), *(f"{it:.0f}" for it in (processor, wall))], processor, None
+
+
+def edits_row(copy, name):
+    """A crate's row, the processor seconds of its edits, and why these weren't all refused, or none."""
     edits = edits_in(f"{copy}/crates/{name}/must-fail")
-    tried, waited, why = edits_tried(copy, name, before) if edits else (0, 0, None)
-    cells = [functions[-1] if functions else 0, *size_of(copy, name), *(f"{it:.0f}" for it in (proof, wall)), edits, *(f"{it:.0f}" for it in (tried, waited))]
-    return f"| `{name}` | {' | '.join(str(it) if it not in (0, '0') else '-' for it in cells)} |", (proof, tried), why
+    processor, wall, why = edits_tried(copy, name) if edits else (0, 0, None)
+    return [edits, *(f"{it:.0f}" for it in (processor, wall))], processor, why
 
 
-def crates(copy, *wanted):
-    known, before, sums, failed = crates_of(copy), lines_tried(ROOT), [0, 0], []
-    names = wanted or known
+def table(copy, names, head, row_of):
+    """Prints a row for each crate that is named, or for all, and their sum. Before a proof those below it are proved, without a row."""
+    known, total, failed = crates_of(copy), [0], []
+    names = names or known
+    proving = row_of is proof_row
 
     def work(name):
         if name not in names:
             return bool(proof_of(copy, name))
-        row, took, why = row_of(copy, name, before)
+        cells, processor, why = row_of(copy, name)
         with KEEPING:
-            print(row, flush=True)
+            print(f"| `{name}` | {' | '.join(str(it) if it not in (0, '0') else '-' for it in cells)} |", flush=True)
+            total[0] += processor
             failed.extend([why] if why else [])
-            sums[:] = [one + more for one, more in zip(sums, took)]
         return True
 
-    print("| Crate | Functions | Lines of code | of definitions and proofs | Proof, processor | wall | Edits | processor | wall |")
-    print("|" + "---|" * 9, flush=True)
-    side_by_side(copy, known, {dep for it in names for dep in [*below(known, it), it]}, work, int(os.environ.get("JOBS", processors())))
-    print("\nall: {:.0f} minutes of processor time for proofs, {:.0f} for edits".format(*(it / 60 for it in sums)))
+    print(f"| {' | '.join(head)} |")
+    print("|" + "---|" * len(head), flush=True)
+    standing = known if proving else {it: [] for it in names}
+    side_by_side(copy, standing, {dep for it in names for dep in [*below(standing, it), it]}, work, int(os.environ.get("JOBS", processors())))
+    print(f"\nall: {total[0] / 60:.0f} minutes of processor time")
     for why in failed:
         print(why)
     sys.exit(1 if failed else 0)
+
+
+def proofs(copy, *names):
+    table(copy, names, ["Crate", "Functions", "Lines of code", "of definitions and proofs", "Processor", "wall"], proof_row)
+
+
+def edits(copy, *names):
+    table(copy, names, ["Crate", "Edits", "Processor", "wall"], edits_row)
 
 
 def slow(copy, name):
@@ -143,7 +157,7 @@ def slow(copy, name):
 
 
 def main(copy, mode="run", *words):
-    modes = {"run": run, "crates": crates, "slow": slow}
+    modes = {"run": run, "proofs": proofs, "edits": edits, "slow": slow}
     if mode not in modes or mode == "run" and words or mode == "slow" and len(words) != 1:
         sys.exit(__doc__)
     modes[mode](copy, *words)

@@ -1,6 +1,6 @@
 #!/usr/bin/env bash
-# Times the tests' command, or the proof and the edits of each crate, whose lines it keeps in .ci/tried, or the functions of one:
-# bench/gate.sh [run | crates [CRATE ..] | slow CRATE]
+# Times the tests' command, or the proof of each crate, or its edits, whose lines it keeps in .ci/tried, or the functions of one:
+# bench/gate.sh [run | proofs [CRATE ..] | edits [CRATE ..] | slow CRATE]
 set -eu
 cd "$(dirname "$0")/.."
 copy=$(mktemp -d)

@@ -1,3 +1,5 @@
+pub mod InRow
+pub mod Documents
 pub mod IndexRuns
 pub mod Packages
 pub mod SameBytes

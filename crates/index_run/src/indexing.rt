@@ -9,11 +9,11 @@ ghost use Rattle.index_run.specs.IndexRuns.{unresolved_line, unresolved_lines, I
 ghost use Rattle.oscip_tree.specs.Sources.{ArePathsInOrder};
 ghost use Rattle.scip_symbol.specs.Outcomes.{is_wrong_part};
 
+use crate::{hex_line, put_written};
 use byte_sink::{Sink, put_all};
 use ob_board::{
     BoardGate, IndexOptions, Unresolved, WrittenIndex, unresolved_in_tree, written_index,
 };
-use oscip_index::{hex_line, put_written};
 use oscip_job::{Indexing, Output};
 use oscip_run::{READERS, RunFault};
 use oscip_tree::Source;

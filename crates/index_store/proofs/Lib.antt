@@ -1,3 +1,6 @@
+pub mod LineLemmas
+pub mod NoDevice
+pub mod Runs
 pub mod TableLemmas
 pub mod StoreLemmas
 pub mod AskedLemmas

@@ -1,3 +1,6 @@
+pub mod Faults
+pub mod Lines
+pub mod Asking
 pub mod Spans
 pub mod Tables
 pub mod Queries

@@ -14,10 +14,10 @@ use Rattle.oscip_tree.specs.declared.parts.ModuleParts.{ModuleParts}
 use Rattle.oscip_tree.specs.declared.source.Source.{Source}
 use Rattle.work_board.specs.Graphs.{row_at}
 use Rattle.board_workers.specs.Parts.{IsJob}
-use Rattle.tree_board.specs.Boards.{modules_of}
-use Rattle.tree_board.specs.Reached.{files_of, interface_in, names, AreReachedInterfaces, ReachesAlike, SeenFile}
-use Rattle.tree_board.specs.Seen.{all_seen, seen_in, AreSourcesRead}
-use Rattle.tree_board.proofs.Shared.{parts_reached}
+use Rattle.ob_board.specs.Boards.{modules_of}
+use Rattle.ob_board.specs.Reached.{files_of, interface_in, names, AreReachedInterfaces, ReachesAlike, SeenFile}
+use Rattle.ob_board.specs.Seen.{all_seen, seen_in, AreSourcesRead}
+use Rattle.ob_board.proofs.Shared.{parts_reached}
 use Rattle.ob_board.specs.Entries.{interfaces_of, AreAllNamed, IsEntryOf, PlainEntry}
 use Rattle.ob_board.specs.Found.{IsAtHand, IsFoundOf, PlainFound}
 use Rattle.ob_board.specs.Records.{IsRecordedOf, PlainRecorded}

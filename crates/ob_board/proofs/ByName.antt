@@ -15,8 +15,8 @@ use Rattle.ob_types.specs.Homes.{AreByName}
 use Rattle.ob_types.proofs.Ascending.{less}
 use Rattle.oscip_tree.specs.declared.parts.ModuleParts.{ModuleParts}
 use Rattle.oscip_tree.specs.declared.source.Source.{Source}
-use Rattle.tree_board.specs.Reached.{interface_in, marked_interfaces, SeenFile}
-use Rattle.tree_board.specs.Seen.{all_seen, seen_in, AreSourcesRead, IsSourceRead}
+use Rattle.ob_board.specs.Reached.{interface_in, marked_interfaces, SeenFile}
+use Rattle.ob_board.specs.Seen.{all_seen, seen_in, AreSourcesRead, IsSourceRead}
 use Rattle.ob_board.specs.Entries.{interfaces_of}
 
 abbrev pub IsBefore : ModuleInterface → ModuleInterface → Type 0

@@ -23,12 +23,12 @@ use Rattle.oscip_tree.specs.Trees.{ModuleFile}
 use Rattle.scip_index.specs.Plain.{PlainDocument, PlainIndex}
 use Rattle.ob_board.specs.declared.entry.Entry.{Entry}
 use Rattle.board_workers.specs.Parts.{AreEntries as AreAtBoard}
-use Rattle.tree_board.specs.Boards.{modules_of}
-use Rattle.tree_board.specs.Reached.{interface_in, marked_interfaces, names, seen_of, AreReachedInterfaces, SeenFile}
-use Rattle.tree_board.specs.Seen.{all_seen, seen_in, AreSourcesRead, IsSourceRead}
-use Rattle.tree_board.proofs.Chained.{as_many, modules_within}
-use Rattle.tree_board.proofs.SeenFiles.{seen_are}
-use Rattle.tree_board.proofs.Shared.{same_file}
+use Rattle.ob_board.specs.Boards.{modules_of}
+use Rattle.ob_board.specs.Reached.{interface_in, marked_interfaces, names, seen_of, AreReachedInterfaces, SeenFile}
+use Rattle.ob_board.specs.Seen.{all_seen, seen_in, AreSourcesRead, IsSourceRead}
+use Rattle.ob_board.proofs.Chained.{as_many, modules_within}
+use Rattle.ob_board.proofs.SeenFiles.{seen_are}
+use Rattle.ob_board.proofs.Shared.{same_file}
 use Rattle.ob_board.specs.Entries.{AreAllNamed, AreEntriesOf, IsEntry, IsEntryOf, IsWritten, plain_entry, PlainEntry}
 use Rattle.ob_board.specs.Found.{IsAtHand}
 use Rattle.ob_board.specs.Indexes.{AreTreeEntries, IsIndex, IsMadeOf}

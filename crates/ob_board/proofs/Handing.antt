@@ -12,11 +12,11 @@ use Rattle.oscip_tree.specs.declared.source.Source.{Source}
 use Rattle.ob_scope.proofs.Elements.{some_one}
 use Rattle.work_board.specs.Graphs.{row_at, Modules}
 use Rattle.board_workers.specs.Parts.{AreEntries}
-use Rattle.tree_board.specs.Boards.{modules_of}
-use Rattle.tree_board.specs.Reached.{names, SeenFile}
-use Rattle.tree_board.specs.Seen.{all_seen, seen_in, AreSourcesRead}
-use Rattle.tree_board.proofs.Chained.{as_many, modules_within, name_of_file}
-use Rattle.tree_board.proofs.Shared.{same_file}
+use Rattle.ob_board.specs.Boards.{modules_of}
+use Rattle.ob_board.specs.Reached.{names, SeenFile}
+use Rattle.ob_board.specs.Seen.{all_seen, seen_in, AreSourcesRead}
+use Rattle.ob_board.proofs.Chained.{as_many, modules_within, name_of_file}
+use Rattle.ob_board.proofs.Shared.{same_file}
 use Rattle.ob_board.specs.Found.{IsFoundOf, PlainFound}
 use Rattle.ob_board.specs.Unresolved.{IsUnresolvedIn, IsUnresolvedOf, PlainUnresolved}
 

@@ -1,3 +1,7 @@
+pub mod BoardRows
+pub mod Chained
+pub mod Shared
+pub mod SeenFiles
 pub mod Identifiers
 pub mod Rowing
 pub mod Handing

@@ -15,7 +15,7 @@ use Rattle.ob_types.specs.World.{world, World}
 use Rattle.oscip_tree.proofs.TreeFiles.{there}
 use Rattle.oscip_tree.specs.declared.source.Source.{Source}
 use Rattle.scip_index.specs.Plain.{PlainIndex, PlainSymbol}
-use Rattle.tree_board.specs.Reached.{names, seen_of, SeenFile}
+use Rattle.ob_board.specs.Reached.{names, seen_of, SeenFile}
 use Rattle.ob_board.specs.Entries.{AreEntriesOf, IsEntry, PlainEntry}
 use Rattle.ob_board.specs.Indexes.{AreTreeEntries, IsIndex, IsIndexOf, IsMadeOf}
 use Rattle.ob_board.specs.Resolved.{AreResolved}

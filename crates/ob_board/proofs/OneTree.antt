@@ -9,7 +9,7 @@ use Rattle.oscip_tree.proofs.SameFiles.{one_rows}
 use Rattle.oscip_tree.proofs.TreeFiles.{same_maps, there}
 use Rattle.oscip_tree.specs.Trees.{rows, AreAccepted, IsAccepted, ModuleFile}
 use Rattle.oscip_tree.specs.declared.source.Source.{Source}
-use Rattle.tree_board.specs.Reached.{marked_interfaces, names, seen_of, AreReachedInterfaces, ReachesName, SeenFile}
+use Rattle.ob_board.specs.Reached.{marked_interfaces, names, seen_of, AreReachedInterfaces, ReachesName, SeenFile}
 
 same_seen : (s : Source) (a b : ModuleFile) → IsAccepted s a → IsAccepted s b → seen_of a ≡ seen_of b
 same_seen s a b h k =

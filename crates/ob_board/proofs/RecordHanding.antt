@@ -24,9 +24,9 @@ use Rattle.scip_index.specs.Plain.{plain_metadata, plain_symbol, PlainDocument, 
 use Rattle.scip_index.specs.Written.{document_part}
 use Rattle.work_board.specs.Graphs.{row_at}
 use Rattle.board_workers.specs.Parts.{AreEntries as AreAtBoard}
-use Rattle.tree_board.specs.Boards.{modules_of}
-use Rattle.tree_board.specs.Reached.{names, SeenFile}
-use Rattle.tree_board.specs.Seen.{all_seen, seen_in, AreSourcesRead}
+use Rattle.ob_board.specs.Boards.{modules_of}
+use Rattle.ob_board.specs.Reached.{names, SeenFile}
+use Rattle.ob_board.specs.Seen.{all_seen, seen_in, AreSourcesRead}
 use Rattle.ob_board.specs.Entries.{IsEntryOf, PlainEntry}
 use Rattle.ob_board.specs.Found.{IsAtHand}
 use Rattle.ob_board.specs.Records.{documents_in, with_document, AreRecordsOf, AreTreeRecords, IsRecorded, IsRecordedOf, PlainRecorded}

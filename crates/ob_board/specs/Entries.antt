@@ -14,7 +14,7 @@ use Rattle.ob_types.specs.World.{world, World}
 use Rattle.oscip_tree.specs.declared.parts.ModuleParts.{ModuleParts}
 use Rattle.oscip_tree.specs.declared.source.Source.{Source}
 use Rattle.scip_index.specs.Plain.{plain_document, plain_symbol, PlainDocument, PlainSymbol}
-use Rattle.tree_board.specs.Reached.{interface_in, names, SeenFile}
+use Rattle.ob_board.specs.Reached.{interface_in, names, SeenFile}
 use Rattle.ob_board.specs.declared.entry.Entry.{Entry}
 use Rattle.ob_board.specs.Resolved.{AreResolved}
 

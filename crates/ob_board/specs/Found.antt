@@ -3,8 +3,8 @@ use Rattle.std.specs.Prelude.{◌≡◌, ℕ, List, Contains}
 use Rattle.ob_interface.specs.Interfaces.{ModuleInterface}
 use Rattle.oscip_tree.specs.declared.parts.ModuleParts.{ModuleParts}
 use Rattle.oscip_tree.specs.declared.source.Source.{Source}
-use Rattle.tree_board.specs.Reached.{interface_in, names, AreReachedInterfaces, SeenFile}
-use Rattle.tree_board.specs.Seen.{seen_in, IsSourceRead}
+use Rattle.ob_board.specs.Reached.{interface_in, names, AreReachedInterfaces, SeenFile}
+use Rattle.ob_board.specs.Seen.{seen_in, IsSourceRead}
 use Rattle.ob_board.specs.Unresolved.{IsUnresolvedIn, PlainUnresolved}
 
 pub record PlainFound : Type 0 where

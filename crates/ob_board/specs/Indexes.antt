@@ -5,7 +5,7 @@ use Rattle.ob_emit.specs.Externals.{AreExternals}
 use Rattle.oscip_tree.specs.Trees.{IsTree, ModuleFile}
 use Rattle.oscip_tree.specs.declared.source.Source.{Source}
 use Rattle.scip_index.specs.Plain.{PlainIndex, PlainMetadata}
-use Rattle.tree_board.specs.Reached.{seen_of, SeenFile}
+use Rattle.ob_board.specs.Reached.{seen_of, SeenFile}
 use Rattle.ob_board.specs.Entries.{AreEntriesOf, PlainEntry}
 
 -- made by this project, version 1, from files in UTF-8

@@ -1,3 +1,6 @@
+pub mod Boards
+pub mod Reached
+pub mod Seen
 pub mod Resolved
 pub mod Unresolved
 pub mod Found

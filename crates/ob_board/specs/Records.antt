@@ -13,7 +13,7 @@ use Rattle.std.specs.List.{flat_map}
 use Rattle.std.specs.String.{string_bytes}
 use Rattle.scip_index.specs.Plain.{PlainDocument, PlainSymbol}
 use Rattle.scip_index.specs.Written.{document_part}
-use Rattle.tree_board.specs.Reached.{SeenFile}
+use Rattle.ob_board.specs.Reached.{SeenFile}
 use Rattle.ob_board.specs.Entries.{AreEntriesOf, IsEntryOf, PlainEntry}
 use Rattle.ob_board.specs.Indexes.{AreTreeEntries}
 

@@ -5,7 +5,7 @@ use Rattle.ob_scope.specs.Scoped.{AreScopes, ModuleScopes}
 use Rattle.ob_targets.specs.declared.target.Reference.{Reference}
 use Rattle.ob_targets.specs.Refers.{AreReferences}
 use Rattle.ob_types.specs.World.{world}
-use Rattle.tree_board.specs.Reached.{names, AreReachedInterfaces, SeenFile}
+use Rattle.ob_board.specs.Reached.{names, AreReachedInterfaces, SeenFile}
 
 -- these are the references of a file's module: by its scopes, and by the interfaces of the modules of the tree that it reaches
 pub record AreResolved (files : List SeenFile) (file : SeenFile) (refs : List Reference) : Type 0 where

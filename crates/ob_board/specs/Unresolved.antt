@@ -9,7 +9,7 @@ use Rattle.ob_targets.specs.declared.target.Reference.{Reference}
 use Rattle.ob_targets.specs.Refers.{unresolved}
 use Rattle.oscip_tree.specs.Trees.{IsTree, ModuleFile}
 use Rattle.oscip_tree.specs.declared.source.Source.{Source}
-use Rattle.tree_board.specs.Reached.{seen_of, SeenFile}
+use Rattle.ob_board.specs.Reached.{seen_of, SeenFile}
 use Rattle.ob_board.specs.declared.unresolved.Unresolved.{Unresolved}
 use Rattle.ob_board.specs.Resolved.{AreResolved}
 

@@ -5,7 +5,7 @@ use std::marker::Brand;
 /// Names the files of a tree. The proofs of a call at `Brand` pick them.
 pub(crate) trait NamedFiles {
     ghost use Rattle.std.specs.Prelude.{List};
-    ghost use Rattle.tree_board.specs.Reached.{SeenFile};
+    ghost use Rattle.ob_board.specs.Reached.{SeenFile};
 
     ghost files: { List SeenFile };
 }

@@ -9,13 +9,14 @@ ghost use Rattle.ob_targets.specs.declared.target.Reference.{Reference};
 ghost use Rattle.ob_targets.specs.Refers.{unresolved, AreReferences};
 ghost use Rattle.ob_types.specs.Homes.{AreByName};
 ghost use Rattle.ob_types.specs.World.{world};
-ghost use Rattle.tree_board.specs.Seen.{all_seen, AreSourcesRead};
+ghost use Rattle.ob_board.specs.Seen.{all_seen, AreSourcesRead};
 ghost use Rattle.ob_board.specs.Entries.{interfaces_of};
 ghost use Rattle.ob_board.specs.Found.{IsAtHand};
 ghost use Rattle.ob_board.specs.Unresolved.{plain_unresolved};
 
 use crate::Unresolved;
 use crate::files::NamedFiles;
+use crate::laws::reached_by_names;
 use crate::module_types::module_types;
 use crate::rows::rows_of;
 use board_workers::Work;
@@ -28,7 +29,6 @@ use oscip_tree::{ModuleParts, Source};
 use std::alloc::{AllocError, Global};
 use std::marker::{Model, PhantomData};
 use std::sync::Arc;
-use tree_board::laws::reached_by_names;
 use work_board::WorkEntry;
 
 /// What is found of a module. The type names the tree.
@@ -169,7 +169,7 @@ impl<'a, F: NamedFiles> Model for Finding<'a, F> {
     ghost use Rattle.ob_types.specs.Homes.{AreByName};
     ghost use Rattle.std.specs.Bool.{OnTrue};
     ghost use Rattle.ob_board.specs.Entries.{interfaces_of};
-    ghost use Rattle.tree_board.specs.Seen.{all_seen, AreSourcesRead};
+    ghost use Rattle.ob_board.specs.Seen.{all_seen, AreSourcesRead};
 
     ghost Value = { ImportGraph };
 
@@ -205,7 +205,7 @@ impl<'a, F: NamedFiles> Finding<'a, F> {
 }
 
 impl<F: NamedFiles> Work for Finding<'_, F> {
-    ghost use Rattle.tree_board.specs.Boards.{modules_of};
+    ghost use Rattle.ob_board.specs.Boards.{modules_of};
 
     type Entry = Found<F>;
 

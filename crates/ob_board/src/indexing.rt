@@ -9,13 +9,13 @@ ghost use Rattle.ob_types.specs.Homes.{AreByName};
 ghost use Rattle.oscip_tree.specs.Trees.{IsTreeFault};
 ghost use Rattle.scip_index.specs.Plain.{plain_document, plain_index, plain_metadata, plain_symbol};
 ghost use Rattle.scip_symbol.specs.Outcomes.{is_wrong_part};
-ghost use Rattle.tree_board.specs.Seen.{all_seen, AreSourcesRead};
+ghost use Rattle.ob_board.specs.Seen.{all_seen, AreSourcesRead};
 ghost use Rattle.ob_board.specs.Entries.{interfaces_of, plain_entry, AreEntriesOf};
 ghost use Rattle.ob_board.specs.Indexes.{own_metadata, AreTreeEntries, IsIndex, IsMadeOf};
 
-use crate::Entry;
 use crate::made::{Made, Making};
 use crate::named_index::NamedIndex;
+use crate::{Entry, board_graph};
 use board_workers::BoardGate;
 use ob_emit::all_externals;
 use ob_interface::Interface;
@@ -26,7 +26,6 @@ use std::alloc::{AllocError, Global};
 use std::marker::Brand;
 use std::sync::{Arc, Wait};
 use std::thread::Threads;
-use tree_board::board_graph;
 
 /// What an index is told beside its tree: the package that its symbols name, and the root of the project.
 #[derive(Drop)]

@@ -1,9 +1,12 @@
-//! Laws of what is made of a tree: it is one, whoever makes it. Each function is a law: its body is empty, and its contract is proved.
+//! Laws of what is made of a tree: it is one, whoever makes it; and of the board of a tree. Each function is a law: its body is empty, and its contract is proved.
 ghost use Rattle.std.specs.Prelude.{◌≡◌, ℕ, List};
+ghost use Rattle.ob_imports.specs.Graphs.{ImportGraph};
+ghost use Rattle.ob_imports.specs.Outcomes.{AreFilesOfGraph};
 ghost use Rattle.oscip_tree.specs.declared.source.Source.{Source};
 ghost use Rattle.scip_index.specs.Plain.{PlainIndex};
 ghost use Rattle.ob_board.specs.Entries.{PlainEntry};
 ghost use Rattle.ob_board.specs.Indexes.{AreTreeEntries, IsIndex};
+ghost use Rattle.ob_board.specs.Reached.{files_of, ReachesAlike, SeenFile};
 ghost use Rattle.ob_board.specs.Unresolved.{AreUnresolved, PlainUnresolved};
 
 /// A tree, a package and a root have one index.
@@ -21,4 +24,9 @@ pub fn one_entries()
 /// A tree has one list of identifiers that stand for nothing.
 pub fn one_unresolved()
     ensures { (sources : List Source) (rows others : List PlainUnresolved) → AreUnresolved sources rows → AreUnresolved sources others → rows ≡ others }
+{}
+
+/// What a module of a tree reaches on the board by numbers is what it reaches in the files by names.
+pub fn reached_by_names()
+    ensures { (files : List SeenFile) (graph : ImportGraph) → AreFilesOfGraph (files_of files) graph → ReachesAlike files graph }
 {}

@@ -1,11 +1,12 @@
 //! What is made of a tree of Oberon-07 modules, module by module, each once all that it reaches is there.
-//! Stands on `tree_board` and `board_workers` for the order, on `oscip_tree` for the files, on `ob_types`, `ob_resolve` and `ob_emit` for each module.
+//! Stands on `work_board` and `board_workers` for the order, on `oscip_tree` for the files, on `ob_types`, `ob_resolve` and `ob_emit` for each module.
 //! Its contract: the index is exactly the tree's, for every number of workers and every gate; the identifiers that stand for nothing are the tree's.
 #![tactic(auto)]
 
 mod entry;
 mod files;
 mod found;
+mod graphs;
 mod indexing;
 pub mod laws;
 mod listing;
@@ -20,6 +21,7 @@ mod written;
 
 pub use board_workers::BoardGate;
 pub use entry::Entry;
+pub use graphs::board_graph;
 pub use indexing::{IndexOptions, entries, index_tree};
 pub use listing::unresolved_in_tree;
 pub use unresolved::Unresolved;

@@ -2,19 +2,18 @@
 ghost use Rattle.std.specs.Prelude.{◌≡◌, map, IfErr, IfOk};
 ghost use Rattle.std.specs.List.{flat_map};
 ghost use Rattle.oscip_tree.specs.Trees.{IsTreeFault};
-ghost use Rattle.tree_board.specs.Seen.{all_seen, AreSourcesRead};
+ghost use Rattle.ob_board.specs.Seen.{all_seen, AreSourcesRead};
 ghost use Rattle.ob_board.specs.Unresolved.{plain_unresolved, AreUnresolved, IsUnresolvedOf};
 
-use crate::Unresolved;
 use crate::files::NamedFiles;
 use crate::found::{Finding, Found};
 use crate::indexing::names_ascend;
+use crate::{Unresolved, board_graph};
 use board_workers::entries_alone;
 use oscip_tree::{Source, TreeFault, TreeParts, tree_parts};
 use std::alloc::{AllocError, Global};
 use std::marker::Brand;
 use std::thread::Threads;
-use tree_board::board_graph;
 
 /// The rows of all modules, one behind the other.
 fn joined<F: NamedFiles>(alloc: Global, all: Vec<Found<F>>) -> Result<Vec<Unresolved>, AllocError>

@@ -5,11 +5,12 @@ ghost use Rattle.std.specs.Bool.{OnTrue};
 ghost use Rattle.ob_scan.specs.Texts.{text_at};
 ghost use Rattle.ob_types.specs.Homes.{AreByName};
 ghost use Rattle.scip_symbol.specs.Outcomes.{is_wrong_part};
-ghost use Rattle.tree_board.specs.Seen.{all_seen, AreSourcesRead};
+ghost use Rattle.ob_board.specs.Seen.{all_seen, AreSourcesRead};
 ghost use Rattle.ob_board.specs.Entries.{interfaces_of, plain_entry, AreAllNamed};
 ghost use Rattle.ob_board.specs.Found.{IsAtHand};
 
 use crate::Entry;
+use crate::laws::reached_by_names;
 use crate::named_index::NamedIndex;
 use crate::written::{Written, write_module};
 use board_workers::Work;
@@ -19,7 +20,6 @@ use oscip_tree::{ModuleParts, Source};
 use std::alloc::{AllocError, Global};
 use std::marker::{Model, PhantomData};
 use std::sync::Arc;
-use tree_board::laws::reached_by_names;
 use work_board::WorkEntry;
 
 /// The entry of a module of the tree that the type names.
@@ -125,7 +125,7 @@ impl<'a, F: NamedIndex, E> Model for Making<'a, F, E> {
     ghost use Rattle.ob_types.specs.Homes.{AreByName};
     ghost use Rattle.scip_symbol.specs.Outcomes.{is_wrong_part};
     ghost use Rattle.std.specs.Bool.{OnTrue};
-    ghost use Rattle.tree_board.specs.Seen.{all_seen, AreSourcesRead};
+    ghost use Rattle.ob_board.specs.Seen.{all_seen, AreSourcesRead};
     ghost use Rattle.ob_board.specs.Entries.{interfaces_of};
 
     ghost Value = { ImportGraph };
@@ -168,7 +168,7 @@ impl<'a, F: NamedIndex, E> Making<'a, F, E> {
 }
 
 impl<F: NamedIndex> Work for Making<'_, F, Made<F>> {
-    ghost use Rattle.tree_board.specs.Boards.{modules_of};
+    ghost use Rattle.ob_board.specs.Boards.{modules_of};
 
     type Entry = Made<F>;
 

@@ -5,7 +5,7 @@ use std::marker::Brand;
 /// Names the files of a tree, and the package of its symbols. The proofs of a call at `Brand` pick them.
 pub(crate) trait NamedIndex {
     ghost use Rattle.std.specs.Prelude.{ℕ, List};
-    ghost use Rattle.tree_board.specs.Reached.{SeenFile};
+    ghost use Rattle.ob_board.specs.Reached.{SeenFile};
 
     ghost files: { List SeenFile };
 

@@ -10,6 +10,7 @@ ghost use Rattle.scip_symbol.specs.Outcomes.{is_wrong_part};
 ghost use Rattle.ob_board.specs.Entries.{AreAllNamed};
 ghost use Rattle.ob_board.specs.Found.{IsAtHand};
 
+use crate::laws::reached_by_names;
 use crate::made::Making;
 use crate::named_index::NamedIndex;
 use crate::written::{WrittenRecord, record_module};
@@ -20,7 +21,6 @@ use scip_index::SymbolInfo;
 use std::alloc::{AllocError, Global};
 use std::marker::{Model, PhantomData};
 use std::sync::Arc;
-use tree_board::laws::reached_by_names;
 use work_board::WorkEntry;
 
 /// The entry of a module of the tree that the type names, with the record of its document.
@@ -122,7 +122,7 @@ fn recorded_in<F: NamedIndex>(
 }
 
 impl<F: NamedIndex> Work for Making<'_, F, Recorded<F>> {
-    ghost use Rattle.tree_board.specs.Boards.{modules_of};
+    ghost use Rattle.ob_board.specs.Boards.{modules_of};
 
     type Entry = Recorded<F>;
 

@@ -7,17 +7,17 @@ ghost use Rattle.ob_emit.specs.Externals.{AreExternalRows, AreExternals};
 ghost use Rattle.oscip_tree.specs.Trees.{IsTreeFault};
 ghost use Rattle.scip_index.specs.Plain.{plain_metadata, plain_symbol};
 ghost use Rattle.scip_symbol.specs.Outcomes.{is_wrong_part};
-ghost use Rattle.tree_board.specs.Seen.{all_seen, AreSourcesRead};
+ghost use Rattle.ob_board.specs.Seen.{all_seen, AreSourcesRead};
 ghost use Rattle.ob_board.specs.Indexes.{own_metadata};
 ghost use Rattle.ob_board.specs.Records.{AreRecordsOf, AreTreeRecords};
 ghost use Rattle.ob_board.specs.WrittenIndexes.{IsWrittenIndex};
 
-use crate::IndexOptions;
 use crate::indexing::{metadata, names_ascend};
 use crate::made::Making;
 use crate::named_index::NamedIndex;
 use crate::recorded::Recorded;
 use crate::written::WrittenRecord;
+use crate::{IndexOptions, board_graph};
 use board_workers::BoardGate;
 use ob_emit::all_externals;
 use oscip_tree::{Source, TreeFault, TreeParts, tree_parts};
@@ -26,7 +26,6 @@ use std::alloc::{AllocError, Global};
 use std::marker::Brand;
 use std::sync::Wait;
 use std::thread::Threads;
-use tree_board::board_graph;
 
 /// An index (scip.proto, `Index`) in its parts.
 #[derive(Drop)]

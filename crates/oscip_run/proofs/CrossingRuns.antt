@@ -3,7 +3,7 @@ use Rattle.std.proofs.Common.{ℕ, List, Option, Err, map, refl, inr}
 use Rattle.byte_sink.specs.declared.sink.SinkFault.{SinkFault}
 use Rattle.byte_sink.specs.declared.sink.SinkFault.TheVariants as sink
 use Rattle.byte_sink.specs.Sinks.{AppendsFront}
-use Rattle.oscip_query.specs.Lines.{place_lines}
+use Rattle.index_store.specs.Lines.{place_lines}
 use Rattle.oscip_run.specs.CrossingRuns.{place_in_file, IsCrossingsRun, IsUsesText}
 use Rattle.oscip_run.specs.Faults.{of_sink}
 use Rattle.oscip_tree.specs.Crossings.{AreUses}

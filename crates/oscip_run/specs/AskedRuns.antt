@@ -5,10 +5,10 @@ use Rattle.index_store.specs.declared.place.Position.{Position}
 use Rattle.oscip_job.specs.declared.job.Job.{Job}
 use Rattle.oscip_job.specs.declared.job.Job.TheVariants.{Cut, Check, Crossings, CutNet, CheckNet, Dot, DotNet, Def, Refs, Index, Unresolved}
 use Rattle.oscip_job.specs.declared.job.Question.{Question}
-use Rattle.oscip_query.specs.Asking.{IsQueryRun}
-use Rattle.oscip_query.specs.declared.asking.Which.{Which}
-use Rattle.oscip_query.specs.declared.asking.Which.TheVariants.{Definitions, References}
-use Rattle.oscip_query.specs.declared.fault.QueryFault.{QueryFault}
+use Rattle.index_store.specs.Asking.{IsQueryRun}
+use Rattle.index_store.specs.declared.asking.Which.{Which}
+use Rattle.index_store.specs.declared.asking.Which.TheVariants.{Definitions, References}
+use Rattle.index_store.specs.declared.query_fault.QueryFault.{QueryFault}
 use Rattle.oscip_run.specs.declared.fault.RunFault.{RunFault}
 use Rattle.oscip_run.specs.Faults.{of_query}
 

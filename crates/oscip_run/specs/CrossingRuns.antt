@@ -8,7 +8,7 @@ use Rattle.cut_solve.specs.declared.fault.SolveFault.TheVariants as solve
 use Rattle.index_store.specs.Queries.{PlainPlace}
 use Rattle.oscip_job.specs.declared.job.Job.{Job}
 use Rattle.oscip_job.specs.declared.job.Job.TheVariants.{Cut, Check, Crossings, CutNet, CheckNet, Dot, DotNet, Def, Refs, Index, Unresolved}
-use Rattle.oscip_query.specs.Lines.{place_lines}
+use Rattle.index_store.specs.Lines.{place_lines}
 use Rattle.oscip_run.specs.Runs.{IsRefusedTree}
 use Rattle.oscip_run.specs.declared.fault.RunFault.{RunFault}
 use Rattle.oscip_run.specs.declared.fault.RunFault.TheVariants.{CannotRead, CannotWrite, Tree, Net, Price, Report, Solve, Query, Device, Memory}

@@ -15,9 +15,9 @@ use Rattle.byte_sink.specs.declared.sink.SinkFault.TheVariants as sink
 use Rattle.cut_solve.specs.declared.fault.SolveFault.{SolveFault}
 use Rattle.cut_solve.specs.declared.fault.SolveFault.TheVariants as solve
 use Rattle.oscip_run.specs.declared.fault.RunFault.{RunFault}
-use Rattle.oscip_query.specs.Faults.{query_fault_text, query_status}
-use Rattle.oscip_query.specs.declared.fault.QueryFault.{QueryFault}
-use Rattle.oscip_query.specs.declared.fault.QueryFault.TheVariants as query
+use Rattle.index_store.specs.Faults.{query_fault_text, query_status}
+use Rattle.index_store.specs.declared.query_fault.QueryFault.{QueryFault}
+use Rattle.index_store.specs.declared.query_fault.QueryFault.TheVariants as query
 use Rattle.oscip_run.specs.declared.fault.RunFault.TheVariants.{CannotRead, CannotWrite, Tree, Net, Price, Report, Solve, Query, Device, Memory}
 use Rattle.oscip_tree.specs.declared.tree_fault.TreeFault.{TreeFault}
 use Rattle.oscip_tree.specs.TreeFaults.{after_space, tree_fault_text, wants_memory}

@@ -7,9 +7,8 @@ ghost use Rattle.oscip_run.specs.Faults.{is_device};
 
 use crate::RunFault;
 use byte_sink::Sink;
-use index_store::Position;
+use index_store::{Position, Which, query};
 use oscip_job::{Job, Question};
-use oscip_query::{Which, query};
 use std::alloc::Global;
 
 /// Puts the lines of the places that a question asks for.

@@ -7,7 +7,7 @@ use byte_sink::SinkFault;
 use cut_net::{NetFault, PriceFault};
 use cut_report::ReportFault;
 use cut_solve::SolveFault;
-use oscip_query::{QueryFault, query_fault_text, query_status};
+use index_store::{QueryFault, query_fault_text, query_status};
 use oscip_tree::{TreeFault, after_spaces, tree_fault_text, wants_memory};
 use std::alloc::{AllocError, Global};
 use thiserror::Error;

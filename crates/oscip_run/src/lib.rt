@@ -1,5 +1,5 @@
 //! Runs: the files and folders that a job names, from any reader, the engines that cut, check, draw and answer questions over any sink, and how a run ends.
-//! Stands on `oscip_job`, `oscip_tree`, `oscip_query` and the `cut_` crates, with `thiserror` for its faults.
+//! Stands on `oscip_job`, `oscip_tree`, `index_store` and the `cut_` crates, with `thiserror` for its faults.
 //! Its contract: what an engine puts is what the definitions say of its inputs, and nothing else; the inputs of a run are what the reader gave.
 #![tactic(auto)]
 

@@ -1,6 +1,6 @@
 //! Tests of the program's libraries, of what no command shows: sinks that fail at each put, gates at which workers meet, and fault
 //! lines that the program can't be brought to. What a command prints, tells and ends with stands in `rows/`.
-//! Stands on `oscip_job`, `oscip_tree`, `ob_board`, `oscip_index` and `oscip_run`, with the doubles that tests share.
+//! Stands on `oscip_job`, `oscip_tree`, `ob_board`, `oscip_run` and `index_run`, with the doubles that tests share.
 //! Its contract: none, since it has no function but tests.
 #![tactic(auto)]
 

@@ -6,9 +6,8 @@ ghost use Rattle.oscip_tree.specs.Sources.{ArePathsInOrder};
 ghost use Rattle.scip_symbol.specs.Outcomes.{is_wrong_part};
 
 use crate::inputs::{FOUR, ONE, THREE, TWO, WRONG, sources};
-use index_run::{OpenBoard, index_to};
+use index_run::{OpenBoard, index_to, put_index};
 use ob_board::{IndexOptions, index_tree};
-use oscip_index::put_index;
 use oscip_tree::{Source, in_order};
 use scip_index::Index;
 use std::alloc::{AllocError, Global};

@@ -1,3 +1,6 @@
+pub mod GraphLines
+pub mod GraphTables
+pub mod Ranked
 pub mod InOrder
 pub mod TreeOffsets
 pub mod TreeFiles

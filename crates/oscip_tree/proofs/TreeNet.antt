@@ -10,10 +10,10 @@ use Rattle.std.proofs.lemmas.Option.{get_or_from_slice_get, slice_get-get_or, sl
 use Rattle.std.proofs.lemmas.Slice.Eq.{bytes_eq-Decides}
 use Rattle.cut_net.specs.declared.priced.Priced.{Priced}
 use Rattle.texts.specs.Fields.{is_name}
-use Rattle.tree_net.specs.GraphNet.{graph_import, graph_lines, graph_weight, no_scopes, scopes_at}
+use Rattle.oscip_tree.specs.GraphNet.{graph_import, graph_lines, graph_weight, no_scopes, scopes_at}
 use Rattle.cut_net.specs.Network.{Network, name_of}
 use Rattle.cut_net.specs.NetText.{NetLine, Module, Import, AreMentioning, IsNetOf, Mentions}
-use Rattle.tree_net.proofs.GraphLines.{import_of_line}
+use Rattle.oscip_tree.proofs.GraphLines.{import_of_line}
 use Rattle.digraph.specs.declared.edge.Edge.{Edge}
 use Rattle.digraph.specs.Chains.{IsAcyclic}
 use Rattle.ob_imports.specs.Files.{DifferInName, File, Imports, IsNode, names_of}

@@ -1,3 +1,4 @@
+pub mod GraphNet
 pub mod Sources
 pub mod Trees
 pub mod Files

@@ -7,14 +7,13 @@ ghost use Rattle.oscip_tree.specs.Trees.{IsAccepted, IsNetOfTree, IsTreeFault, M
 ghost use Rattle.oscip_tree.specs.TreeReading.{AreFilesRead, AreScopesOf, IsTreeOf};
 
 use crate::files::read_files;
-use crate::{Source, TreeFault};
+use crate::{Source, TreeFault, net_of_graph};
 use cut_net::Net;
 use ob_imports::{Graph, Parsed, graph};
 use ob_scope::Scopes;
 use ob_scope::laws::{one_weight, weight_of_aliases};
 use std::alloc::{AllocError, Global};
 use std::thread::Threads;
-use tree_net::net_of_graph;
 
 /// The graph of the imports of a tree, and the scopes of its modules by their numbers there.
 #[derive(Drop)]

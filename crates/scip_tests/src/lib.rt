@@ -1,6 +1,6 @@
 //! Tests of symbols, of the wire format and of indexes, from outside, of what no command shows: what `def`, `refs` and `index` print
 //! stands in `rows/`.
-//! Stands on `scip_symbol`, `proto_wire`, `scip_index`, `index_store` and `oscip_query`, with `hex` for bytes as text, and on
+//! Stands on `scip_symbol`, `proto_wire`, `scip_index` and `index_store`, with `hex` for bytes as text, and on
 //! `test_doubles` for a sink that fails.
 //! Its contract: none; it has nothing but tests.
 #![tactic(auto)]

@@ -1,7 +1,6 @@
 //! What is put into a sink that takes one byte at a time and fails: records, the parts of an index, and the lines of an answer.
 use crate::bytes::MODULE;
-use index_store::Position;
-use oscip_query::{QueryFault, Which, query};
+use index_store::{Position, QueryFault, Which, query};
 use proto_wire::{WireFault, Writer};
 use scip_index::{Document, Index, IndexWriter, Metadata, from_bytes};
 use std::alloc::{AllocError, Global};

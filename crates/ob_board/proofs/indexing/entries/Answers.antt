@@ -1,6 +1,6 @@
 use Rattle.std.proofs.Common.{map}
 use Rattle.std.specs.String.{string_bytes}
-use Rattle.tree_board.proofs.SeenFiles.{parts_seen}
+use Rattle.ob_board.proofs.SeenFiles.{parts_seen}
 use Rattle.ob_board.specs.Entries.{plain_entry}
 use Rattle.ob_board.proofs.EntryHanding.{entries_told}
 use Rattle.ob_board.proofs.indexing.entries.Goals as goal

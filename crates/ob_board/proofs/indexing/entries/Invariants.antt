@@ -1,5 +1,5 @@
 use Rattle.std.specs.String.{string_bytes}
-use Rattle.tree_board.specs.Seen.{all_seen}
+use Rattle.ob_board.specs.Seen.{all_seen}
 use Rattle.ob_board.proofs.indexing.entries.Given as goal
 
 abbrev pub ghosts-entries_in : goal.ghosts-entries_in

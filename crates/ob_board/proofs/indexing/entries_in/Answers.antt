@@ -1,6 +1,6 @@
 use Rattle.std.proofs.Common.{List, sym, subst}
 use Rattle.std.proofs.lemmas.Result.{IfOk-weaker}
-use Rattle.tree_board.specs.Reached.{SeenFile}
+use Rattle.ob_board.specs.Reached.{SeenFile}
 use Rattle.ob_board.specs.Entries.{AreEntriesOf, IsEntryOf, PlainEntry}
 use Rattle.ob_board.proofs.EntryHanding.{entries_all}
 use Rattle.ob_board.proofs.Handing.{in_own}

@@ -1,7 +1,7 @@
 use Rattle.std.proofs.Common.{List, map, sym, subst}
 use Rattle.std.proofs.lemmas.Result.{IfOk-weaker}
-use Rattle.tree_board.specs.Reached.{SeenFile}
-use Rattle.tree_board.specs.Seen.{all_seen}
+use Rattle.ob_board.specs.Reached.{SeenFile}
+use Rattle.ob_board.specs.Seen.{all_seen}
 use Rattle.ob_board.specs.Found.{IsFoundOf}
 use Rattle.ob_board.specs.Unresolved.{plain_unresolved, IsUnresolvedOf, PlainUnresolved}
 use Rattle.ob_board.proofs.Handing.{found_all, in_own}

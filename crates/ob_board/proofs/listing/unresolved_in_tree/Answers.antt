@@ -1,6 +1,6 @@
 use Rattle.std.proofs.Common.{List, map, subst}
-use Rattle.tree_board.specs.Reached.{SeenFile}
-use Rattle.tree_board.proofs.SeenFiles.{parts_seen, seen_are}
+use Rattle.ob_board.specs.Reached.{SeenFile}
+use Rattle.ob_board.proofs.SeenFiles.{parts_seen, seen_are}
 use Rattle.ob_board.specs.Unresolved.{plain_unresolved, IsUnresolvedOf}
 use Rattle.ob_board.proofs.listing.unresolved_in_tree.Goals as goal
 

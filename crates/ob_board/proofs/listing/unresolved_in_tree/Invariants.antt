@@ -1,4 +1,4 @@
-use Rattle.tree_board.specs.Seen.{all_seen}
+use Rattle.ob_board.specs.Seen.{all_seen}
 use Rattle.ob_board.proofs.listing.unresolved_in_tree.Given as goal
 
 abbrev pub ghosts-listed : goal.ghosts-listed

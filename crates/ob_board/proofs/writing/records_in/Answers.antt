@@ -2,7 +2,7 @@ use Rattle.std.proofs.Common.{ℕ, List, map, sym, subst}
 use Rattle.std.specs.Global.{Vec}
 use Rattle.std.specs.List.{flat_map}
 use Rattle.scip_index.specs.Plain.{plain_symbol}
-use Rattle.tree_board.specs.Reached.{SeenFile}
+use Rattle.ob_board.specs.Reached.{SeenFile}
 use Rattle.ob_board.specs.Records.{AreRecordsOf, IsRecordedOf, PlainRecorded}
 use Rattle.ob_board.proofs.Handing.{in_own}
 use Rattle.ob_board.proofs.RecordHanding.{gathered, records_all}

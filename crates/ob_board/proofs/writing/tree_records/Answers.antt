@@ -2,7 +2,7 @@ use Rattle.std.proofs.Common.{ℕ, map}
 use Rattle.std.specs.Global.{Vec}
 use Rattle.std.specs.String.{string_bytes}
 use Rattle.scip_index.specs.Plain.{plain_symbol}
-use Rattle.tree_board.proofs.SeenFiles.{parts_seen}
+use Rattle.ob_board.proofs.SeenFiles.{parts_seen}
 use Rattle.ob_board.proofs.RecordHanding.{records_told}
 use Rattle.ob_board.proofs.writing.tree_records.Goals as goal
 

@@ -1,5 +1,5 @@
 use Rattle.std.specs.String.{string_bytes}
-use Rattle.tree_board.specs.Seen.{all_seen}
+use Rattle.ob_board.specs.Seen.{all_seen}
 use Rattle.ob_board.proofs.writing.tree_records.Given as goal
 
 abbrev pub ghosts-records_in : goal.ghosts-records_in

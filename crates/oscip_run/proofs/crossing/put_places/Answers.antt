@@ -2,7 +2,7 @@ use Rattle.std.proofs.Common.{List, map, ap, subst, ◌∙◌}
 use Rattle.std.proofs.lemmas.Result.{err_from_is_err_and}
 use Rattle.byte_sink.specs.Sinks.{AppendsFront}
 use Rattle.index_store.specs.Queries.{plain_place, PlainPlace}
-use Rattle.oscip_query.specs.Lines.{place_lines}
+use Rattle.index_store.specs.Lines.{place_lines}
 use Rattle.oscip_run.specs.CrossingRuns.{place_in_file}
 use Rattle.oscip_run.proofs.CrossingRuns.{broken, uses_text}
 use Rattle.oscip_run.proofs.crossing.put_places.Goals as goal

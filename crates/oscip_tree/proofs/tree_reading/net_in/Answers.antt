@@ -3,7 +3,7 @@ use Rattle.std.proofs.lemmas.List.{length-map}
 use Rattle.std.proofs.lemmas.Result.{IfOk-weaker}
 use Rattle.cut_net.specs.NetText.{IsNetOf}
 use Rattle.ob_scope.specs.Scoped.{ModuleScopes}
-use Rattle.tree_net.specs.GraphNet.{graph_lines}
+use Rattle.oscip_tree.specs.GraphNet.{graph_lines}
 use Rattle.oscip_tree.specs.Trees.{file_of}
 use Rattle.oscip_tree.proofs.TreeNet.{names_named, net_of_tree}
 use Rattle.oscip_tree.proofs.tree_reading.net_in.Goals as goal

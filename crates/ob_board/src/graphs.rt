@@ -1,0 +1,60 @@
+//! The graph of a board, of the graph of imports of a tree.
+ghost use Rattle.std.specs.Prelude.{◌≡◌, ◌<◌, length, map, take, IfOk};
+ghost use Rattle.std.specs.String.{string_bytes};
+ghost use Rattle.work_board.specs.Graphs.{lists, IsAcyclic};
+ghost use Rattle.ob_board.specs.Boards.{modules_of, rows_below, tree_imports};
+
+use ob_imports::Graph;
+use std::alloc::{AllocError, Global};
+
+/// The names of the modules of the tree.
+fn names_of(alloc: Global, graph: &Graph) -> Result<Vec<String>, AllocError>
+    ensures { IfOk result (λ names. map string_bytes names.items ≡ take graph.now.modules graph.now.names) }
+{
+    graph.keeps();
+    let mut names = Vec::new(alloc);
+    for node in 0..graph.modules() {
+        names.push(String::from_str(alloc, graph.name(node))?)?;
+    }
+    Ok(names)
+}
+
+/// The modules of the tree that a module imports.
+fn row_of(alloc: Global, graph: &Graph, node: u32) -> Result<Vec<u32>, AllocError>
+    requires { node < length graph.now.names }
+    ensures { IfOk result (λ row. row.items ≡ tree_imports graph.now node) }
+{
+    let modules = graph.modules();
+    let mut row = Vec::new(alloc);
+    for import in graph.imports_of(node) {
+        if *import < modules {
+            row.push(*import)?;
+        }
+    }
+    Ok(row)
+}
+
+/// What the modules of the tree import of each other.
+fn rows_of(alloc: Global, graph: &Graph) -> Result<Vec<Vec<u32>>, AllocError>
+    ensures { IfOk result (λ rows. lists rows.items ≡ rows_below graph.now graph.now.modules) }
+{
+    graph.keeps();
+    let mut rows = Vec::new(alloc);
+    for node in 0..graph.modules() {
+        rows.push(row_of(alloc, graph, node)?)?;
+    }
+    Ok(rows)
+}
+
+/// The modules of the tree of a graph of imports, by their numbers there, with their imports of each other. No chain of these
+/// comes back.
+pub fn board_graph(alloc: Global, graph: &Graph) -> Result<work_board::Graph, AllocError>
+    ensures graph { IfOk result (λ board. board ≡ modules_of graph.now) }
+    ensures acyclic { IfOk result (λ board. IsAcyclic board.imports) }
+{
+    graph.keeps();
+    let names = names_of(alloc, graph)?;
+    let rows = rows_of(alloc, graph)?;
+    let board = work_board::Graph::new(alloc, names, rows)?;
+    Ok(board)
+}

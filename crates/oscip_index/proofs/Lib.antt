@@ -1,2 +1,0 @@
-pub mod InRow
-pub mod Documents

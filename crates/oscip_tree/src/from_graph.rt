@@ -1,0 +1,110 @@
+//! The network of a graph of imports and of the scopes of its modules.
+ghost use Rattle.std.specs.Prelude.{◌≡◌, ◌<◌, ◌++◌, true, All, IfOk, List, OnOk, length, map, ℕ};
+ghost use Rattle.ob_imports.specs.Graphs.{imported, name_of};
+ghost use Rattle.ob_scope.specs.Weights.{uses_across};
+ghost use Rattle.texts.specs.Fields.{is_name};
+ghost use Rattle.cut_net.specs.Network.{texts};
+ghost use Rattle.cut_net.specs.NetText.{IsNetOf};
+ghost use Rattle.oscip_tree.specs.GraphNet.{entry_to, graph_entry, graph_lines, ranked, sum_in, AreLight};
+
+use cut_net::{Net, Priced, put_in_order};
+use digraph::ranks_of;
+use indexmap::IndexMap;
+use ob_imports::Graph;
+use ob_scope::Scopes;
+use std::alloc::{AllocError, Global};
+
+/// Per imported module how many uses all its aliases qualify.
+fn sums_of<'a>(alloc: Global, scopes: &'a Scopes) -> Result<IndexMap<&'a str, u64>, AllocError>
+    ensures { IfOk result (λ sums. (name : List ℕ) → sum_in sums name ≡ uses_across scopes.now.aliases name) }
+{
+    scopes.keeps();
+    let mut sums = IndexMap::new(alloc);
+    for alias in scopes.aliases() {
+        let name = alias.module.as_str();
+        let before = sums.get(name).copied().unwrap_or(0);
+        sums.insert(name, before + scopes.qualified_uses(alias.decl))?;
+    }
+    Ok(sums)
+}
+
+fn sum_of(sums: &IndexMap<&str, u64>, name: &str) -> u64
+    ensures { result ≡ sum_in sums.now name.now }
+{
+    sums.get(name).copied().unwrap_or(0)
+}
+
+/// Puts the imports of a module behind the others, by the ranks of their modules.
+fn add_imports(
+    alloc: Global,
+    graph: &Graph,
+    scopes: &Scopes,
+    from: u32,
+    ranks: &[u32],
+    imports: &mut Vec<Priced>,
+) -> Result<(), AllocError>
+    requires known { from < length graph.now.names }
+    requires all_ranked { length ranks.now ≡ length graph.now.names }
+    ensures last { OnOk result (imports.new.items ≡ imports.old.items ++ map (ranked ranks.now) (map (entry_to graph.now scopes.now from) (imported graph.now.pairs from))) }
+{
+    graph.keeps();
+    let sums = sums_of(alloc, scopes)?;
+    for to in graph.imports_of(from) {
+        let amount = sum_of(&sums, graph.name(*to));
+        imports.push(Priced {
+            from: ranks[from as usize],
+            to: ranks[*to as usize],
+            amount,
+        })?;
+    }
+    Ok(())
+}
+
+/// The imports of the graph, by the ranks of their modules, with their weights.
+fn imports_with(
+    alloc: Global,
+    graph: &Graph,
+    scopes: &[Scopes],
+    ranks: &[u32],
+) -> Result<Vec<Priced>, AllocError>
+    requires as_many { length scopes.now ≡ graph.now.modules }
+    requires all_ranked { length ranks.now ≡ length graph.now.names }
+    ensures entries { IfOk result (λ imports. imports.items ≡ map (ranked ranks.now) (map (graph_entry graph.now scopes.now) graph.now.pairs)) }
+    ensures light { IfOk result (λ _. AreLight (map (graph_entry graph.now scopes.now) graph.now.pairs)) }
+{
+    graph.keeps();
+    let mut imports = Vec::new(alloc);
+    for from in 0..graph.modules() {
+        let own = &scopes[from as usize];
+        own.keeps();
+        add_imports(alloc, graph, own, from, ranks, &mut imports)?;
+    }
+    Ok(imports)
+}
+
+/// The names of modules of the graph, by their numbers there.
+fn names_at(alloc: Global, graph: &Graph, nodes: &[u32]) -> Result<Vec<String>, AllocError>
+    requires { All (λ v. v < length graph.now.names) nodes.now }
+    ensures { IfOk result (λ names. texts names.items ≡ map (name_of graph.now) nodes.now) }
+{
+    let mut names = Vec::new(alloc);
+    for node in nodes {
+        names.push(String::from_str(alloc, graph.name(*node))?)?;
+    }
+    Ok(names)
+}
+
+/// The network of a graph of imports, as `FromGraph` says; an error is want of memory.
+pub fn net_of_graph(alloc: Global, graph: &Graph, scopes: &[Scopes]) -> Result<Net, AllocError>
+    requires as_many { length scopes.now ≡ graph.now.modules }
+    requires named { All (λ n. is_name n ≡ true) graph.now.names }
+    ensures { IfOk result (IsNetOf (graph_lines graph.now scopes.now)) }
+{
+    graph.keeps();
+    let order = graph.by_name();
+    let ranks = ranks_of(alloc, order)?;
+    let names = names_at(alloc, graph, order)?;
+    let mut imports = imports_with(alloc, graph, scopes, ranks.as_slice())?;
+    put_in_order(&mut imports);
+    Ok(Net::of(alloc, names, imports))
+}

@@ -1,4 +1,0 @@
-pub mod Rows
-pub mod Chained
-pub mod Shared
-pub mod SeenFiles

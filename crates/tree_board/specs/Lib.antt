@@ -1,3 +1,0 @@
-pub mod Boards
-pub mod Reached
-pub mod Seen

@@ -1,3 +1,0 @@
-pub mod GraphLines
-pub mod GraphTables
-pub mod Ranked
