@@ -1,33 +1,14 @@
-//! From texts to trees and tables.
-ghost use Rattle.std.specs.Prelude.{◌<◌, ◌^◌, length, IfOk, Ok};
-ghost use Rattle.ob_parse.specs.Parsed.{IsTheTree};
-ghost use Rattle.ob_scan.specs.Spelling.{IsOutcome};
-ghost use Rattle.ob_tree.specs.Derives.{spelling};
+//! From texts to tables.
 
-use ob_decls::{Table, table_of};
-use ob_parse::{ParseFault, parse};
-use ob_scan::{Tokens, scan};
-use ob_tree::declaration::Module;
+use ob_decls::Table;
+use ob_scan::scan;
+use ob_table::read_table;
 use std::alloc::Global;
 use std::test::Fail;
-
-/// The tree of tokens.
-pub(crate) fn parsed(alloc: Global, text: &[u8], tokens: &Tokens) -> Result<Box<Module>, ParseFault>
-    requires { IsOutcome text.now (Ok tokens.now) }
-    ensures tree { IfOk result (λ tree. IsTheTree text.now tokens.now tree.value) }
-    ensures few { IfOk result (λ tree. length (spelling tree.value) < 2 ^ 32) }
-{
-    let tree = parse(alloc, text, tokens)?;
-    match Box::new(alloc, tree) {
-        Ok(tree) => Ok(tree),
-        Err(_) => Err(ParseFault::Memory),
-    }
-}
 
 /// The table of a text.
 pub(crate) fn table_in(alloc: Global, text: &[u8]) -> Result<Box<Table>, Fail> {
     let tokens = scan(alloc, text)?;
-    let tree = parsed(alloc, text, &tokens)?;
-    let table = table_of(alloc, &tree)?;
+    let table = read_table(alloc, text, &tokens)?;
     Ok(Box::new(alloc, table)?)
 }

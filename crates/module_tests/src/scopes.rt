@@ -1,13 +1,10 @@
-//! Texts, each with the scopes of its module, or the first two of one name; and packages, in which a module has a document or none.
-use crate::asked::Asked::{ByTree, Meanings, Package};
+//! Texts, each with the scopes of its module, or the first two of one name.
+use crate::asked::Asked::{ByTree, Meanings};
 use crate::asked::{Row, are_told};
 use crate::readings::{parsed, table_in};
-use ob_emit::document;
-use ob_emit::laws::names_of_scopes;
 use ob_scan::laws::tokens_in_text;
 use ob_scan::scan;
 use ob_scope::{Scopes, scopes_from};
-use ob_types::Types;
 use std::alloc::{AllocError, Global};
 use std::test::Fail;
 
@@ -118,15 +115,6 @@ const ROWS: &[Row] = &[
         ByTree(b"MODULE M; IMPORT B; BEGIN B.x END M."),
         "M, 4 B; 4 qualifies 1; 7 means 4",
     ),
-    (Package(b"MODULE M; END M.", "x "), "a document"),
-    (
-        Package(b"MODULE M; END M.", " x"),
-        "the package is '.' or begins with a space",
-    ),
-    (
-        Package(b"MODULE M; END M.", "."),
-        "the package is '.' or begins with a space",
-    ),
 ];
 
 /// Tells what a token means, and how many names it qualifies.
@@ -169,23 +157,6 @@ pub(crate) fn told_by_tree(alloc: Global, text: &[u8]) -> Result<String, Fail> {
     let tree = parsed(alloc, text, &tokens)?;
     let scopes = ob_scope::scopes(alloc, &tree, &tokens, text)?;
     Ok(told_of_scopes(alloc, &scopes, tokens.len() as u32)?)
-}
-
-pub(crate) fn told_document(
-    alloc: Global,
-    text: &[u8],
-    package_name: &str,
-) -> Result<String, Fail> {
-    tokens_in_text();
-    names_of_scopes();
-    let tokens = scan(alloc, text)?;
-    let table = table_in(alloc, text)?;
-    let scopes = scopes_from(alloc, &table, tokens.as_slice(), text)?;
-    let types = Types::new(alloc, text, tokens.as_slice(), &table, &scopes, &[])?;
-    match document(alloc, "M.Mod", &types, &[], package_name) {
-        Ok(_) => Ok(String::from_str(alloc, "a document")?),
-        Err(fault) => Ok(format!(in alloc; "{fault}")?),
-    }
 }
 
 #[test]

@@ -1,0 +1,24 @@
+//! Tests of what is said of one module by itself, its tokens, tree, table and scopes, from outside: of what no command shows. What a command
+//! prints, tells and ends with stands in `rows/`.
+//! Stands on `ob_scan`, `ob_tree`, `ob_decls`, `ob_parse`, `ob_table`, `ob_scope` and `ob_types`.
+//! Its contract: none; it has nothing but tests.
+#![tactic(auto)]
+
+#[cfg(test)]
+mod asked;
+#[cfg(test)]
+mod passes;
+#[cfg(test)]
+mod readings;
+#[cfg(test)]
+mod scopes;
+#[cfg(test)]
+mod searches;
+#[cfg(test)]
+mod tables;
+#[cfg(test)]
+mod tokens;
+#[cfg(test)]
+mod trees;
+#[cfg(test)]
+mod walks;

@@ -1,0 +1,46 @@
+//! Packages, in which a module has a document or none.
+use crate::asked::Asked::Package;
+use crate::asked::{Row, are_told};
+use crate::readings::table_in;
+use ob_emit::document;
+use ob_emit::laws::names_of_scopes;
+use ob_scan::laws::tokens_in_text;
+use ob_scan::scan;
+use ob_scope::scopes_from;
+use ob_types::Types;
+use std::alloc::Global;
+use std::test::Fail;
+
+const ROWS: &[Row] = &[
+    (Package(b"MODULE M; END M.", "x "), "a document"),
+    (
+        Package(b"MODULE M; END M.", " x"),
+        "the package is '.' or begins with a space",
+    ),
+    (
+        Package(b"MODULE M; END M.", "."),
+        "the package is '.' or begins with a space",
+    ),
+];
+
+pub(crate) fn told_document(
+    alloc: Global,
+    text: &[u8],
+    package_name: &str,
+) -> Result<String, Fail> {
+    tokens_in_text();
+    names_of_scopes();
+    let tokens = scan(alloc, text)?;
+    let table = table_in(alloc, text)?;
+    let scopes = scopes_from(alloc, &table, tokens.as_slice(), text)?;
+    let types = Types::new(alloc, text, tokens.as_slice(), &table, &scopes, &[])?;
+    match document(alloc, "M.Mod", &types, &[], package_name) {
+        Ok(_) => Ok(String::from_str(alloc, "a document")?),
+        Err(fault) => Ok(format!(in alloc; "{fault}")?),
+    }
+}
+
+#[test]
+fn a_package_has_documents_or_is_none(rt: HostRuntime) -> Result<(), Fail> {
+    are_told(&rt, ROWS)
+}
