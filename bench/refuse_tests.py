@@ -7,7 +7,7 @@ that couldn't be started is missing. Where events are tried in turn, the one tha
 the same way after another number of steps.
 
 bench/refuse_tests.py [MOST] PROGRAM ..: programs of tests, as `rt test` leaves them in crates/NAME/out/NAME_tests. With MOST at most so
-many allocations of each test are refused, spread evenly.
+many allocations of each test are refused, spread evenly. As many tests are tried at once as there are processors.
 """
 import os
 import re
@@ -15,6 +15,7 @@ import signal
 import subprocess
 import sys
 import tempfile
+from concurrent.futures import ThreadPoolExecutor
 
 HERE = os.path.dirname(os.path.realpath(__file__))
 WANTS = re.compile(rb"\b(Memory|AllocError|AllocFailed|Refused|memory ran out)\b")
@@ -81,18 +82,24 @@ def tried(program, test, shim, folder, most):
     return counts.get(ANOTHER, 0)
 
 
+def tests_of(program):
+    listed = subprocess.run([program, "--list"], stdout=subprocess.PIPE, text=True, check=True).stdout
+    return [(program, test) for test in re.findall(r"^(\S+): test$", listed, re.MULTILINE)]
+
+
 def main(words):
     most = int(words[0]) if words[0].isdigit() else 0
     programs = words[1:] if most else words
-    wrong = 0
-    with tempfile.TemporaryDirectory() as folder:
+    with tempfile.TemporaryDirectory() as folder, ThreadPoolExecutor(len(os.sched_getaffinity(0))) as pool:
         shim = f"{folder}/refuse.so"
         subprocess.run(["gcc", "-shared", "-fPIC", "-O1", "-o", shim, f"{HERE}/refuse.c", "-ldl"], check=True)
-        for program in map(os.path.realpath, programs):
-            listed = subprocess.run([program, "--list"], stdout=subprocess.PIPE, text=True, check=True).stdout
-            for test in re.findall(r"^(\S+): test$", listed, re.MULTILINE):
-                wrong += tried(program, test, shim, folder, most)
-    return 1 if wrong else 0
+
+        def wrong_in(asked):
+            with tempfile.TemporaryDirectory(dir=folder) as own:
+                return tried(*asked, shim, own, most)
+
+        asked = [it for program in map(os.path.realpath, programs) for it in tests_of(program)]
+        return 1 if sum(pool.map(wrong_in, asked)) else 0
 
 
 if __name__ == "__main__":

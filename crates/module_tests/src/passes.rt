@@ -4,8 +4,9 @@ ghost use Rattle.std.specs.Prelude.{Ok};
 ghost use Rattle.ob_scan.specs.Spelling.{IsOutcome};
 
 use crate::readings::parsed;
-use ob_decls::{Table, table_of};
+use ob_decls::table_of;
 use ob_parse::ParseFault;
+use ob_rows::Table;
 use ob_scan::{ScanFault, Token, Tokens, scan};
 use ob_table::read_table;
 use std::alloc::{AllocError, Global};

@@ -4,8 +4,9 @@ ghost use Rattle.ob_parse.specs.Parsed.{IsTheTree};
 ghost use Rattle.ob_scan.specs.Spelling.{IsOutcome};
 ghost use Rattle.ob_tree.specs.Derives.{spelling};
 
-use ob_decls::{Table, table_of};
+use ob_decls::table_of;
 use ob_parse::{ParseFault, parse};
+use ob_rows::Table;
 use ob_scan::{Tokens, scan};
 use ob_tree::declaration::Module;
 use std::alloc::Global;

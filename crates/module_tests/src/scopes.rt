@@ -155,7 +155,7 @@ pub(crate) fn told_by_tree(alloc: Global, text: &[u8]) -> Result<String, Fail> {
     let tokens = scan(alloc, text)?;
     tokens_in_text();
     let tree = parsed(alloc, text, &tokens)?;
-    let scopes = ob_scope::scopes(alloc, &tree, &tokens, text)?;
+    let scopes = oscip_tree::scopes(alloc, &tree, &tokens, text)?;
     Ok(told_of_scopes(alloc, &scopes, tokens.len() as u32)?)
 }
 

@@ -7,7 +7,8 @@ use crate::asked::{Row, are_told};
 use crate::readings::parsed;
 use ob_scan::scan;
 use ob_tree::declaration::Module;
-use ob_tree::walkers::{declarations, endings, uses, yield_of};
+use ob_tree::walkers::endings;
+use ob_walk::{declarations, uses, yield_of};
 use std::alloc::{AllocError, Global};
 use std::test::Fail;
 

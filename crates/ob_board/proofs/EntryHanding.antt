@@ -12,7 +12,7 @@ use Rattle.digraph.proofs.Members.{first_or_later}
 use Rattle.ob_emit.specs.Externals.{AreExternalRows}
 use Rattle.ob_emit.specs.Named.{HasNames}
 use Rattle.ob_emit.proofs.NamesGiven.{seen_named}
-use Rattle.ob_decls.specs.Declaring.{rows_in}
+use Rattle.ob_rows.specs.Tables.{rows_in}
 use Rattle.ob_imports.specs.Graphs.{ImportGraph}
 use Rattle.ob_interface.specs.Interfaces.{ModuleInterface}
 use Rattle.oscip_tree.specs.declared.parts.ModuleParts.{ModuleParts}

@@ -8,7 +8,7 @@ use Rattle.std.proofs.lemmas.List.Folds.{flat_map-map}
 use Rattle.std.proofs.lemmas.Option.{get_or_from_slice_get, slice_get-get_or, slice_get_within}
 use Rattle.ob_emit.specs.Documents.{document_of}
 use Rattle.ob_emit.specs.Externals.{AreExternalRows, AreExternals}
-use Rattle.ob_decls.specs.Declaring.{rows_in}
+use Rattle.ob_rows.specs.Tables.{rows_in}
 use Rattle.ob_imports.specs.Graphs.{ImportGraph}
 use Rattle.ob_scope.proofs.Elements.{some_one}
 use Rattle.ob_interface.specs.Interfaces.{ModuleInterface}

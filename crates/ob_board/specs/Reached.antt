@@ -1,8 +1,8 @@
 -- The files of a tree as an index sees them, and what a module of it reaches by imports.
 use Rattle.std.specs.Prelude.{◌≡◌, ◌↔◌, ℕ, List, [], ◌∷◌, length, map, Bool, true, false, Some, slice_get, slice_index_or}
 use Rattle.digraph.specs.Chains.{Chain}
-use Rattle.ob_decls.specs.Parts.{Rows}
-use Rattle.ob_decls.specs.declared.rows.Import.{Import}
+use Rattle.ob_rows.specs.Parts.{Rows}
+use Rattle.ob_rows.specs.declared.rows.Import.{Import}
 use Rattle.ob_imports.specs.Files.{File, Imports}
 use Rattle.ob_imports.specs.Graphs.{ImportGraph}
 use Rattle.ob_interface.specs.Interfaces.{interface_of, ModuleInterface}

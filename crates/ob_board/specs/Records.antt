@@ -2,7 +2,7 @@
 use Rattle.std.specs.Prelude.{◌≡◌, ℕ, List, map}
 use Rattle.ob_emit.specs.Documents.{document_of}
 use Rattle.ob_emit.specs.Externals.{externals_in, AreExternalRows, AreExternals}
-use Rattle.ob_decls.specs.Declaring.{rows_in}
+use Rattle.ob_rows.specs.Tables.{rows_in}
 use Rattle.ob_interface.specs.Interfaces.{ModuleInterface}
 use Rattle.ob_targets.specs.declared.target.Reference.{Reference}
 use Rattle.ob_targets.specs.Refers.{AreReferences}

@@ -2,7 +2,7 @@
 ghost use Rattle.std.specs.Prelude.{◌≡◌, ◌<◌, ◌^◌, false, length, map, IfOk, Ok};
 ghost use Rattle.std.specs.Arc.{arc_value};
 ghost use Rattle.std.specs.Bool.{OnTrue};
-ghost use Rattle.ob_decls.specs.Declaring.{rows_in};
+ghost use Rattle.ob_rows.specs.Tables.{rows_in};
 ghost use Rattle.ob_emit.specs.Named.{HaveNames};
 ghost use Rattle.ob_scan.specs.Spelling.{IsOutcome, Spells};
 ghost use Rattle.ob_scope.specs.Scoped.{AreScopes};

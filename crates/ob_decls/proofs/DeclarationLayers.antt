@@ -8,15 +8,15 @@ use Rattle.ob_tree.specs.declared.declaration.ImportItem.{ImportItem}
 use Rattle.ob_tree.specs.declared.declaration.Module.{Module}
 use Rattle.ob_tree.specs.declared.declaration.Declarations.{Declarations, fold_out-Declarations, out-Declarations}
 use Rattle.ob_tree.specs.declared.declaration.ProcDecl.{ProcDecl, ProcDecl-F, fold_out-ProcDecl, out-ProcDecl}
-use Rattle.ob_decls.specs.declared.rows.Sort.TheVariants as sorts
-use Rattle.ob_decls.specs.declared.draft.Context.{Context}
-use Rattle.ob_decls.specs.Drafts.{Stage, after, passed}
-use Rattle.ob_decls.specs.Parts.{Piece, token, both, tells, if_there, each, declaring, opens_block}
+use Rattle.ob_rows.specs.declared.rows.Sort.TheVariants as sorts
+use Rattle.ob_rows.specs.declared.draft.Context.{Context}
+use Rattle.ob_rows.specs.Drafts.{Stage, after, passed}
+use Rattle.ob_rows.specs.Parts.{Piece, token, both, tells, if_there, each, declaring, opens_block}
 use Rattle.ob_decls.specs.Expressions.{each_after, expr_piece}
 use Rattle.ob_decls.specs.Statements.{block_piece}
 use Rattle.ob_decls.specs.Types.{declared_row, identdef_piece, parameters_piece, type_piece, var_piece}
 use Rattle.ob_decls.specs.Declaring.{procedure_end, module_end, const_piece, type_decl_piece, variable_piece, part, declarations_step, procedure_step, declarations_piece, procedure_piece, procedure_inner, import_row, import_inner, import_piece, imports_piece, module_piece}
-use Rattle.ob_decls.proofs.Steps.{added_number, each-map, after_both, after_token, after_nothing, after_declaring, steps}
+use Rattle.ob_rows.proofs.Steps.{added_number, each-map, after_both, after_token, after_nothing, after_declaring, steps}
 
 pub const_out : (c : ConstDecl) → const_piece c ≡ declaring sorts.Constant (both (identdef_piece c.name) (both token (expr_piece c.value)))
 unfolding const_piece

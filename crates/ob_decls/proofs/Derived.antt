@@ -12,9 +12,10 @@ use Rattle.ob_tree.specs.Declaring.{module_outline}
 use Rattle.ob_tree.specs.Derives.{Derives, declared_in, used_in, spelling}
 use Rattle.ob_tree.specs.Leaves.{leaf_of, leaves_from}
 use Rattle.ob_tree.specs.Marks.{Out, Begins, Ends, Identifier, Value, Word, construct, tokens_of}
-use Rattle.ob_decls.specs.declared.rows.Declared.{Declared}
-use Rattle.ob_decls.specs.declared.rows.Used.{Used}
-use Rattle.ob_decls.specs.Declaring.{own_name, rows_of, outermost}
+use Rattle.ob_rows.specs.declared.rows.Declared.{Declared}
+use Rattle.ob_rows.specs.declared.rows.Used.{Used}
+use Rattle.ob_rows.specs.Tables.{own_name}
+use Rattle.ob_decls.specs.Declaring.{rows_of, outermost}
 use Rattle.ob_decls.specs.Naming.{IsNamed}
 use Rattle.ob_decls.proofs.Mirrored.{declares_at, uses_at}
 use Rattle.ob_decls.proofs.Named.{AtNames}

@@ -19,11 +19,11 @@ use Rattle.ob_tree.specs.declared.expression.Expr.{Expr, fold_out-Expr, out-Expr
 use Rattle.ob_tree.specs.declared.expression.ExprList.{ExprList, fold_out-ExprList, out-ExprList}
 use Rattle.ob_tree.specs.declared.expression.SimpleExpression.{SimpleExpression, fold_out-SimpleExpression, out-SimpleExpression}
 use Rattle.ob_tree.specs.declared.expression.Term.{Term, fold_out-Term}
-use Rattle.ob_decls.specs.declared.rows.Step.TheVariants as steps_of
-use Rattle.ob_decls.specs.Parts.{Piece, token, both, tells, if_there, each}
+use Rattle.ob_rows.specs.declared.rows.Step.TheVariants as steps_of
+use Rattle.ob_rows.specs.Parts.{Piece, token, both, tells, if_there, each}
 use Rattle.ob_decls.specs.Expressions.{Phrase, Listed, Selected, Denoted, Lone, between, no_name, used, first_name, name_with, if_alone, if_bare, its_selectors, designator_row, each_after, factor_piece, designator_piece, element_piece, element_list_piece, expr_piece, expr_list_piece, sum_piece, term_piece}
 use Rattle.ob_decls.specs.Expressions.{factor_phrase, selected, denoted, expr_phrase, listed, sum_phrase, term_phrase, factor_step, selector_step, designator_step, element_step, element_list_step, expr_step, expr_list_step, sum_step, term_step}
-use Rattle.ob_decls.proofs.Steps.{each-map, steps}
+use Rattle.ob_rows.proofs.Steps.{each-map, steps}
 
 there : (o : Option (Relation × Box SimpleExpression Global)) →
     if_there (λ c. both token c.1.value.piece) ((shapes.former-Expr-compared).map SimpleExpression Phrase sum_phrase o) ≡ if_there (λ c. both token (sum_piece c.1.value)) o

@@ -1,14 +1,9 @@
 pub mod DeclarationLayers
 pub mod ExpressionLayers
-pub mod Groups
 pub mod LoneNames
-pub mod Orders
-pub mod Searched
 pub mod Settled
 pub mod StatementLayers
-pub mod Steps
 pub mod TypeLayers
-pub mod TableRows
 pub mod Mirrored
 pub mod Named
 pub mod NamedExpressions

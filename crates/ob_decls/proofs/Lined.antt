@@ -1,7 +1,7 @@
 -- Rows whose numbers go up from one bound to another.
 use Rattle.std.proofs.Common.{◌≡◌, ℕ, zero, suc, ◌+◌, ◌<◌, ◌≤◌, List, [], ◌∷◌, ◌++◌, Some, None, ap, arith}
 use Rattle.std.specs.Prelude.{slice_get}
-use Rattle.ob_decls.specs.Order.{AscendBy, RiseBy}
+use Rattle.ob_rows.specs.Order.{AscendBy, RiseBy}
 
 -- each number is at least its bound: what the number before it gives
 pub Lined : {X : Type 0} → (X → ℕ) → (ℕ → ℕ) → ℕ → ℕ → List X → Type 0

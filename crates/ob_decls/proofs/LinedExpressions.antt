@@ -15,8 +15,8 @@ use Rattle.ob_tree.specs.declared.expression.ExprList.{ExprList, ExprList-F, rol
 use Rattle.ob_tree.specs.declared.expression.SimpleExpression.{SimpleExpression, SimpleExpression-F, roll-SimpleExpression, out-roll-SimpleExpression, map-SimpleExpression}
 use Rattle.ob_tree.specs.declared.expression.Term.{Term, Term-F, roll-Term, out-roll-Term, map-Term}
 use Rattle.ob_tree.proofs.Closed.{With}
-use Rattle.ob_decls.specs.Parts.{Piece, token, both, tells}
-use Rattle.ob_decls.specs.Parts.{if_there as there, each as pieces}
+use Rattle.ob_rows.specs.Parts.{Piece, token, both, tells}
+use Rattle.ob_rows.specs.Parts.{if_there as there, each as pieces}
 use Rattle.ob_decls.specs.Expressions.{each_after, first_name, designator_row, its_selectors, selector_rows, selected, Selected, factor_piece, designator_piece, element_piece, element_list_piece, expr_piece, expr_list_piece, sum_piece, term_piece}
 use Rattle.ob_decls.specs.Expressions.{used as uses}
 use Rattle.ob_decls.proofs.ExpressionLayers as told

@@ -9,10 +9,10 @@ use Rattle.ob_tree.specs.declared.declaration.Module.{Module}
 use Rattle.ob_tree.specs.declared.declaration.Declarations.{Declarations, Declarations-F, roll-Declarations, out-roll-Declarations, ind-Declarations, map-Declarations}
 use Rattle.ob_tree.specs.declared.declaration.ProcDecl.{ProcDecl, ProcDecl-F, roll-ProcDecl, out-roll-ProcDecl, map-ProcDecl}
 use Rattle.ob_tree.proofs.Closed.{With}
-use Rattle.ob_decls.specs.declared.rows.Sort.TheVariants as sorts
-use Rattle.ob_decls.specs.declared.draft.Context.{Context}
-use Rattle.ob_decls.specs.Parts.{Piece, Rows, token, both, tells, declaring, opens_block, in_block}
-use Rattle.ob_decls.specs.Parts.{if_there as there, each as pieces}
+use Rattle.ob_rows.specs.declared.rows.Sort.TheVariants as sorts
+use Rattle.ob_rows.specs.declared.draft.Context.{Context}
+use Rattle.ob_rows.specs.Parts.{Piece, Rows, token, both, tells, declaring, opens_block, in_block}
+use Rattle.ob_rows.specs.Parts.{if_there as there, each as pieces}
 use Rattle.ob_decls.specs.Expressions.{expr_piece}
 use Rattle.ob_decls.specs.Statements.{block_piece}
 use Rattle.ob_decls.specs.Types.{identdef_piece, parameters_piece}
@@ -20,23 +20,23 @@ use Rattle.ob_decls.specs.Declaring.{const_piece, type_decl_piece, variable_piec
 use Rattle.ob_decls.specs.Declaring.{part as told_part}
 use Rattle.ob_decls.proofs.DeclarationLayers as told
 use Rattle.ob_decls.specs.Declaring.{module_end, rows_of, outermost}
-use Rattle.ob_decls.specs.Order.{AreRowsInOrder, AscendBy, RiseBy}
+use Rattle.ob_rows.specs.Order.{AreRowsInOrder, AscendBy, RiseBy}
 use Rattle.ob_decls.proofs.Lined.{Lined, ascends, rises}
 use Rattle.ob_decls.proofs.LinedKinds.{Kind, declarers_kind, declared_kind, uses_kind, blocks_kind, imports_kind, parts_kind, records_kind, designators_kind, ends_kind, selectors_kind}
 use Rattle.ob_decls.proofs.LinedPieces.{Ordered, h-before, h-both, h-tells, l-both, l-token, l-within, n-headed, o-both, o-declaring, o-each, o-headed, o-is, o-map, o-there, o-token}
 use Rattle.ob_decls.proofs.LinedExpressions.{o-expr}
 use Rattle.ob_decls.proofs.LinedStatements.{o-block}
 use Rattle.ob_decls.proofs.LinedTypes.{h-identdef, o-identdef, o-parameters, n-var, o-type}
-use Rattle.ob_decls.specs.declared.rows.Declarer.{Declarer as DeclarerRow}
-use Rattle.ob_decls.specs.declared.rows.Declared.{Declared as DeclaredRow}
-use Rattle.ob_decls.specs.declared.rows.Used.{Used as UsedRow}
-use Rattle.ob_decls.specs.declared.rows.Block.{Block as BlockRow}
-use Rattle.ob_decls.specs.declared.rows.Import.{Import as ImportRow}
-use Rattle.ob_decls.specs.declared.rows.FormPart.{FormPart as FormPartRow}
-use Rattle.ob_decls.specs.declared.rows.Record.{Record as RecordRow}
-use Rattle.ob_decls.specs.declared.rows.Designator.{Designator as DesignatorRow}
-use Rattle.ob_decls.specs.declared.rows.Selector.{Selector as SelectorRow}
-use Rattle.ob_decls.specs.declared.rows.End.{End as EndRow}
+use Rattle.ob_rows.specs.declared.rows.Declarer.{Declarer as DeclarerRow}
+use Rattle.ob_rows.specs.declared.rows.Declared.{Declared as DeclaredRow}
+use Rattle.ob_rows.specs.declared.rows.Used.{Used as UsedRow}
+use Rattle.ob_rows.specs.declared.rows.Block.{Block as BlockRow}
+use Rattle.ob_rows.specs.declared.rows.Import.{Import as ImportRow}
+use Rattle.ob_rows.specs.declared.rows.FormPart.{FormPart as FormPartRow}
+use Rattle.ob_rows.specs.declared.rows.Record.{Record as RecordRow}
+use Rattle.ob_rows.specs.declared.rows.Designator.{Designator as DesignatorRow}
+use Rattle.ob_rows.specs.declared.rows.Selector.{Selector as SelectorRow}
+use Rattle.ob_rows.specs.declared.rows.End.{End as EndRow}
 
 module _ {X : Type 0} (K : Kind X) where
   o-const : (c : ConstDecl) → Ordered K (const_piece c)

@@ -1,10 +1,10 @@
 -- Parts of a tree whose rows of a kind lie where the part lies, in order.
 use Rattle.std.proofs.Common.{◌≡◌, ℕ, ◌+◌, Bool, true, false, List, [], ◌∷◌, ◌++◌, map, Option, Some, None, refl, sym, ap, ◌∙◌, subst, arith, append_assoc}
 use Rattle.ob_tree.specs.declared.name.OneOrMore.{OneOrMore}
-use Rattle.ob_decls.specs.declared.rows.Declarer.{Declarer}
-use Rattle.ob_decls.specs.declared.rows.Sort.{Sort}
-use Rattle.ob_decls.specs.declared.draft.Context.{Context}
-use Rattle.ob_decls.specs.Parts.{Piece, Rows, no_rows, nothing, token, both, tells, within, if_there, if_so, each, declaring, declarer, declaring_at, one_declarer}
+use Rattle.ob_rows.specs.declared.rows.Declarer.{Declarer}
+use Rattle.ob_rows.specs.declared.rows.Sort.{Sort}
+use Rattle.ob_rows.specs.declared.draft.Context.{Context}
+use Rattle.ob_rows.specs.Parts.{Piece, Rows, no_rows, nothing, token, both, tells, within, if_there, if_so, each, declaring, declarer, declaring_at, one_declarer}
 use Rattle.ob_decls.specs.Expressions.{each_after, used}
 use Rattle.ob_decls.proofs.Lined.{Lined, lower, higher, lined_both, lined_end}
 use Rattle.ob_decls.proofs.LinedKinds.{Kind}

@@ -16,8 +16,8 @@ use Rattle.ob_tree.specs.declared.statement.StatementSequence.{StatementSequence
 use Rattle.ob_tree.specs.declared.statement.Branch.{Branch, Branch-F, roll-Branch, out-roll-Branch, map-Branch}
 use Rattle.ob_tree.specs.declared.statement.For.{For, For-F, roll-For, out-roll-For, map-For}
 use Rattle.ob_tree.proofs.Closed.{With}
-use Rattle.ob_decls.specs.Parts.{Piece, token, both}
-use Rattle.ob_decls.specs.Parts.{if_there as there}
+use Rattle.ob_rows.specs.Parts.{Piece, token, both}
+use Rattle.ob_rows.specs.Parts.{if_there as there}
 use Rattle.ob_decls.specs.Expressions.{each_after, expr_piece, plain_use}
 use Rattle.ob_decls.specs.Statements.{variable_piece, qualident_piece, label_piece, label_range_piece, case_piece, stmt_piece, block_piece, branch_piece, for_piece}
 use Rattle.ob_decls.proofs.StatementLayers as told

@@ -12,19 +12,19 @@ use Rattle.ob_tree.specs.declared.role.Role.{Role}
 use Rattle.ob_tree.specs.declared.role.Role.TheVariants.{Declares, Aliases, Imports, Uses, Completes, Selects, Names, Repeats}
 use Rattle.ob_tree.specs.Marks.{Out, Begins, Ends, Identifier, Value, Word, construct, word, completed, imported, separated}
 use Rattle.ob_tree.specs.Marks.{if_there as outline_there, if_so as outline_so, each as outline_each}
-use Rattle.ob_decls.specs.declared.rows.Declared.{Declared}
-use Rattle.ob_decls.specs.declared.rows.End.{End}
-use Rattle.ob_decls.specs.declared.rows.Import.{Import}
-use Rattle.ob_decls.specs.declared.rows.Selector.{Selector}
-use Rattle.ob_decls.specs.declared.rows.Sort.{Sort}
-use Rattle.ob_decls.specs.declared.rows.Step.TheVariants as steps
-use Rattle.ob_decls.specs.declared.rows.Used.{Used}
-use Rattle.ob_decls.specs.declared.draft.Context.{Context}
+use Rattle.ob_rows.specs.declared.rows.Declared.{Declared}
+use Rattle.ob_rows.specs.declared.rows.End.{End}
+use Rattle.ob_rows.specs.declared.rows.Import.{Import}
+use Rattle.ob_rows.specs.declared.rows.Selector.{Selector}
+use Rattle.ob_rows.specs.declared.rows.Sort.{Sort}
+use Rattle.ob_rows.specs.declared.rows.Step.TheVariants as steps
+use Rattle.ob_rows.specs.declared.rows.Used.{Used}
+use Rattle.ob_rows.specs.declared.draft.Context.{Context}
 use Rattle.ob_decls.specs.Declaring.{named_by, outermost}
 use Rattle.ob_decls.specs.Expressions.{Selected, behind_dot, each_after, selector_rows, used}
 use Rattle.ob_decls.specs.Naming.{IsNamed}
 use Rattle.ob_decls.specs.Naming as names
-use Rattle.ob_decls.specs.Parts.{Piece, Rows, no_rows, joined, nothing, token, both, tells, within, if_there, if_so, each, declaring, opens_block, one_declarer, one_end, one_import, one_used, these_selectors, declarer, declaring_at}
+use Rattle.ob_rows.specs.Parts.{Piece, Rows, no_rows, joined, nothing, token, both, tells, within, if_there, if_so, each, declaring, opens_block, one_declarer, one_end, one_import, one_used, these_selectors, declarer, declaring_at}
 use Rattle.ob_decls.specs.Types.{declared_row}
 use Rattle.ob_decls.proofs.Mirrored.{IsDeclaring, Mirrors, aliases_it, declared_numbers, m-both, m-declared, m-declaring, m-first_declares, m-first_uses, m-held, m-name, m-nothing, m-tells, m-use, m-value, m-within, m-word, used_numbers, width_of}
 

@@ -20,8 +20,8 @@ use Rattle.ob_tree.specs.Marks.{Out, construct, word, used, if_there, each}
 use Rattle.ob_tree.specs.Expressions.{relation_kind, sign_kind, add_kind, mul_kind, factor_outline, selector_outline, designator_outline, element_outline, element_list_outline, expr_outline, expr_list_outline, sum_outline, term_outline}
 use Rattle.ob_tree.proofs.ExpressionLayers.{factor_shown, selector_shown, element_shown, element_list_shown, expr_list_shown, expr_shown, sum_shown, factor_out, selector_out, designator_out, term_out, expr_made, sum_made, element_made, element_list_made, expr_list_made}
 use Rattle.ob_tree.proofs.Closed.{With}
-use Rattle.ob_decls.specs.Parts.{Piece, token, both, tells}
-use Rattle.ob_decls.specs.Parts.{if_there as there, each as pieces}
+use Rattle.ob_rows.specs.Parts.{Piece, token, both, tells}
+use Rattle.ob_rows.specs.Parts.{if_there as there, each as pieces}
 use Rattle.ob_decls.specs.Expressions.{each_after, first_name, designator_row, its_selectors, selected, Selected, factor_piece, designator_piece, element_piece, element_list_piece, expr_piece, expr_list_piece, sum_piece, term_piece}
 use Rattle.ob_decls.specs.Expressions.{used as uses}
 use Rattle.ob_decls.proofs.ExpressionLayers as told

@@ -20,10 +20,10 @@ use Rattle.ob_tree.specs.Marks.{selected as selected_name}
 use Rattle.ob_tree.specs.Expressions.{selector_outline, element_outline, expr_outline, expr_list_outline}
 use Rattle.ob_tree.proofs.ExpressionLayers.{selector_shown, element_shown, element_list_shown, expr_list_shown, selector_out, designator_out, element_out, element_list_out, expr_out, expr_list_out}
 use Rattle.ob_tree.proofs.Closed.{With}
-use Rattle.ob_decls.specs.declared.rows.Step.TheVariants as steps_of
-use Rattle.ob_decls.specs.declared.rows.TypeName.{TypeName}
-use Rattle.ob_decls.specs.Parts.{Piece, token, both, tells}
-use Rattle.ob_decls.specs.Parts.{if_there as there, each as pieces}
+use Rattle.ob_rows.specs.declared.rows.Step.TheVariants as steps_of
+use Rattle.ob_rows.specs.declared.rows.TypeName.{TypeName}
+use Rattle.ob_rows.specs.Parts.{Piece, token, both, tells}
+use Rattle.ob_rows.specs.Parts.{if_there as there, each as pieces}
 use Rattle.ob_decls.specs.Expressions.{Phrase, Listed, Selected, Denoted, each_after, if_alone, first_name, name_with, designator_row, its_selectors}
 use Rattle.ob_decls.specs.Expressions.{used as uses}
 use Rattle.ob_decls.specs.Expressions.{selected, denoted, element_piece, element_list_piece, expr_list_piece, expr_phrase, listed, factor_step, selector_step, designator_step, element_step, element_list_step, expr_step, expr_list_step, sum_step, term_step}

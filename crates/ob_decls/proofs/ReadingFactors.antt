@@ -18,8 +18,8 @@ use Rattle.ob_tree.specs.Constructs as constructs
 use Rattle.ob_tree.specs.Marks.{Out, Value, construct, word, if_there, each}
 use Rattle.ob_tree.specs.Expressions.{factor_outline, designator_outline, element_outline, element_list_outline, expr_outline}
 use Rattle.ob_tree.proofs.ExpressionLayers.{factor_shown, factor_out, designator_out, element_out, element_list_out}
-use Rattle.ob_decls.specs.Parts.{Piece, token, both}
-use Rattle.ob_decls.specs.Parts.{if_there as there}
+use Rattle.ob_rows.specs.Parts.{Piece, token, both}
+use Rattle.ob_rows.specs.Parts.{if_there as there}
 use Rattle.ob_decls.specs.Expressions.{Phrase, Denoted, no_name}
 use Rattle.ob_decls.specs.Expressions.{factor_phrase, denoted, element_list_piece, factor_piece, designator_piece, expr_piece, expr_phrase}
 use Rattle.ob_decls.proofs.ExpressionLayers as told

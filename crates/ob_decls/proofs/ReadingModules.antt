@@ -18,9 +18,9 @@ use Rattle.ob_tree.specs.Marks.{Out, construct, word, aliased, imported, named, 
 use Rattle.ob_tree.specs.Statements.{block_outline}
 use Rattle.ob_tree.specs.Declaring.{const_outline, part, declarations_outline, procedure_outline, import_outline, module_outline}
 use Rattle.ob_tree.proofs.DeclarationLayers.{import_out, module_out, declarations_out, procedure_out}
-use Rattle.ob_decls.specs.declared.rows.Sort.TheVariants as sorts
-use Rattle.ob_decls.specs.Parts.{Piece, one_import, token, both, tells, declaring}
-use Rattle.ob_decls.specs.Parts.{if_there as there}
+use Rattle.ob_rows.specs.declared.rows.Sort.TheVariants as sorts
+use Rattle.ob_rows.specs.Parts.{Piece, one_import, token, both, tells, declaring}
+use Rattle.ob_rows.specs.Parts.{if_there as there}
 use Rattle.ob_decls.specs.Expressions.{each_after}
 use Rattle.ob_decls.specs.Statements.{block_piece}
 use Rattle.ob_decls.specs.Types.{declared_row}

@@ -12,9 +12,9 @@ use Rattle.ob_tree.specs.declared.role.Role.TheVariants as roles
 use Rattle.ob_tree.specs.Marks.{Out, Word, construct, word, declared, if_there, if_so, each, separated, times}
 use Rattle.ob_tree.specs.Names.{qualident_outline, identdef_outline}
 use Rattle.ob_tree.specs.Types.{section_outline, parameters_outline}
-use Rattle.ob_decls.specs.declared.rows.Sort.TheVariants as sorts
-use Rattle.ob_decls.specs.Parts.{Piece, token, both, tells, declaring}
-use Rattle.ob_decls.specs.Parts.{if_there as there, if_so as so}
+use Rattle.ob_rows.specs.declared.rows.Sort.TheVariants as sorts
+use Rattle.ob_rows.specs.Parts.{Piece, token, both, tells, declaring}
+use Rattle.ob_rows.specs.Parts.{if_there as there, if_so as so}
 use Rattle.ob_decls.specs.Expressions.{each_after}
 use Rattle.ob_decls.specs.Statements.{qualident_piece}
 use Rattle.ob_decls.specs.Types.{parameter_piece, name_part, section_piece, parameters_piece}

@@ -19,9 +19,9 @@ use Rattle.ob_tree.specs.Declaring.{const_outline, type_decl_outline, variable_o
 use Rattle.ob_tree.specs.Declaring.{part as part_shown}
 use Rattle.ob_tree.specs.Leaves.{same_kind}
 use Rattle.ob_tree.proofs.DeclarationLayers.{const_out, type_decl_out, variable_out, procedure_out}
-use Rattle.ob_decls.specs.declared.rows.Sort.TheVariants as sorts
-use Rattle.ob_decls.specs.Parts.{Piece, token, both, declaring}
-use Rattle.ob_decls.specs.Parts.{if_there as there, each as pieces}
+use Rattle.ob_rows.specs.declared.rows.Sort.TheVariants as sorts
+use Rattle.ob_rows.specs.Parts.{Piece, token, both, declaring}
+use Rattle.ob_rows.specs.Parts.{if_there as there, each as pieces}
 use Rattle.ob_decls.specs.Expressions.{Phrase, expr_piece, expr_phrase}
 use Rattle.ob_decls.specs.Types.{identdef_piece, type_piece}
 use Rattle.ob_decls.specs.Declaring.{const_piece, type_decl_piece, variable_piece, part}

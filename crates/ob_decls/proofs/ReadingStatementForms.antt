@@ -20,8 +20,8 @@ use Rattle.ob_tree.specs.Marks.{Out, Ends, Word, construct, word, if_there, each
 use Rattle.ob_tree.specs.Expressions.{expr_outline, designator_outline}
 use Rattle.ob_tree.specs.Statements.{case_outline, block_outline, branch_outline, for_outline}
 use Rattle.ob_tree.proofs.StatementLayers.{if_shown, stmt_shown, for_out}
-use Rattle.ob_decls.specs.Parts.{Piece, token, both}
-use Rattle.ob_decls.specs.Parts.{if_there as there, each as pieces}
+use Rattle.ob_rows.specs.Parts.{Piece, token, both}
+use Rattle.ob_rows.specs.Parts.{if_there as there, each as pieces}
 use Rattle.ob_decls.specs.Expressions.{Phrase, Denoted, denoted, expr_phrase, expr_piece, designator_piece}
 use Rattle.ob_decls.specs.Statements.{case_piece, block_piece, branch_piece, for_piece}
 use Rattle.ob_decls.proofs.StatementLayers as told

@@ -23,8 +23,8 @@ use Rattle.ob_tree.specs.Statements.{label_outline, label_range_outline, case_ou
 use Rattle.ob_tree.specs.Names.{qualident_outline}
 use Rattle.ob_tree.proofs.StatementLayers.{case_shown, stmt_shown, block_shown, branch_shown, for_shown, case_out, stmt_out, block_out, branch_out, for_out}
 use Rattle.ob_tree.proofs.Closed.{With}
-use Rattle.ob_decls.specs.Parts.{Piece, token, both}
-use Rattle.ob_decls.specs.Parts.{if_there as there, each as pieces}
+use Rattle.ob_rows.specs.Parts.{Piece, token, both}
+use Rattle.ob_rows.specs.Parts.{if_there as there, each as pieces}
 use Rattle.ob_decls.specs.Expressions.{Phrase, expr_phrase, expr_piece}
 use Rattle.ob_decls.specs.Statements.{variable_piece, label_range_piece, case_piece, stmt_piece, block_piece, branch_piece, for_piece}
 use Rattle.ob_decls.proofs.StatementLayers as told

@@ -21,11 +21,11 @@ use Rattle.ob_tree.specs.Marks.{Out, construct, word, if_there, each}
 use Rattle.ob_tree.specs.Expressions.{relation_kind, sign_kind, add_kind, mul_kind, factor_outline, sum_outline, term_outline}
 use Rattle.ob_tree.proofs.ExpressionLayers.{expr_shown, sum_shown, expr_out, sum_out, term_out}
 use Rattle.ob_tree.proofs.Closed.{With}
-use Rattle.ob_decls.specs.Parts.{Piece, token, both}
-use Rattle.ob_decls.specs.Parts.{if_there as there, each as pieces}
+use Rattle.ob_rows.specs.Parts.{Piece, token, both}
+use Rattle.ob_rows.specs.Parts.{if_there as there, each as pieces}
 use Rattle.ob_decls.specs.Expressions.{Phrase, Listed, Selected, Denoted, Lone, if_alone, if_bare}
 use Rattle.ob_decls.specs.Expressions.{factor_phrase, expr_phrase, sum_phrase, term_phrase, factor_step, selector_step, designator_step, element_step, element_list_step, expr_step, expr_list_step, sum_step, term_step}
-use Rattle.ob_decls.proofs.Steps.{each-map}
+use Rattle.ob_rows.proofs.Steps.{each-map}
 use Rattle.ob_decls.proofs.Reading.{Reads, never, on_any_word, maybe, r-until, r-both, r-held, r-at, r-none, r-some, r-any, r-past_any, r-layer}
 use Rattle.ob_decls.proofs.ReadingLists.{r-map, each_told}
 use Rattle.ob_decls.proofs.ReadingExpressionParts.{HeldExpr, HeldSum, HeldTerm, WithExpr, expr_of, WithSum, sum_of, WithTerm, term_of}

@@ -18,9 +18,9 @@ use Rattle.ob_tree.specs.Expressions.{expr_outline, expr_list_outline}
 use Rattle.ob_tree.specs.Types.{parameters_outline, type_outline, record_outline}
 use Rattle.ob_tree.proofs.ExpressionLayers.{expr_list_shown, expr_list_out}
 use Rattle.ob_tree.proofs.TypeLayers.{type_shown}
-use Rattle.ob_decls.specs.declared.rows.Part.TheVariants as parts
-use Rattle.ob_decls.specs.Parts.{Piece, token, both, tells, within, opens_block}
-use Rattle.ob_decls.specs.Parts.{if_there as there, each as pieces}
+use Rattle.ob_rows.specs.declared.rows.Part.TheVariants as parts
+use Rattle.ob_rows.specs.Parts.{Piece, token, both, tells, within, opens_block}
+use Rattle.ob_rows.specs.Parts.{if_there as there, each as pieces}
 use Rattle.ob_decls.specs.Expressions.{Phrase, expr_piece, expr_phrase}
 use Rattle.ob_decls.specs.Types.{part_here, targeted, untargeted, parameters_piece, type_name_piece, lengths_piece, type_piece, record_piece}
 use Rattle.ob_decls.proofs.TypeLayers as told

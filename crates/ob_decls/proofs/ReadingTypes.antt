@@ -18,9 +18,9 @@ use Rattle.ob_tree.specs.Types.{type_outline, fields_outline, record_outline, va
 use Rattle.ob_tree.specs.Leaves.{same_kind}
 use Rattle.ob_tree.proofs.TypeLayers.{type_shown, fields_shown, record_shown, var_shown, type_out, fields_out, record_out, var_out}
 use Rattle.ob_tree.proofs.Closed.{With}
-use Rattle.ob_decls.specs.declared.rows.Sort.TheVariants as sorts
-use Rattle.ob_decls.specs.Parts.{Piece, token, both, tells, within, declaring}
-use Rattle.ob_decls.specs.Parts.{if_there as there, if_so as so}
+use Rattle.ob_rows.specs.declared.rows.Sort.TheVariants as sorts
+use Rattle.ob_rows.specs.Parts.{Piece, token, both, tells, within, declaring}
+use Rattle.ob_rows.specs.Parts.{if_there as there, if_so as so}
 use Rattle.ob_decls.specs.Expressions.{each_after}
 use Rattle.ob_decls.specs.Statements.{qualident_piece}
 use Rattle.ob_decls.specs.Types.{in_record, record_row, identdef_piece, type_piece, fields_piece, record_piece, var_piece}

@@ -3,14 +3,14 @@ use Rattle.std.proofs.Common.{◌≡◌, ℕ, suc, ◌+◌, Bool, false, List, [
 use Rattle.std.proofs.lemmas.List.{append-nil, set_at}
 use Rattle.ob_tree.specs.declared.expression.Designator.{Designator}
 use Rattle.ob_tree.specs.declared.expression.Selector.{Selector}
-use Rattle.ob_decls.specs.declared.rows.Selector.{Selector as SelectorRow}
-use Rattle.ob_decls.specs.declared.draft.Context.{Context}
-use Rattle.ob_decls.specs.declared.draft.Draft.{Draft}
-use Rattle.ob_decls.specs.Parts.{joined, no_rows, token, tells, each, these_selectors}
-use Rattle.ob_decls.specs.Drafts.{Stage, stage_of, after, added, settled, ComesTo}
+use Rattle.ob_rows.specs.declared.rows.Selector.{Selector as SelectorRow}
+use Rattle.ob_rows.specs.declared.draft.Context.{Context}
+use Rattle.ob_rows.specs.declared.draft.Draft.{Draft}
+use Rattle.ob_rows.specs.Parts.{joined, no_rows, token, tells, each, these_selectors}
+use Rattle.ob_rows.specs.Drafts.{Stage, stage_of, after, added, settled, ComesTo}
 use Rattle.ob_decls.specs.Expressions.{Selected, used, first_name, selected, selector_rows, its_selectors, designator_row, designator_piece}
 use Rattle.ob_decls.specs.Settling.{blank, blanks, row_at, settling}
-use Rattle.ob_decls.proofs.Steps.{added_number, after_both, after_nothing, after_tells, number_of, selectors_of}
+use Rattle.ob_rows.proofs.Steps.{added_number, after_both, after_nothing, after_tells, number_of, selectors_of}
 use Rattle.std.proofs.lemmas.List.{take_all}
 use Rattle.std.proofs.lemmas.Grind.{take_at_read, common_steps}
 use Rattle.ob_decls.proofs.ExpressionLayers.{designator_out, length_map}

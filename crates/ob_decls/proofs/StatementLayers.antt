@@ -18,12 +18,12 @@ use Rattle.ob_tree.specs.declared.statement.Stmt.TheVariants as statements
 use Rattle.ob_tree.specs.declared.statement.StatementSequence.{StatementSequence, fold_out-StatementSequence, out-StatementSequence}
 use Rattle.ob_tree.specs.declared.statement.Branch.{Branch, fold_out-Branch, out-Branch}
 use Rattle.ob_tree.specs.declared.statement.For.{For, fold_out-For, out-For}
-use Rattle.ob_decls.specs.declared.draft.Context.{Context}
-use Rattle.ob_decls.specs.Drafts.{Stage, after, passed}
-use Rattle.ob_decls.specs.Parts.{Piece, nothing, token, both, tells, if_there}
+use Rattle.ob_rows.specs.declared.draft.Context.{Context}
+use Rattle.ob_rows.specs.Drafts.{Stage, after, passed}
+use Rattle.ob_rows.specs.Parts.{Piece, nothing, token, both, tells, if_there}
 use Rattle.ob_decls.specs.Expressions.{used, designator_row, each_after, expr_piece, designator_piece}
 use Rattle.ob_decls.specs.Statements.{variable_piece, qualident_piece, label_piece, label_range_piece, case_step, stmt_step, block_step, branch_step, for_step, case_piece, stmt_piece, block_piece, branch_piece, for_piece}
-use Rattle.ob_decls.proofs.Steps.{each-map, after_both, after_token, steps}
+use Rattle.ob_rows.proofs.Steps.{each-map, after_both, after_token, steps}
 
 else_there : (f : StatementSequence → Piece) (o : Option (Box StatementSequence Global)) → if_there (λ b. both token b.value) ((shapes.former-Stmt-If-2).map StatementSequence Piece f o)
     ≡ if_there (λ b. both token (f b.value)) o

@@ -15,15 +15,15 @@ use Rattle.ob_tree.specs.declared.declaration.TypeForm.TheVariants as forms
 use Rattle.ob_tree.specs.declared.declaration.Fields.{Fields, fold_out-Fields, out-Fields}
 use Rattle.ob_tree.specs.declared.declaration.Record.{Record, fold_out-Record, out-Record}
 use Rattle.ob_tree.specs.declared.declaration.VarDecl.{VarDecl, fold_out-VarDecl, out-VarDecl}
-use Rattle.ob_decls.specs.declared.rows.Sort.TheVariants as sorts
-use Rattle.ob_decls.specs.declared.rows.Part.TheVariants as parts
-use Rattle.ob_decls.specs.declared.draft.Context.{Context}
-use Rattle.ob_decls.specs.Drafts.{Stage, added, after, passed}
-use Rattle.ob_decls.specs.Parts.{Piece, nothing, token, both, tells, within, if_there, if_so, each, declaring, opens_block}
+use Rattle.ob_rows.specs.declared.rows.Sort.TheVariants as sorts
+use Rattle.ob_rows.specs.declared.rows.Part.TheVariants as parts
+use Rattle.ob_rows.specs.declared.draft.Context.{Context}
+use Rattle.ob_rows.specs.Drafts.{Stage, added, after, passed}
+use Rattle.ob_rows.specs.Parts.{Piece, nothing, token, both, tells, within, if_there, if_so, each, declaring, opens_block}
 use Rattle.ob_decls.specs.Expressions.{each_after, expr_piece}
 use Rattle.ob_decls.specs.Statements.{qualident_piece}
 use Rattle.ob_decls.specs.Types.{declared_row, part_here, name_part, type_use, targeted, untargeted, in_record, record_row, identdef_piece, parameter_piece, open_arrays, section_inner, section_piece, parameters_piece, type_name_piece, lengths_piece, type_step, fields_step, record_step, var_step, type_piece, fields_piece, record_piece, var_piece}
-use Rattle.ob_decls.proofs.Steps.{added_number, after_each, each-map, after_token, after_tells, after_within, after_both, after_nothing, after_declaring, steps}
+use Rattle.ob_rows.proofs.Steps.{added_number, after_each, each-map, after_token, after_tells, after_within, after_both, after_nothing, after_declaring, steps}
 
 fields_there : (f : Fields → Piece) (o : Option (Box Fields Global)) → if_there (λ x. x.value) ((shapes.former-Record-fields).map Fields Piece f o)
     ≡ if_there (λ x. f x.value) o

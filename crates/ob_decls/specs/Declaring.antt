@@ -8,10 +8,9 @@ use Rattle.ob_tree.specs.declared.declaration.ImportItem.{ImportItem}
 use Rattle.ob_tree.specs.declared.declaration.Module.{Module}
 use Rattle.ob_tree.specs.declared.declaration.Declarations.{Declarations, Declarations-F, fold-Declarations}
 use Rattle.ob_tree.specs.declared.declaration.ProcDecl.{ProcDecl, ProcDecl-F, fold-ProcDecl, out-ProcDecl}
-use Rattle.ob_decls.specs.declared.rows.Sort.TheVariants as sorts
-use Rattle.ob_decls.specs.declared.draft.Context.{Context}
-use Rattle.ob_decls.specs.declared.table.Table.{Table}
-use Rattle.ob_decls.specs.Parts.{Piece, Rows, one_end, one_import, token, both, tells, if_there, each, declaring, opens_block}
+use Rattle.ob_rows.specs.declared.rows.Sort.TheVariants as sorts
+use Rattle.ob_rows.specs.declared.draft.Context.{Context}
+use Rattle.ob_rows.specs.Parts.{Piece, Rows, one_end, one_import, token, both, tells, if_there, each, declaring, opens_block}
 use Rattle.ob_decls.specs.Expressions.{each_after, expr_piece}
 use Rattle.ob_decls.specs.Statements.{block_piece}
 use Rattle.ob_decls.specs.Types.{declared_row, identdef_piece, parameters_piece, type_piece, var_piece}
@@ -103,22 +102,3 @@ outermost = record { block = 0; declarer = 0; of_record = 0; is_target = false }
 -- what a module declares and uses
 abbrev pub rows_of : Module → Rows
 rows_of m = (module_piece m).rows outermost 0
-
--- MODULE stands before the module's own name
-abbrev pub own_name : ℕ
-own_name = 1
-
--- what a table has
-abbrev pub rows_in : Table → Rows
-rows_in t = record {
-  declarers = t.declarers.items;
-  declared = t.declared.items;
-  uses = t.uses.items;
-  blocks = t.blocks.items;
-  imports = t.imports.items;
-  parts = t.parts.items;
-  records = t.records.items;
-  designators = t.designators.items;
-  selectors = t.selectors.items;
-  ends = t.ends.items;
-}

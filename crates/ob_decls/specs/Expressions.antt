@@ -12,12 +12,12 @@ use Rattle.ob_tree.specs.declared.expression.Expr.{Expr, Expr-F, fold-Expr}
 use Rattle.ob_tree.specs.declared.expression.ExprList.{ExprList, ExprList-F, fold-ExprList}
 use Rattle.ob_tree.specs.declared.expression.SimpleExpression.{SimpleExpression, SimpleExpression-F, fold-SimpleExpression}
 use Rattle.ob_tree.specs.declared.expression.Term.{Term, Term-F, fold-Term}
-use Rattle.ob_decls.specs.declared.rows.Selector.{Selector as SelectorRow}
-use Rattle.ob_decls.specs.declared.rows.Step.{Step}
-use Rattle.ob_decls.specs.declared.rows.Step.TheVariants as steps
-use Rattle.ob_decls.specs.declared.rows.TypeName.{TypeName}
-use Rattle.ob_decls.specs.declared.draft.Context.{Context}
-use Rattle.ob_decls.specs.Parts.{Piece, Rows, one_used, one_designator, these_selectors, token, both, tells, if_there, each}
+use Rattle.ob_rows.specs.declared.rows.Selector.{Selector as SelectorRow}
+use Rattle.ob_rows.specs.declared.rows.Step.{Step}
+use Rattle.ob_rows.specs.declared.rows.Step.TheVariants as steps
+use Rattle.ob_rows.specs.declared.rows.TypeName.{TypeName}
+use Rattle.ob_rows.specs.declared.draft.Context.{Context}
+use Rattle.ob_rows.specs.Parts.{Piece, Rows, one_used, one_designator, these_selectors, token, both, tells, if_there, each}
 
 -- the name behind a dot that follows this token
 abbrev pub behind_dot : Option ℕ → ℕ → Option ℕ

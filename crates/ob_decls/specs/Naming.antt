@@ -1,13 +1,13 @@
 -- In which rows an identifier of a module stands (Oberon-07 report, sections 4 to 11).
 use Rattle.std.specs.Prelude.{◌≡◌, ℕ, Some, Contains}
-use Rattle.ob_decls.specs.declared.rows.Declared.{Declared}
-use Rattle.ob_decls.specs.declared.rows.End.{End}
-use Rattle.ob_decls.specs.declared.rows.Import.{Import}
-use Rattle.ob_decls.specs.declared.rows.Selector.{Selector}
-use Rattle.ob_decls.specs.declared.rows.Step.TheVariants as steps
-use Rattle.ob_decls.specs.declared.rows.Used.{Used}
-use Rattle.ob_decls.specs.Declaring.{own_name}
-use Rattle.ob_decls.specs.Parts.{Rows}
+use Rattle.ob_rows.specs.declared.rows.Declared.{Declared}
+use Rattle.ob_rows.specs.declared.rows.End.{End}
+use Rattle.ob_rows.specs.declared.rows.Import.{Import}
+use Rattle.ob_rows.specs.declared.rows.Selector.{Selector}
+use Rattle.ob_rows.specs.declared.rows.Step.TheVariants as steps
+use Rattle.ob_rows.specs.declared.rows.Used.{Used}
+use Rattle.ob_rows.specs.Tables.{own_name}
+use Rattle.ob_rows.specs.Parts.{Rows}
 
 -- this token is the module's own name, or a row has it: as the module of an import item, as declared, as behind END, as used, as behind
 -- a dot in a designator, as behind a dot in a qualident

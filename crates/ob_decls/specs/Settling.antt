@@ -1,9 +1,9 @@
 -- How the selectors of a designator get their rows: each has its place before what stands in them is walked.
 use Rattle.std.specs.Prelude.{ℕ, suc, List, [], ◌∷◌, map}
-use Rattle.ob_decls.specs.declared.rows.Selector.{Selector as SelectorRow}
-use Rattle.ob_decls.specs.declared.rows.Step.TheVariants as steps
-use Rattle.ob_decls.specs.declared.draft.Context.{Context}
-use Rattle.ob_decls.specs.Drafts.{Stage, after, settled}
+use Rattle.ob_rows.specs.declared.rows.Selector.{Selector as SelectorRow}
+use Rattle.ob_rows.specs.declared.rows.Step.TheVariants as steps
+use Rattle.ob_rows.specs.declared.draft.Context.{Context}
+use Rattle.ob_rows.specs.Drafts.{Stage, after, settled}
 use Rattle.ob_decls.specs.Expressions.{Selected}
 
 -- the place of a selector of the designator with this head

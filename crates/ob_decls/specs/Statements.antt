@@ -10,7 +10,7 @@ use Rattle.ob_tree.specs.declared.statement.Stmt.{Stmt, Stmt-F, fold-Stmt}
 use Rattle.ob_tree.specs.declared.statement.StatementSequence.{StatementSequence, StatementSequence-F, fold-StatementSequence}
 use Rattle.ob_tree.specs.declared.statement.Branch.{Branch, Branch-F, fold-Branch}
 use Rattle.ob_tree.specs.declared.statement.For.{For, For-F, fold-For}
-use Rattle.ob_decls.specs.Parts.{Piece, nothing, token, both, tells, if_there}
+use Rattle.ob_rows.specs.Parts.{Piece, nothing, token, both, tells, if_there}
 use Rattle.ob_decls.specs.Expressions.{used, each_after, expr_piece, designator_piece, designator_row}
 
 -- qualident = ident ["." ident]; a dot and a name behind the first

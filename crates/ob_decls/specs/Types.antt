@@ -10,12 +10,12 @@ use Rattle.ob_tree.specs.declared.declaration.Fields.{Fields, Fields-F, fold-Fie
 use Rattle.ob_tree.specs.declared.declaration.Record.{Record, Record-F, fold-Record}
 use Rattle.ob_tree.specs.declared.declaration.VarDecl.{VarDecl, VarDecl-F, fold-VarDecl}
 use Rattle.ob_tree.specs.declared.expression.ExprList.{ExprList, out-ExprList}
-use Rattle.ob_decls.specs.declared.rows.Sort.TheVariants as sorts
-use Rattle.ob_decls.specs.declared.rows.Part.{Part}
-use Rattle.ob_decls.specs.declared.rows.Part.TheVariants as parts
-use Rattle.ob_decls.specs.declared.rows.TypeName.{TypeName}
-use Rattle.ob_decls.specs.declared.draft.Context.{Context}
-use Rattle.ob_decls.specs.Parts.{Piece, Rows, one_declared, one_part, one_record, one_used, nothing, token, both, tells, within, if_there, if_so, each, declaring, opens_block}
+use Rattle.ob_rows.specs.declared.rows.Sort.TheVariants as sorts
+use Rattle.ob_rows.specs.declared.rows.Part.{Part}
+use Rattle.ob_rows.specs.declared.rows.Part.TheVariants as parts
+use Rattle.ob_rows.specs.declared.rows.TypeName.{TypeName}
+use Rattle.ob_rows.specs.declared.draft.Context.{Context}
+use Rattle.ob_rows.specs.Parts.{Piece, Rows, one_declared, one_part, one_record, one_used, nothing, token, both, tells, within, if_there, if_so, each, declaring, opens_block}
 use Rattle.ob_decls.specs.Expressions.{behind_dot, each_after, expr_piece}
 use Rattle.ob_decls.specs.Statements.{qualident_piece}
 

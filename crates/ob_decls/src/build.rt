@@ -1,14 +1,14 @@
 //! From a tree to its table.
 
 ghost use Rattle.std.specs.Prelude.{◌≡◌, IfOk};
-ghost use Rattle.ob_decls.specs.Declaring.{rows_in, rows_of};
-ghost use Rattle.ob_decls.specs.Drafts.{drafted};
+ghost use Rattle.ob_rows.specs.Tables.{rows_in};
+ghost use Rattle.ob_decls.specs.Declaring.{rows_of};
+ghost use Rattle.ob_rows.specs.Drafts.{drafted};
 ghost use Rattle.ob_tree.specs.declared.declaration.Module.{Module};
 
-use crate::draft::{Context, Draft};
-use crate::order::rise;
-use crate::table::Table;
 use crate::walk::declarations::walk_module;
+use ob_rows::Table;
+use ob_rows::draft::{Context, Draft};
 use ob_tree::declaration::Module;
 use std::alloc::{AllocError, Global};
 
@@ -34,17 +34,5 @@ pub fn table_from(draft: Draft) -> Result<Table, AllocError>
     requires { (m : Module) × (drafted draft ≡ rows_of m) }
     ensures { IfOk result (λ t. rows_in t ≡ drafted draft) }
 {
-    rise(draft.parts.as_slice())?;
-    Ok(Table {
-        declarers: draft.declarers,
-        declared: draft.declared,
-        uses: draft.uses,
-        blocks: draft.blocks,
-        imports: draft.imports,
-        parts: draft.parts,
-        records: draft.records,
-        designators: draft.designators,
-        selectors: draft.selectors,
-        ends: draft.ends,
-    })
+    draft.into_table()
 }

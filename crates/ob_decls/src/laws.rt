@@ -5,9 +5,10 @@ ghost use Rattle.ob_scan.specs.declared.kind.Kind.TheVariants as kinds;
 ghost use Rattle.ob_tree.specs.declared.declaration.Module.{Module};
 ghost use Rattle.ob_tree.specs.Declaring.{module_outline};
 ghost use Rattle.ob_tree.specs.Derives.{Derives, declared_in, used_in};
-ghost use Rattle.ob_decls.specs.declared.rows.Declared.{Declared};
-ghost use Rattle.ob_decls.specs.declared.rows.Used.{Used};
-ghost use Rattle.ob_decls.specs.Declaring.{own_name, rows_of};
+ghost use Rattle.ob_rows.specs.declared.rows.Declared.{Declared};
+ghost use Rattle.ob_rows.specs.declared.rows.Used.{Used};
+ghost use Rattle.ob_rows.specs.Tables.{own_name};
+ghost use Rattle.ob_decls.specs.Declaring.{rows_of};
 ghost use Rattle.ob_decls.specs.Naming.{IsNamed};
 
 /// Where a tree derives tokens, the identifiers that its table has are those that its outline declares and looks up, each

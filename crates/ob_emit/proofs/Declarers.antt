@@ -1,9 +1,9 @@
 -- The constructs that declare identifiers, as the table's look-ups find them.
 use Rattle.std.proofs.Common.{◌≡◌, ℕ, Option, Some, None, false, refl, sym, ap, ◌∙◌}
 use Rattle.std.specs.Prelude.{◌==◌, find, not}
-use Rattle.ob_decls.specs.declared.rows.Declared.{Declared}
-use Rattle.ob_decls.specs.declared.rows.Declarer.{Declarer}
-use Rattle.ob_decls.specs.Parts.{Rows}
+use Rattle.ob_rows.specs.declared.rows.Declared.{Declared}
+use Rattle.ob_rows.specs.declared.rows.Declarer.{Declarer}
+use Rattle.ob_rows.specs.Parts.{Rows}
 use Rattle.ob_types.specs.World.{World, declared_at, declarer_from, declarer_of}
 use Rattle.ob_emit.specs.Symbols.{is_local}
 

@@ -12,9 +12,9 @@ use Rattle.ob_scan.specs.Spelling.{Spells}
 use Rattle.ob_scan.specs.Tokens.{is_name}
 use Rattle.ob_scan.proofs.NameTokens.{spelled_names}
 use Rattle.ob_scan.specs.Texts.{no_token, text_at, token_at}
-use Rattle.ob_decls.specs.declared.rows.Declared.{Declared}
-use Rattle.ob_decls.specs.declared.rows.Declarer.{Declarer}
-use Rattle.ob_decls.specs.Parts.{Rows}
+use Rattle.ob_rows.specs.declared.rows.Declared.{Declared}
+use Rattle.ob_rows.specs.declared.rows.Declarer.{Declarer}
+use Rattle.ob_rows.specs.Parts.{Rows}
 use Rattle.ob_interface.specs.Interfaces.{declaration, declaration_by, declaration_of, interface_of, is_outer, is_seen_outside, outer_by, Declaration}
 use Rattle.ob_scope.specs.Identified.{AreNames}
 use Rattle.ob_scope.specs.Members.{declarer_at, member_by, members_of}

@@ -6,10 +6,10 @@ use Rattle.std.specs.List.{cons_option, filter_map}
 use Rattle.std.specs.Str.{IsUtf8}
 use Rattle.std.proofs.lemmas.Bool.{cases_Bool, eqb-true}
 use Rattle.texts.proofs.FieldNames as names
-use Rattle.ob_decls.specs.declared.rows.Declared.{Declared}
-use Rattle.ob_decls.specs.declared.rows.Declarer.{Declarer}
-use Rattle.ob_decls.specs.declared.rows.Import.{Import}
-use Rattle.ob_decls.specs.Declaring.{own_name}
+use Rattle.ob_rows.specs.declared.rows.Declared.{Declared}
+use Rattle.ob_rows.specs.declared.rows.Declarer.{Declarer}
+use Rattle.ob_rows.specs.declared.rows.Import.{Import}
+use Rattle.ob_rows.specs.Tables.{own_name}
 use Rattle.ob_scan.specs.Texts.{text_at}
 use Rattle.ob_scope.specs.Members.{declarer_at, member_by, members_of}
 use Rattle.ob_scope.proofs.Elements.{contains_slice, some_one}
@@ -18,7 +18,7 @@ use Rattle.ob_types.specs.World.{World, declared_at, declarer_from, declarer_of,
 use Rattle.ob_types.specs.World.{owner_at}
 use Rattle.ob_interface.specs.Interfaces.{Declaration, ModuleInterface}
 use Rattle.ob_interface.specs.Placed.{declaration_at, owner_place}
-use Rattle.ob_decls.specs.declared.rows.Sort.{Sort}
+use Rattle.ob_rows.specs.declared.rows.Sort.{Sort}
 use Rattle.scip_symbol.specs.declared.kind.DescriptorKind.{DescriptorKind}
 use Rattle.scip_symbol.specs.declared.kind.DescriptorKind.TheVariants.{Term}
 use Rattle.scip_symbol.specs.SymbolTexts.{PlainDescriptor}

@@ -6,7 +6,7 @@ use Rattle.std.specs.Option.{option_copied}
 use Rattle.std.specs.List.{position, position_or_len}
 use Rattle.std.proofs.lemmas.Option.{slice_get_within}
 use Rattle.std.proofs.lemmas.Bool.{cases_Bool, eq-eqb, eqb-true, lt-ltb, le-ltb}
-use Rattle.ob_decls.specs.Order.{AscendBy, HasNoneBy, IsPlaceBy}
+use Rattle.ob_rows.specs.Order.{AscendBy, HasNoneBy, IsPlaceBy}
 use Rattle.ob_scope.proofs.Elements.{some_one, slice_contains}
 
 module _ {X : Type 0} (n : X → ℕ) where

@@ -5,7 +5,7 @@ use Rattle.std.proofs.Math.Seq.{get_or-append_seam}
 use Rattle.std.proofs.lemmas.Bool.{cases_lt}
 use Rattle.std.proofs.lemmas.List.{get_or_append_left, length-append}
 use Rattle.std.proofs.lemmas.Option.{get_or_from_slice_get, slice_get_within}
-use Rattle.ob_decls.specs.declared.rows.Declared.{Declared}
+use Rattle.ob_rows.specs.declared.rows.Declared.{Declared}
 use Rattle.ob_emit.specs.RowsCut.{AreBefore, AreBehind, AreCuts, IsCut}
 
 pub cuts_more : (declared : List Declared) (firsts : List ℕ) (place : ℕ) → AreCuts declared firsts → IsCut declared (length firsts * 16) place → AreCuts declared (firsts ++ place ∷ [])

@@ -5,7 +5,7 @@ use Rattle.std.specs.List.{filter, position_or_len}
 use Rattle.std.proofs.lemmas.Bool.{cases_Bool, lt-ltb}
 use Rattle.std.proofs.lemmas.List.{length-map}
 use Rattle.std.proofs.lemmas.Option.{slice_get_within, slice_get-map}
-use Rattle.ob_decls.specs.Order.{AscendBy}
+use Rattle.ob_rows.specs.Order.{AscendBy}
 use Rattle.ob_scope.proofs.Elements.{slice_contains, some_one}
 
 -- what passes, at its place

@@ -4,17 +4,17 @@ use Rattle.std.specs.Prelude.{slice_get, Contains, option_map}
 use Rattle.std.specs.List.{filter}
 use Rattle.std.proofs.lemmas.Bool.{and_parts, eq-eqb}
 use Rattle.ob_tree.specs.declared.declaration.Module.{Module}
-use Rattle.ob_decls.specs.declared.rows.Declared.{Declared}
-use Rattle.ob_decls.specs.declared.rows.Declarer.{Declarer}
-use Rattle.ob_decls.specs.declared.rows.FormPart.{FormPart}
-use Rattle.ob_decls.specs.declared.rows.Part.{Part as PartRow}
-use Rattle.ob_decls.specs.declared.rows.Part.TheVariants as parts
-use Rattle.ob_decls.specs.declared.rows.Record.{Record as RecordRow}
-use Rattle.ob_decls.specs.declared.rows.Sort.{Sort}
-use Rattle.ob_decls.specs.declared.rows.Sort.TheVariants as sorts
+use Rattle.ob_rows.specs.declared.rows.Declared.{Declared}
+use Rattle.ob_rows.specs.declared.rows.Declarer.{Declarer}
+use Rattle.ob_rows.specs.declared.rows.FormPart.{FormPart}
+use Rattle.ob_rows.specs.declared.rows.Part.{Part as PartRow}
+use Rattle.ob_rows.specs.declared.rows.Part.TheVariants as parts
+use Rattle.ob_rows.specs.declared.rows.Record.{Record as RecordRow}
+use Rattle.ob_rows.specs.declared.rows.Sort.{Sort}
+use Rattle.ob_rows.specs.declared.rows.Sort.TheVariants as sorts
 use Rattle.ob_decls.specs.Declaring.{rows_of}
-use Rattle.ob_decls.specs.Order.{AreRowsInOrder}
-use Rattle.ob_decls.specs.Parts.{Rows}
+use Rattle.ob_rows.specs.Order.{AreRowsInOrder}
+use Rattle.ob_rows.specs.Parts.{Rows}
 use Rattle.ob_interface.specs.Interfaces.{declaration, declaration_of, form_by, interface_of, is_outer, is_part_by, is_seen_outside, outer_by, part_at, part_of, Declaration}
 use Rattle.ob_interface.specs.Placed.{holds, is_record, owner_place}
 use Rattle.ob_owners.specs.Owners.{has_type, EndsForm, IsFieldOf, IsOfRecord}

@@ -4,10 +4,11 @@ use Rattle.std.specs.Prelude.{slice_get}
 use Rattle.std.specs.Option.{option_and_then, option_map, option_map_or}
 use Rattle.std.proofs.lemmas.Bool.{cases_lt, lt-ltb}
 use Rattle.ob_tree.specs.declared.declaration.Module.{Module}
-use Rattle.ob_decls.specs.declared.rows.Declared.{Declared}
-use Rattle.ob_decls.specs.declared.rows.Sort.{Sort}
-use Rattle.ob_decls.specs.Declaring.{own_name, rows_of}
-use Rattle.ob_decls.specs.Order.{AreRowsInOrder}
+use Rattle.ob_rows.specs.declared.rows.Declared.{Declared}
+use Rattle.ob_rows.specs.declared.rows.Sort.{Sort}
+use Rattle.ob_rows.specs.Tables.{own_name}
+use Rattle.ob_decls.specs.Declaring.{rows_of}
+use Rattle.ob_rows.specs.Order.{AreRowsInOrder}
 use Rattle.ob_interface.specs.Interfaces.{declaration_of, interface_of, outer_by, Declaration, ModuleInterface}
 use Rattle.ob_interface.specs.Placed.{owner_place}
 use Rattle.ob_scope.proofs.Elements.{contains_slice, some_one}

@@ -5,14 +5,15 @@ use Rattle.std.specs.Fmt.{decimal}
 use Rattle.std.specs.Option.{option_map, option_map_or}
 use Rattle.std.proofs.lemmas.Bool.{cases_Bool, eq-eqb, lt-ltb, not-false}
 use Rattle.ob_tree.specs.declared.declaration.Module.{Module}
-use Rattle.ob_decls.specs.declared.rows.Declared.{Declared}
-use Rattle.ob_decls.specs.declared.rows.Declarer.{Declarer}
-use Rattle.ob_decls.specs.declared.rows.Record.{Record as RecordRow}
-use Rattle.ob_decls.specs.declared.rows.Sort.{Sort}
-use Rattle.ob_decls.specs.declared.rows.Sort.TheVariants as sorts
-use Rattle.ob_decls.specs.Declaring.{own_name, rows_of}
-use Rattle.ob_decls.specs.Order.{AreRowsInOrder}
-use Rattle.ob_decls.specs.Parts.{Rows}
+use Rattle.ob_rows.specs.declared.rows.Declared.{Declared}
+use Rattle.ob_rows.specs.declared.rows.Declarer.{Declarer}
+use Rattle.ob_rows.specs.declared.rows.Record.{Record as RecordRow}
+use Rattle.ob_rows.specs.declared.rows.Sort.{Sort}
+use Rattle.ob_rows.specs.declared.rows.Sort.TheVariants as sorts
+use Rattle.ob_rows.specs.Tables.{own_name}
+use Rattle.ob_decls.specs.Declaring.{rows_of}
+use Rattle.ob_rows.specs.Order.{AreRowsInOrder}
+use Rattle.ob_rows.specs.Parts.{Rows}
 use Rattle.ob_owners.proofs.Placed.{AreFields, HasConstruct, HasRecord, Holds, IsAlias, IsNamed, IsNoImport, IsOwner}
 use Rattle.ob_owners.proofs.PlacedModules.{module_holds}
 use Rattle.ob_scope.proofs.Elements.{slice_contains}

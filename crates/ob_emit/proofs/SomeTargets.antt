@@ -12,18 +12,19 @@ use Rattle.type_search.specs.declared.shape.Shape.{Shape}
 use Rattle.type_search.specs.declared.shape.Shape.TheVariants as shapes
 use Rattle.type_search.specs.Searches.{Finds, HasElement, HasTarget, own, pointed, inherited}
 use Rattle.ob_tree.specs.declared.declaration.Module.{Module}
-use Rattle.ob_decls.specs.declared.rows.Block.{Block as BlockRow}
-use Rattle.ob_decls.specs.declared.rows.Used.{Used}
-use Rattle.ob_decls.specs.declared.rows.Declared.{Declared}
-use Rattle.ob_decls.specs.declared.rows.Declarer.{Declarer}
-use Rattle.ob_decls.specs.declared.rows.End.{End}
-use Rattle.ob_decls.specs.declared.rows.Import.{Import}
-use Rattle.ob_decls.specs.declared.rows.Sort.{Sort}
-use Rattle.ob_decls.specs.declared.rows.Sort.TheVariants as sorts
-use Rattle.ob_decls.specs.declared.rows.Step.{Step}
-use Rattle.ob_decls.specs.declared.rows.TypeName.{TypeName as NameRow}
-use Rattle.ob_decls.specs.Declaring.{own_name, rows_of}
-use Rattle.ob_decls.specs.Order.{AreRowsInOrder}
+use Rattle.ob_rows.specs.declared.rows.Block.{Block as BlockRow}
+use Rattle.ob_rows.specs.declared.rows.Used.{Used}
+use Rattle.ob_rows.specs.declared.rows.Declared.{Declared}
+use Rattle.ob_rows.specs.declared.rows.Declarer.{Declarer}
+use Rattle.ob_rows.specs.declared.rows.End.{End}
+use Rattle.ob_rows.specs.declared.rows.Import.{Import}
+use Rattle.ob_rows.specs.declared.rows.Sort.{Sort}
+use Rattle.ob_rows.specs.declared.rows.Sort.TheVariants as sorts
+use Rattle.ob_rows.specs.declared.rows.Step.{Step}
+use Rattle.ob_rows.specs.declared.rows.TypeName.{TypeName as NameRow}
+use Rattle.ob_rows.specs.Tables.{own_name}
+use Rattle.ob_decls.specs.Declaring.{rows_of}
+use Rattle.ob_rows.specs.Order.{AreRowsInOrder}
 use Rattle.ob_interface.specs.Interfaces.{declaration as seen_as, declaration_by, declaration_of, interface_of, is_seen_outside, outer_by, Declaration, ModuleInterface}
 use Rattle.ob_interface.specs.Placed.{declaration_at, place_of}
 use Rattle.ob_owners.proofs.Placed.{AreFields, EndsOne, HasConstruct, IsAlias, IsField, IsNoImport}

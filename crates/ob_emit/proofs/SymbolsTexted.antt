@@ -9,9 +9,9 @@ use Rattle.std.specs.Str.Parse.{AllDigits}
 use Rattle.std.proofs.lemmas.Bool.{eqb-false, or_parts}
 use Rattle.std.proofs.lemmas.Fmt.{decimal_is_IsNumeral}
 use Rattle.std.proofs.lemmas.List.Sums.{count_by-le-length}
-use Rattle.ob_decls.specs.declared.rows.Declared.{Declared}
-use Rattle.ob_decls.specs.declared.rows.Import.{Import}
-use Rattle.ob_decls.specs.Declaring.{own_name}
+use Rattle.ob_rows.specs.declared.rows.Declared.{Declared}
+use Rattle.ob_rows.specs.declared.rows.Import.{Import}
+use Rattle.ob_rows.specs.Tables.{own_name}
 use Rattle.ob_interface.specs.Interfaces.{ModuleInterface}
 use Rattle.ob_scope.proofs.Elements.{some_one}
 use Rattle.ob_targets.specs.declared.target.Target.{Target}

@@ -5,7 +5,7 @@ use Rattle.std.specs.Option.{option_map}
 use Rattle.std.proofs.lemmas.Bool.{cases_lt}
 use Rattle.std.proofs.lemmas.List.{length-append}
 use Rattle.std.proofs.lemmas.Option.{slice_get_within, get_or_from_slice_get}
-use Rattle.ob_decls.specs.declared.rows.Declared.{Declared}
+use Rattle.ob_rows.specs.declared.rows.Declared.{Declared}
 use Rattle.ob_types.specs.World.{World}
 use Rattle.ob_emit.specs.Made.{AreMade}
 use Rattle.ob_emit.specs.Symbols.{symbol_at}
@@ -16,8 +16,8 @@ use Rattle.std.proofs.lemmas.List.Quantifiers.{position-Some}
 use Rattle.std.proofs.lemmas.List.Sums.{count_by_more_no, count_by_more_yes}
 use Rattle.std.proofs.lemmas.Option.{slice_get-map}
 use Rattle.std.proofs.Common.{append_assoc}
-use Rattle.ob_decls.specs.Parts.{Rows}
-use Rattle.ob_decls.specs.declared.rows.Import.{Import}
+use Rattle.ob_rows.specs.Parts.{Rows}
+use Rattle.ob_rows.specs.declared.rows.Import.{Import}
 use Rattle.ob_scope.proofs.Elements.{slice_there, some_one}
 use Rattle.ob_types.specs.World.{text}
 use Rattle.ob_interface.specs.Interfaces.{ModuleInterface}

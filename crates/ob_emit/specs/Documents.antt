@@ -5,7 +5,7 @@ use Rattle.std.specs.List.{filter_map, range_with_len}
 use Rattle.ob_scan.specs.declared.token.Token.{Token}
 use Rattle.ob_scan.specs.Position.{ends_line}
 use Rattle.ob_scan.specs.Texts.{token_at}
-use Rattle.ob_decls.specs.declared.rows.Declarer.{Declarer}
+use Rattle.ob_rows.specs.declared.rows.Declarer.{Declarer}
 use Rattle.ob_types.specs.World.{World, declarer_of, text}
 use Rattle.ob_targets.specs.declared.target.Reference.{Reference}
 use Rattle.ob_targets.specs.declared.target.Target.{Target}

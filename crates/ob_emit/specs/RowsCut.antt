@@ -1,6 +1,6 @@
 -- Declarations on both sides of a token.
 use Rattle.std.specs.Prelude.{◌≡◌, ℕ, ◌*◌, ◌≤◌, ◌<◌, List, Some, length, slice_get, slice_index}
-use Rattle.ob_decls.specs.declared.rows.Declared.{Declared}
+use Rattle.ob_rows.specs.declared.rows.Declared.{Declared}
 
 -- those in front of a place stand before a token
 abbrev pub AreBefore : List Declared → ℕ → ℕ → Type 0

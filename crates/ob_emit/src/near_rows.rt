@@ -1,12 +1,12 @@
 //! The rows of a walk through a module in order: each is sought first where the last one was found, and behind it.
 ghost use Rattle.std.specs.Prelude.{◌≡◌, ◌==◌, find, Contains, IfNone, IfSome};
-ghost use Rattle.ob_decls.specs.declared.rows.Declared.{Declared};
-ghost use Rattle.ob_decls.specs.declared.rows.Declarer.{Declarer};
-ghost use Rattle.ob_decls.specs.Declaring.{rows_in};
-ghost use Rattle.ob_decls.specs.Order.{AscendBy, HasNoneBy, IsPlaceBy};
+ghost use Rattle.ob_rows.specs.declared.rows.Declared.{Declared};
+ghost use Rattle.ob_rows.specs.declared.rows.Declarer.{Declarer};
+ghost use Rattle.ob_rows.specs.Tables.{rows_in};
+ghost use Rattle.ob_rows.specs.Order.{AscendBy, HasNoneBy, IsPlaceBy};
 ghost use Rattle.ob_types.specs.World.{declarer_of};
 
-use ob_decls::{Declared, Declarer, Keyed, Table, place_of};
+use ob_rows::{Declared, Declarer, Keyed, Table, place_of};
 use ob_types::Types;
 
 /// At so many rows it is looked first.

@@ -1,16 +1,16 @@
 //! The module's own declarations, by their tokens.
 ghost use Rattle.std.specs.Prelude.{◌≡◌, ◌==◌, find, slice_get};
 ghost use Rattle.std.specs.Option.{option_map};
-ghost use Rattle.ob_decls.specs.declared.rows.Declared.{Declared};
-ghost use Rattle.ob_decls.specs.declared.rows.Declarer.{Declarer};
-ghost use Rattle.ob_decls.specs.Declaring.{rows_in};
+ghost use Rattle.ob_rows.specs.declared.rows.Declared.{Declared};
+ghost use Rattle.ob_rows.specs.declared.rows.Declarer.{Declarer};
+ghost use Rattle.ob_rows.specs.Tables.{rows_in};
 ghost use Rattle.ob_types.specs.World.{declarer_of};
 ghost use Rattle.ob_emit.specs.Made.{step_told};
 ghost use Rattle.ob_emit.specs.Symbols.{is_local, own_step, own_steps};
 
 use crate::near_rows::declarer_near;
 use crate::steps::{Nested, StepRow, step_in_block, step_in_record};
-use ob_decls::{Declared, Declarer, Import, Table};
+use ob_rows::{Declared, Declarer, Import, Table};
 use ob_types::Types;
 
 /// The construct that declares and begins with this token.

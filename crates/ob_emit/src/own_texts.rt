@@ -17,7 +17,7 @@ use crate::outer_texts::{Outer, outside_seed};
 use crate::own::is_local;
 use crate::path::path_text;
 use crate::row_places::RowPlaces;
-use ob_decls::Declared;
+use ob_rows::Declared;
 use ob_targets::{Reference, Target};
 use ob_types::Types;
 use std::alloc::{AllocError, Global};

@@ -2,11 +2,11 @@
 //! tells between which rows the token's stands, at most sixteen.
 ghost use Rattle.std.specs.Prelude.{◌≡◌, ◌==◌, ◌<◌, IfNone, IfOk, IfSome, position};
 ghost use Rattle.std.specs.Bool.{OnTrue};
-ghost use Rattle.ob_decls.specs.declared.rows.Declared.{Declared};
-ghost use Rattle.ob_decls.specs.Order.{AscendBy, HasNoneBy, IsPlaceBy};
+ghost use Rattle.ob_rows.specs.declared.rows.Declared.{Declared};
+ghost use Rattle.ob_rows.specs.Order.{AscendBy, HasNoneBy, IsPlaceBy};
 ghost use Rattle.ob_emit.specs.RowsCut.{AreBefore, AreBehind, AreCuts, IsCut};
 
-use ob_decls::{Declared, place_of};
+use ob_rows::{Declared, place_of};
 use std::alloc::{AllocError, Global};
 
 /// How many tokens stand between two marks.

@@ -4,7 +4,7 @@ ghost use Rattle.std.specs.Option.{option_map};
 ghost use Rattle.ob_emit.specs.Made.{step_told};
 ghost use Rattle.ob_emit.specs.Symbols.{PathStep, step_in_block, step_in_record, kind_of};
 
-use ob_decls::Sort;
+use ob_rows::Sort;
 use scip_symbol::DescriptorKind;
 
 /// What is declared: its own descriptor, and of a field the number of its owner.

@@ -5,11 +5,11 @@ use Rattle.std.specs.List.{filter, filter_map}
 use Rattle.std.proofs.lemmas.List.{take-map, drop-map}
 use Rattle.ob_scan.specs.declared.token.Token.{Token}
 use Rattle.ob_scan.specs.Texts.{text_at}
-use Rattle.ob_decls.specs.declared.rows.FormPart.{FormPart}
-use Rattle.ob_decls.specs.declared.rows.Declarer.{Declarer}
-use Rattle.ob_decls.specs.declared.rows.Declared.{Declared}
-use Rattle.ob_decls.specs.declared.rows.Record.{Record as RecordRow}
-use Rattle.ob_decls.specs.Parts.{Rows as TableRows}
+use Rattle.ob_rows.specs.declared.rows.FormPart.{FormPart}
+use Rattle.ob_rows.specs.declared.rows.Declarer.{Declarer}
+use Rattle.ob_rows.specs.declared.rows.Declared.{Declared}
+use Rattle.ob_rows.specs.declared.rows.Record.{Record as RecordRow}
+use Rattle.ob_rows.specs.Parts.{Rows as TableRows}
 use Rattle.ob_interface.specs.declared.rows.Rows.{Rows}
 use Rattle.ob_interface.specs.declared.rows.PartRow.{PartRow}
 use Rattle.ob_interface.specs.Interfaces.{Part, Declaration, Base, part_of, is_part_by, is_seen_outside, declaration_by, declaration_of, base_by, base_of, outer_by, imported_of, start_at, interface_of}

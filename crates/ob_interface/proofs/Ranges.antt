@@ -6,8 +6,8 @@ use Rattle.std.specs.Prelude.{not, ◌&&◌}
 use Rattle.std.specs.Ordering.{nat_cmp, is_lt}
 use Rattle.std.specs.List.Sorted.{IsStableByKey, IsPartitionPoint, ties}
 use Rattle.std.proofs.lemmas.Bool.Decides.{nat_tests}
-use Rattle.ob_decls.specs.declared.rows.FormPart.{FormPart}
-use Rattle.ob_decls.specs.declared.rows.Part.TheVariants as parts
+use Rattle.ob_rows.specs.declared.rows.FormPart.{FormPart}
+use Rattle.ob_rows.specs.declared.rows.Part.TheVariants as parts
 use Rattle.ob_interface.specs.Interfaces.{is_part_by}
 
 module _ {X : Type 0} (n : X → ℕ) (k : ℕ) where

@@ -10,7 +10,7 @@ use Rattle.ob_interface.specs.declared.rows.ImportRow.{ImportRow}
 use Rattle.ob_interface.specs.declared.rows.DeclarationRow.{DeclarationRow}
 use Rattle.ob_interface.specs.Interfaces.{TypeName, Alone, Qualified, Part, Array, Pointer, Record, Procedure, Named, Declaration, Base, Imported, part_of}
 use Rattle.ob_scan.specs.declared.token.Token.{Token}
-use Rattle.ob_decls.specs.declared.rows.FormPart.{FormPart}
+use Rattle.ob_rows.specs.declared.rows.FormPart.{FormPart}
 
 -- the buffer has more at its end
 pub record IsGrown (old new : List ℕ) : Type 0 where

@@ -7,7 +7,7 @@ ghost use Rattle.ob_interface.specs.Texts.{base_in, declaration_in, name_in, par
 
 use crate::order::text_of;
 use crate::rows::{BaseRow, DeclarationRow, NameRow, PartRow, RowPart, Rows};
-use ob_decls::Sort;
+use ob_rows::Sort;
 use std::marker::Model;
 
 /// The name of a type: alone, or behind the name before a dot.

@@ -5,7 +5,7 @@ ghost use Rattle.ob_interface.specs.Interfaces.{part_of, type_name};
 ghost use Rattle.ob_interface.specs.Texts.{name_in, part_row_in, text_in, IsGrown, TellsOn};
 
 use crate::rows::{NameRow, PartRow, RowPart, Span};
-use ob_decls::{FormPart, Part};
+use ob_rows::{FormPart, Part};
 use ob_scan::TokenTexts;
 use std::alloc::AllocError;
 

@@ -10,7 +10,7 @@ ghost use Rattle.ob_interface.specs.Texts.{part_row_in, AllTell, IsGrown};
 use crate::buffer::{add_part, place};
 use crate::rows::PartRow;
 use indexmap::IndexMap;
-use ob_decls::{Declarer, FormPart};
+use ob_rows::{Declarer, FormPart};
 use ob_scan::TokenTexts;
 use std::alloc::{AllocError, Global};
 

@@ -2,10 +2,10 @@
 ghost use Rattle.std.specs.Prelude.{◌≡◌, ◌↔◌, ℕ, List, Option, Some, None};
 ghost use Rattle.std.specs.Option.{option_and_then};
 ghost use Rattle.ob_scan.specs.declared.token.Token.{Token};
-ghost use Rattle.ob_decls.specs.declared.rows.Declared.{Declared};
-ghost use Rattle.ob_decls.specs.declared.rows.Declarer.{Declarer};
-ghost use Rattle.ob_decls.specs.Order.{AreRowsInOrder};
-ghost use Rattle.ob_decls.specs.Parts.{Rows};
+ghost use Rattle.ob_rows.specs.declared.rows.Declared.{Declared};
+ghost use Rattle.ob_rows.specs.declared.rows.Declarer.{Declarer};
+ghost use Rattle.ob_rows.specs.Order.{AreRowsInOrder};
+ghost use Rattle.ob_rows.specs.Parts.{Rows};
 ghost use Rattle.ob_interface.specs.Interfaces.{interface_of, Declaration};
 ghost use Rattle.ob_interface.specs.OwnTable.{Declares, IsFirstDeclared};
 ghost use Rattle.ob_interface.specs.Placed.{declaration_at, place_of};

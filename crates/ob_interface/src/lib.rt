@@ -1,6 +1,6 @@
 //! What other modules see of a module, as one value with its texts in one buffer.
-//! Stands on `ob_decls`, and on `ob_tree` and `ob_scan` below it, with `indexmap` for its tables.
-//! Its contract: the interface is exactly what the rows of `ob_decls` say of the module's block.
+//! Stands on `ob_rows` and `ob_scan`, with `indexmap` for its tables.
+//! Its contract: the interface is exactly what the rows of the module's table say of its block.
 #![tactic(auto)]
 
 mod answers;

@@ -1,7 +1,7 @@
 //! Declarations, bases and import items with their texts.
 ghost use Rattle.std.specs.Prelude.{◌≡◌, ℕ, List, nat_eq, map, IfOk};
 ghost use Rattle.std.specs.Option.{option_map};
-ghost use Rattle.ob_decls.specs.declared.rows.FormPart.{FormPart as FormPartRow};
+ghost use Rattle.ob_rows.specs.declared.rows.FormPart.{FormPart as FormPartRow};
 ghost use Rattle.ob_scan.specs.declared.token.Token.{Token};
 ghost use Rattle.std.specs.List.{filter_map};
 ghost use Rattle.std.specs.List.Sorted.{IsNonDecreasingBy};
@@ -14,7 +14,7 @@ use crate::buffer::{add_name, add_text};
 use crate::forms::places_of;
 use crate::rows::{BaseRow, DeclarationRow, ImportRow};
 use indexmap::IndexMap;
-use ob_decls::{Declared, Declarer, FormPart, Import, Record, Sort, TypeName};
+use ob_rows::{Declared, Declarer, FormPart, Import, Record, Sort, TypeName};
 use ob_scan::TokenTexts;
 use std::alloc::{AllocError, Global};
 

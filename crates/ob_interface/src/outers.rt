@@ -4,7 +4,7 @@ ghost use Rattle.indexmap.specs.IndexMap.{get};
 ghost use Rattle.ob_interface.specs.Interfaces.{outer_by};
 
 use indexmap::IndexMap;
-use ob_decls::Declarer;
+use ob_rows::Declarer;
 use std::alloc::{AllocError, Global};
 
 /// The constructs that declare in the module's block, by their first tokens.

@@ -1,6 +1,6 @@
 //! Rows of numbers and spans over one buffer of text.
 
-use ob_decls::Sort;
+use ob_rows::Sort;
 use std::alloc::Global;
 
 /// A part of the buffer: from one offset to another, in bytes.

@@ -4,7 +4,7 @@ ghost use Rattle.std.specs.List.{filter};
 ghost use Rattle.std.specs.List.Sorted.{IsNonDecreasingBy};
 ghost use Rattle.indexmap.specs.IndexMap.{get};
 ghost use Rattle.ob_scan.specs.Spelling.{AreInText};
-ghost use Rattle.ob_decls.specs.Declaring.{rows_in};
+ghost use Rattle.ob_rows.specs.Tables.{rows_in};
 ghost use Rattle.ob_interface.specs.Interfaces.{interface_of, is_part_by, outer_by};
 ghost use Rattle.ob_interface.specs.Rowed.{interface_in};
 
@@ -14,7 +14,7 @@ use crate::members::{add_bases, add_declarations, add_imports};
 use crate::outers::outers_of;
 use crate::rows::Rows;
 use indexmap::IndexMap;
-use ob_decls::{Declarer, FormPart, Table};
+use ob_rows::{Declarer, FormPart, Table};
 use ob_scan::{Token, TokenTexts};
 use std::alloc::{AllocError, Global};
 use std::marker::Model;

@@ -1,9 +1,9 @@
 -- Parts of a tree in which no record stands.
 use Rattle.std.proofs.Common.{◌≡◌, ℕ, ◌+◌, Bool, true, false, List, [], ◌∷◌, ◌++◌, map, Option, Some, None, refl, sym, ap₂, subst}
 use Rattle.ob_tree.specs.declared.name.OneOrMore.{OneOrMore}
-use Rattle.ob_decls.specs.declared.rows.Record.{Record}
-use Rattle.ob_decls.specs.declared.rows.Sort.{Sort}
-use Rattle.ob_decls.specs.Parts.{Piece, Rows, no_rows, joined, nothing, token, both, tells, within, if_there, if_so, each, declaring, opens_block}
+use Rattle.ob_rows.specs.declared.rows.Record.{Record}
+use Rattle.ob_rows.specs.declared.rows.Sort.{Sort}
+use Rattle.ob_rows.specs.Parts.{Piece, Rows, no_rows, joined, nothing, token, both, tells, within, if_there, if_so, each, declaring, opens_block}
 use Rattle.ob_decls.specs.Expressions.{each_after, used}
 use Rattle.ob_decls.specs.Types.{declared_row}
 

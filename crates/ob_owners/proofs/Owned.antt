@@ -1,9 +1,9 @@
 -- Whose types the records in a part of a tree are: those of the declaration around it, one at most, or of declarations in it, each one's.
 use Rattle.std.proofs.Common.{◌≡◌, ℕ, zero, suc, ◌+◌, ◌<◌, ◌≤◌, ◌⊎◌, inl, inr, List, [], ◌∷◌, ◌++◌, map, Option, Some, None, refl, sym, ap, ◌∙◌, subst, arith}
 use Rattle.std.specs.Prelude.{slice_get}
-use Rattle.ob_decls.specs.declared.rows.Record.{Record}
-use Rattle.ob_decls.specs.declared.rows.Sort.{Sort}
-use Rattle.ob_decls.specs.Parts.{Piece, Rows, joined, both, tells, within, if_there, each, declaring, opens_block}
+use Rattle.ob_rows.specs.declared.rows.Record.{Record}
+use Rattle.ob_rows.specs.declared.rows.Sort.{Sort}
+use Rattle.ob_rows.specs.Parts.{Piece, Rows, joined, both, tells, within, if_there, each, declaring, opens_block}
 use Rattle.ob_owners.proofs.Bare.{Bare, Context, b-nothing}
 
 -- ---- owners

@@ -9,9 +9,9 @@ use Rattle.ob_tree.specs.declared.declaration.Module.{Module}
 use Rattle.ob_tree.specs.declared.declaration.Declarations.{Declarations, Declarations-F, roll-Declarations, out-roll-Declarations, ind-Declarations, map-Declarations}
 use Rattle.ob_tree.specs.declared.declaration.ProcDecl.{ProcDecl, ProcDecl-F, roll-ProcDecl, out-roll-ProcDecl, map-ProcDecl}
 use Rattle.ob_tree.proofs.Closed.{With}
-use Rattle.ob_decls.specs.declared.rows.Sort.TheVariants as sorts
-use Rattle.ob_decls.specs.Parts.{Piece, token, both, tells, declaring, opens_block}
-use Rattle.ob_decls.specs.Parts.{if_there as there, each as pieces}
+use Rattle.ob_rows.specs.declared.rows.Sort.TheVariants as sorts
+use Rattle.ob_rows.specs.Parts.{Piece, token, both, tells, declaring, opens_block}
+use Rattle.ob_rows.specs.Parts.{if_there as there, each as pieces}
 use Rattle.ob_decls.specs.Expressions.{expr_piece}
 use Rattle.ob_decls.specs.Statements.{block_piece}
 use Rattle.ob_decls.specs.Types.{identdef_piece, parameters_piece}
@@ -21,7 +21,7 @@ use Rattle.ob_decls.proofs.DeclarationLayers as told
 use Rattle.std.proofs.Common.{◌<◌, ◌≡◌, ℕ, Some, arith}
 use Rattle.std.specs.Prelude.{Contains, slice_get}
 use Rattle.std.proofs.lemmas.Option.{slice_get-get_or}
-use Rattle.ob_decls.specs.declared.rows.Record.{Record as RecordRow}
+use Rattle.ob_rows.specs.declared.rows.Record.{Record as RecordRow}
 use Rattle.ob_decls.specs.Declaring.{rows_of, outermost}
 use Rattle.ob_owners.proofs.Bare.{Bare, b-both, b-declaring, b-each, b-first, b-tells, b-there, b-token}
 use Rattle.ob_owners.proofs.BareExpressions.{b-expr}

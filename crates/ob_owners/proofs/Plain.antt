@@ -1,10 +1,10 @@
 -- Parts of a tree in which nothing is declared.
 use Rattle.std.proofs.Common.{◌≡◌, ℕ, ◌+◌, Bool, true, false, List, [], ◌∷◌, ◌++◌, map, Option, Some, None, refl, sym, ap, ap₂, subst}
-use Rattle.ob_decls.specs.declared.rows.Record.{Record}
-use Rattle.ob_decls.specs.declared.rows.Declared.{Declared}
-use Rattle.ob_decls.specs.declared.rows.FormPart.{FormPart}
-use Rattle.ob_decls.specs.declared.rows.Declarer.{Declarer}
-use Rattle.ob_decls.specs.Parts.{Piece, Rows, no_rows, joined, nothing, token, both, tells, if_there, if_so, each}
+use Rattle.ob_rows.specs.declared.rows.Record.{Record}
+use Rattle.ob_rows.specs.declared.rows.Declared.{Declared}
+use Rattle.ob_rows.specs.declared.rows.FormPart.{FormPart}
+use Rattle.ob_rows.specs.declared.rows.Declarer.{Declarer}
+use Rattle.ob_rows.specs.Parts.{Piece, Rows, no_rows, joined, nothing, token, both, tells, if_there, if_so, each}
 use Rattle.ob_decls.specs.Expressions.{used}
 use Rattle.ob_owners.proofs.Bare.{Context}
 use Rattle.ob_owners.proofs.Quiet as quiet

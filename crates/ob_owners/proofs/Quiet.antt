@@ -1,12 +1,12 @@
 -- Parts of a tree that only use: nothing is declared in them, and no type, import or end stands there.
 use Rattle.std.proofs.Common.{◌≡◌, ℕ, ◌+◌, Bool, true, false, List, [], ◌∷◌, ◌++◌, map, Option, Some, None, refl, sym, ap, ap₂, subst}
-use Rattle.ob_decls.specs.declared.rows.Declared.{Declared}
-use Rattle.ob_decls.specs.declared.rows.Declarer.{Declarer}
-use Rattle.ob_decls.specs.declared.rows.End.{End}
-use Rattle.ob_decls.specs.declared.rows.FormPart.{FormPart}
-use Rattle.ob_decls.specs.declared.rows.Import.{Import}
-use Rattle.ob_decls.specs.declared.rows.Record.{Record}
-use Rattle.ob_decls.specs.Parts.{Piece, Rows, no_rows, joined, nothing, token, both, tells, if_there, if_so, each}
+use Rattle.ob_rows.specs.declared.rows.Declared.{Declared}
+use Rattle.ob_rows.specs.declared.rows.Declarer.{Declarer}
+use Rattle.ob_rows.specs.declared.rows.End.{End}
+use Rattle.ob_rows.specs.declared.rows.FormPart.{FormPart}
+use Rattle.ob_rows.specs.declared.rows.Import.{Import}
+use Rattle.ob_rows.specs.declared.rows.Record.{Record}
+use Rattle.ob_rows.specs.Parts.{Piece, Rows, no_rows, joined, nothing, token, both, tells, if_there, if_so, each}
 use Rattle.ob_decls.specs.Expressions.{used}
 use Rattle.ob_owners.proofs.Bare.{Bare, Context}
 

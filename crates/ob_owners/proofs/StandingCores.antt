@@ -1,10 +1,10 @@
 -- What a record, a declaration with a type and another declaration tell, by what stands in them.
 use Rattle.std.proofs.Common.{◌≡◌, ℕ, suc, ◌<◌, ◌≤◌, ◌⊎◌, inl, inr, List, [], ◌∷◌, Some, None, true, refl, sym, ap, ◌∙◌, subst, arith}
-use Rattle.ob_decls.specs.declared.rows.Declared.{Declared}
-use Rattle.ob_decls.specs.declared.rows.Declarer.{Declarer}
-use Rattle.ob_decls.specs.declared.rows.FormPart.{FormPart}
-use Rattle.ob_decls.specs.declared.rows.Part.TheVariants as kinds
-use Rattle.ob_decls.specs.declared.rows.Record.{Record}
+use Rattle.ob_rows.specs.declared.rows.Declared.{Declared}
+use Rattle.ob_rows.specs.declared.rows.Declarer.{Declarer}
+use Rattle.ob_rows.specs.declared.rows.FormPart.{FormPart}
+use Rattle.ob_rows.specs.declared.rows.Part.TheVariants as kinds
+use Rattle.ob_rows.specs.declared.rows.Record.{Record}
 use Rattle.ob_owners.specs.Owners.{has_type}
 use Rattle.ob_owners.proofs.Standing.{Core, Ends, FieldOf, Holds, In, OfRecord, OwnOr, Typed, Within}
 

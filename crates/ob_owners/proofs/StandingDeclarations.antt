@@ -1,10 +1,10 @@
 -- Declarations by what they tell of records and forms.
 use Rattle.std.proofs.Common.{◌≡◌, ℕ, suc, ◌+◌, ◌-◌, ◌<◌, ◌≤◌, inl, inr, List, ◌++◌, Some, None, true, refl, sym, subst, arith}
 use Rattle.ob_tree.specs.declared.name.Identdef.{Identdef}
-use Rattle.ob_decls.specs.declared.rows.Declared.{Declared}
-use Rattle.ob_decls.specs.declared.rows.Sort.{Sort}
-use Rattle.ob_decls.specs.declared.rows.Sort.TheVariants as sorts
-use Rattle.ob_decls.specs.Parts.{Piece, joined, token, both, tells, within, declaring, declarer, declaring_at, if_so, in_block, opens_block, no_rows, record_for}
+use Rattle.ob_rows.specs.declared.rows.Declared.{Declared}
+use Rattle.ob_rows.specs.declared.rows.Sort.{Sort}
+use Rattle.ob_rows.specs.declared.rows.Sort.TheVariants as sorts
+use Rattle.ob_rows.specs.Parts.{Piece, joined, token, both, tells, within, declaring, declarer, declaring_at, if_so, in_block, opens_block, no_rows, record_for}
 use Rattle.ob_decls.specs.Types.{identdef_piece}
 use Rattle.ob_owners.specs.Owners.{has_type}
 use Rattle.ob_owners.proofs.Bare.{Context}

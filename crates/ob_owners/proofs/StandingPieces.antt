@@ -1,14 +1,14 @@
 -- Parts of a tree by what they tell of records and forms.
 use Rattle.std.proofs.Common.{◌≡◌, ℕ, suc, ◌+◌, ◌-◌, ◌<◌, ◌≤◌, inl, inr, List, [], ◌∷◌, ◌++◌, map, Bool, Option, Some, None, refl, sym, ap, ap₂, ◌∙◌, subst, arith}
 use Rattle.ob_tree.specs.declared.name.Qualident.{Qualident}
-use Rattle.ob_decls.specs.declared.rows.Declared.{Declared}
-use Rattle.ob_decls.specs.declared.rows.Declarer.{Declarer}
-use Rattle.ob_decls.specs.declared.rows.FormPart.{FormPart}
-use Rattle.ob_decls.specs.declared.rows.Part.{Part}
-use Rattle.ob_decls.specs.declared.rows.Part.TheVariants as kinds
-use Rattle.ob_decls.specs.declared.rows.Record.{Record}
-use Rattle.ob_decls.specs.declared.rows.Sort.{Sort}
-use Rattle.ob_decls.specs.Parts.{Piece, Rows, no_rows, joined, token, both, tells, within, if_there, each, declaring, declarer, declaring_at, in_block, opens_block, record_for}
+use Rattle.ob_rows.specs.declared.rows.Declared.{Declared}
+use Rattle.ob_rows.specs.declared.rows.Declarer.{Declarer}
+use Rattle.ob_rows.specs.declared.rows.FormPart.{FormPart}
+use Rattle.ob_rows.specs.declared.rows.Part.{Part}
+use Rattle.ob_rows.specs.declared.rows.Part.TheVariants as kinds
+use Rattle.ob_rows.specs.declared.rows.Record.{Record}
+use Rattle.ob_rows.specs.declared.rows.Sort.{Sort}
+use Rattle.ob_rows.specs.Parts.{Piece, Rows, no_rows, joined, token, both, tells, within, if_there, each, declaring, declarer, declaring_at, in_block, opens_block, record_for}
 use Rattle.ob_decls.specs.Types.{base_of, declared_row, in_record, part_here, record_row, targeted, untargeted}
 use Rattle.ob_owners.proofs.Bare.{Context}
 use Rattle.ob_owners.proofs.Plain.{Plain, Told, b-nothing, none, told}

@@ -1,11 +1,11 @@
 //! Laws of records. Each function is a law: its body is empty, and its contract is proved.
 ghost use Rattle.std.specs.Prelude.{◌≡◌, ◌≤◌, ℕ, Contains, Some};
 ghost use Rattle.ob_tree.specs.declared.declaration.Module.{Module};
-ghost use Rattle.ob_decls.specs.declared.rows.Declared.{Declared};
-ghost use Rattle.ob_decls.specs.declared.rows.Declarer.{Declarer};
-ghost use Rattle.ob_decls.specs.declared.rows.FormPart.{FormPart};
-ghost use Rattle.ob_decls.specs.declared.rows.Part.TheVariants as part_kinds;
-ghost use Rattle.ob_decls.specs.declared.rows.Record.{Record};
+ghost use Rattle.ob_rows.specs.declared.rows.Declared.{Declared};
+ghost use Rattle.ob_rows.specs.declared.rows.Declarer.{Declarer};
+ghost use Rattle.ob_rows.specs.declared.rows.FormPart.{FormPart};
+ghost use Rattle.ob_rows.specs.declared.rows.Part.TheVariants as part_kinds;
+ghost use Rattle.ob_rows.specs.declared.rows.Record.{Record};
 ghost use Rattle.ob_decls.specs.Declaring.{rows_of};
 ghost use Rattle.ob_owners.specs.Owners.{EndsForm, IsFieldOf, IsOfRecord};
 

@@ -5,7 +5,7 @@ use Rattle.ob_scan.specs.declared.kind.Kind.TheVariants as kinds
 use Rattle.ob_scan.specs.declared.token.Token.{Token}
 use Rattle.ob_tree.specs.declared.token.Leaf.{Leaf}
 use Rattle.ob_tree.specs.Marks.{Out, word, times}
-use Rattle.ob_tree.proofs.Walks.{times_more}
+use Rattle.ob_tree.proofs.Eaches.{times_more}
 use Rattle.ob_parse.specs.declared.cursor.Cursor.{Cursor}
 use Rattle.ob_parse.specs.Forms.{Read, many, accept_at, expect_at}
 use Rattle.ob_parse.specs.Accords.{ahead, kind_of}

@@ -10,7 +10,7 @@ use Rattle.ob_tree.specs.Constructs.{Construct}
 use Rattle.ob_tree.specs.declared.role.Role.TheVariants.{Selects}
 use Rattle.ob_tree.specs.Marks.{Out, tokens_of, construct, word, declared, each}
 use Rattle.ob_tree.specs.Expressions.{mul_kind, add_kind}
-use Rattle.ob_tree.proofs.Walks.{each_push}
+use Rattle.ob_tree.proofs.Eaches.{each_push}
 use Rattle.ob_parse.specs.Front.{uncons, front}
 use Rattle.ob_parse.specs.Forms.{Unexpected, ◌>>=◌, Read, Reader, Front, Start, expect_at, accept_at, identifier_at, behind_name, is_something, led_by, begins, seq, prefixed, node, if_found, so_often, many, several}
 use Rattle.ob_parse.specs.ReadNames.{identdef_after, identdef_at}

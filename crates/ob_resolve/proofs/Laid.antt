@@ -3,8 +3,8 @@ use Rattle.std.proofs.Common.{◌≡◌, ℕ, ◌<◌, ◌≤◌, ◌==◌, inl,
 use Rattle.std.specs.Prelude.{slice_get}
 use Rattle.std.proofs.lemmas.Bool.{cases_eq}
 use Rattle.std.proofs.lemmas.Option.{slice_get_within}
-use Rattle.ob_decls.specs.Parts.{Rows}
-use Rattle.ob_decls.specs.Declaring.{own_name}
+use Rattle.ob_rows.specs.Parts.{Rows}
+use Rattle.ob_rows.specs.Tables.{own_name}
 use Rattle.ob_targets.specs.declared.standing.Standing.{Standing}
 use Rattle.ob_targets.specs.declared.standing.Standing.TheVariants as standings
 use Rattle.ob_targets.specs.Standing.{first, is_alias, is_imported_name, is_declared, is_end_name, is_use, is_selected, is_second, standing_or}

@@ -4,11 +4,11 @@ use Rattle.std.specs.Prelude.{slice_get, position}
 use Rattle.std.specs.Option.{option_map_or}
 use Rattle.std.proofs.lemmas.List.Quantifiers.{position-Some}
 use Rattle.std.proofs.lemmas.Option.{slice_get_within, slice_get-get_or}
-use Rattle.ob_decls.specs.declared.rows.Selector.{Selector}
-use Rattle.ob_decls.specs.declared.rows.Step.{Step}
-use Rattle.ob_decls.specs.declared.rows.Step.TheVariants as steps
-use Rattle.ob_decls.specs.Declaring.{own_name}
-use Rattle.ob_decls.specs.Parts.{Rows}
+use Rattle.ob_rows.specs.declared.rows.Selector.{Selector}
+use Rattle.ob_rows.specs.declared.rows.Step.{Step}
+use Rattle.ob_rows.specs.declared.rows.Step.TheVariants as steps
+use Rattle.ob_rows.specs.Tables.{own_name}
+use Rattle.ob_rows.specs.Parts.{Rows}
 use Rattle.ob_targets.specs.declared.standing.Standing.{Standing}
 use Rattle.ob_targets.specs.declared.standing.Standing.TheVariants as standings
 use Rattle.ob_targets.specs.Standing.{first, is_alias, is_imported_name, is_declared, is_end_name, is_use, is_selected, is_second, is_token, name_of, standing}

@@ -5,10 +5,10 @@ use Rattle.std.specs.List.{All, cons_option, filter_map, enumerate_from}
 use Rattle.std.proofs.lemmas.List.{append-nil, drop_more}
 use Rattle.std.proofs.lemmas.List.Elements.{All-nil, All-push}
 use Rattle.std.proofs.lemmas.Option.{slice_get-get_or, slice_get_within, get_or_from_slice_get}
-use Rattle.ob_decls.specs.declared.rows.End.{End}
-use Rattle.ob_decls.specs.declared.rows.Step.{Step}
-use Rattle.ob_decls.specs.declared.rows.Step.TheVariants as steps
-use Rattle.ob_decls.specs.declared.rows.Used.{Used}
+use Rattle.ob_rows.specs.declared.rows.End.{End}
+use Rattle.ob_rows.specs.declared.rows.Step.{Step}
+use Rattle.ob_rows.specs.declared.rows.Step.TheVariants as steps
+use Rattle.ob_rows.specs.declared.rows.Used.{Used}
 use Rattle.ob_scan.specs.declared.kind.Kind.{Kind}
 use Rattle.ob_scan.specs.declared.kind.Kind.TheVariants as kinds
 use Rattle.ob_scan.specs.declared.token.Token.{Token}

@@ -1,10 +1,10 @@
 -- The pass along all selectors.
 use Rattle.std.proofs.Common.{◌≡◌, ℕ, zero, suc, ◌+◌, ◌⊎◌, inl, inr, List, [], ◌∷◌, ◌++◌, length, Bool, true, false, Option, Some, None, refl, sym, ap, ◌∙◌, subst, arith, add-one, length-append}
 use Rattle.std.specs.Prelude.{slice_get}
-use Rattle.ob_decls.specs.declared.rows.Selector.{Selector}
-use Rattle.ob_decls.specs.declared.rows.Step.{Step}
-use Rattle.ob_decls.specs.declared.rows.Step.TheVariants as steps
-use Rattle.ob_decls.specs.declared.rows.TypeName.{TypeName}
+use Rattle.ob_rows.specs.declared.rows.Selector.{Selector}
+use Rattle.ob_rows.specs.declared.rows.Step.{Step}
+use Rattle.ob_rows.specs.declared.rows.Step.TheVariants as steps
+use Rattle.ob_rows.specs.declared.rows.TypeName.{TypeName}
 use Rattle.ob_types.specs.Same.{same}
 use Rattle.ob_types.specs.Shapes.{shape}
 use Rattle.ob_types.specs.World.{World}

@@ -2,7 +2,7 @@
 use Rattle.std.proofs.Common.{◌≡◌, ℕ, zero, suc, ◌<◌, List, length, set, Option, Some, None, inl, inr, sym, ap, ◌∙◌}
 use Rattle.std.specs.Prelude.{slice_get, replicate}
 use Rattle.std.proofs.lemmas.Bool.{cases_eq}
-use Rattle.ob_decls.specs.declared.rows.Sort.{Sort}
+use Rattle.ob_rows.specs.declared.rows.Sort.{Sort}
 use Rattle.ob_types.specs.World.{World, sort_of}
 use Rattle.ob_resolve.specs.Sorted.{AreSorts}
 use Rattle.ob_resolve.proofs.Marks.{slice_get-set_same, slice_get-set_other}

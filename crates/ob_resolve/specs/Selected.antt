@@ -1,8 +1,8 @@
 -- What the names behind dots stand for, selector by selector.
 use Rattle.std.specs.Prelude.{◌≡◌, ℕ, zero, suc, List, Some, length, slice_get}
-use Rattle.ob_decls.specs.declared.rows.Selector.{Selector}
-use Rattle.ob_decls.specs.declared.rows.Step.{Step}
-use Rattle.ob_decls.specs.declared.rows.Step.TheVariants as steps
+use Rattle.ob_rows.specs.declared.rows.Selector.{Selector}
+use Rattle.ob_rows.specs.declared.rows.Step.{Step}
+use Rattle.ob_rows.specs.declared.rows.Step.TheVariants as steps
 use Rattle.ob_types.specs.World.{World}
 use Rattle.ob_targets.specs.declared.known.Known.{Known}
 use Rattle.ob_targets.specs.declared.target.Target.{Target}

@@ -1,6 +1,6 @@
 -- What is kept of what tokens are declared as.
 use Rattle.std.specs.Prelude.{◌≡◌, ℕ, List, Option, Some, slice_get}
-use Rattle.ob_decls.specs.declared.rows.Sort.{Sort}
+use Rattle.ob_rows.specs.declared.rows.Sort.{Sort}
 use Rattle.ob_types.specs.World.{World, sort_of}
 
 -- a token of which something is kept is declared so

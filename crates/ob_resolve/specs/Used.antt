@@ -1,6 +1,6 @@
 -- What is kept of what uses stand for.
 use Rattle.std.specs.Prelude.{◌≡◌, List, map}
-use Rattle.ob_decls.specs.declared.rows.Used.{Used}
+use Rattle.ob_rows.specs.declared.rows.Used.{Used}
 use Rattle.ob_types.specs.World.{World}
 use Rattle.ob_targets.specs.declared.target.Target.{Target}
 use Rattle.ob_targets.specs.Targets.{used_target}

@@ -7,7 +7,7 @@ use crate::sorts::sorts_of;
 use crate::standings::standings;
 use crate::used::used_targets;
 use crate::written::written_names;
-use ob_decls::Sort;
+use ob_rows::Sort;
 use ob_targets::{Standing, Target};
 use ob_types::Types;
 use std::alloc::{AllocError, Global};

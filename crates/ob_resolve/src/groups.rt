@@ -1,12 +1,12 @@
 //! The selectors of one designator after another, where designators are asked for in order.
 ghost use Rattle.std.specs.Prelude.{◌≡◌, ◌<◌, ◌≤◌, ℕ, true, Some, nat_eq, slice_get, IfSome};
 ghost use Rattle.std.specs.List.{filter};
-ghost use Rattle.ob_decls.specs.Declaring.{rows_in};
-ghost use Rattle.ob_decls.specs.Order.{RiseBy};
-ghost use Rattle.ob_decls.specs.declared.rows.Selector.{Selector as Row};
+ghost use Rattle.ob_rows.specs.Tables.{rows_in};
+ghost use Rattle.ob_rows.specs.Order.{RiseBy};
+ghost use Rattle.ob_rows.specs.declared.rows.Selector.{Selector as Row};
 ghost use Rattle.ob_targets.specs.Targets.{selectors_of};
 
-use ob_decls::{Selector, Table};
+use ob_rows::{Selector, Table};
 
 /// The first place from this one on whose selector is of this designator or a later one. Nothing is promised of it.
 fn place_from(selectors: &[Selector], from: usize, head: u32) -> usize {

@@ -6,7 +6,7 @@ ghost use Rattle.ob_types.specs.World.{form_of, meaning};
 ghost use Rattle.ob_resolve.specs.Sorted.{AreSorts};
 
 use crate::sorts::sort_of;
-use ob_decls::{Sort, TypeName};
+use ob_rows::{Sort, TypeName};
 use ob_targets::{Known, Target, is_predeclared};
 use ob_types::{Field, Node, Types};
 use type_search::Shape;

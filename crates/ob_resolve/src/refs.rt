@@ -1,6 +1,6 @@
 //! The references of a module.
 ghost use Rattle.std.specs.Prelude.{◌≡◌, ◌<◌, IfOk, length};
-ghost use Rattle.ob_decls.specs.Order.{AscendBy};
+ghost use Rattle.ob_rows.specs.Order.{AscendBy};
 ghost use Rattle.ob_scan.specs.declared.token.Token.{Token as TokenSeen};
 ghost use Rattle.ob_targets.specs.Refers.{is_identifier, unresolved, AreReferences};
 

@@ -1,6 +1,6 @@
 //! What the names behind the dots of designators stand for.
 ghost use Rattle.std.specs.Prelude.{◌≡◌, ◌<◌, IfOk, Some, length};
-ghost use Rattle.ob_decls.specs.declared.rows.Step.TheVariants as steps;
+ghost use Rattle.ob_rows.specs.declared.rows.Step.TheVariants as steps;
 ghost use Rattle.ob_targets.specs.Steps.{begins_designator, Knows};
 ghost use Rattle.ob_resolve.specs.Selected.{AreNamed, IsBehind, IsLed};
 ghost use Rattle.ob_resolve.specs.Sorted.{AreSorts};
@@ -9,7 +9,7 @@ ghost use Rattle.ob_resolve.specs.Used.{AreUsed};
 use crate::meaning::{guard_of, known_of};
 use crate::steps::{elements_of, selected, target_of};
 use crate::used::used_by;
-use ob_decls::{Selector, Sort, Step};
+use ob_rows::{Selector, Sort, Step};
 use ob_targets::{Known, Standing, Target};
 use ob_types::Types;
 use std::alloc::{AllocError, Global};

@@ -3,7 +3,7 @@ ghost use Rattle.std.specs.Prelude.{◌≡◌, IfOk, None, length, replicate};
 ghost use Rattle.ob_types.specs.World.{sort_of};
 ghost use Rattle.ob_resolve.specs.Sorted.{AreSorts};
 
-use ob_decls::Sort;
+use ob_rows::Sort;
 use ob_types::Types;
 use std::alloc::{AllocError, Global};
 

@@ -1,7 +1,7 @@
 //! What one identifier stands for, by where it stands.
 ghost use Rattle.std.specs.Prelude.{◌≡◌, ◌<◌, ℕ, length};
-ghost use Rattle.ob_decls.specs.Order.{AscendBy};
-ghost use Rattle.ob_decls.specs.declared.rows.Import.{Import as ImportRow};
+ghost use Rattle.ob_rows.specs.Order.{AscendBy};
+ghost use Rattle.ob_rows.specs.declared.rows.Import.{Import as ImportRow};
 ghost use Rattle.ob_targets.specs.Standing.{standing};
 ghost use Rattle.ob_targets.specs.Targets.{is_written};
 ghost use Rattle.ob_targets.specs.declared.standing.Standing.TheVariants as standings;
@@ -11,7 +11,7 @@ ghost use Rattle.ob_resolve.specs.Found.{IsFound, IsReference};
 use crate::found::Found;
 use crate::meaning::{end_target, second_target, use_role};
 use crate::used::used_at;
-use ob_decls::Import;
+use ob_rows::Import;
 use ob_targets::{Reference, Standing, Target};
 use ob_types::Types;
 

@@ -1,12 +1,12 @@
 //! Where each identifier stands, by its token.
 ghost use Rattle.std.specs.Prelude.{◌≡◌, ◌<◌, ℕ, Bool, IfOk, Some, slice_get};
-ghost use Rattle.ob_decls.specs.Declaring.{rows_in};
+ghost use Rattle.ob_rows.specs.Tables.{rows_in};
 ghost use Rattle.ob_targets.specs.Standing.{is_token, is_alias, is_imported_name, is_declared, is_end_name, is_use, is_selected, is_second, name_of, standing, standing_or};
 ghost use Rattle.ob_targets.specs.declared.standing.Standing.{Standing as StandingSeen};
 ghost use Rattle.ob_targets.specs.declared.standing.Standing.TheVariants as standings;
 ghost use Rattle.ob_resolve.specs.Marked.{IsMarked};
 
-use ob_decls::{Declared, End, Import, Selector, Step, Table, Used};
+use ob_rows::{Declared, End, Import, Selector, Step, Table, Used};
 use ob_targets::Standing;
 use std::alloc::{AllocError, Global};
 

@@ -1,13 +1,13 @@
 //! The names that are written.
 ghost use Rattle.std.specs.Prelude.{◌≡◌, ◌<◌, ℕ, IfOk, Some, false, length, replicate, slice_get};
-ghost use Rattle.ob_decls.specs.Declaring.{rows_in};
+ghost use Rattle.ob_rows.specs.Tables.{rows_in};
 ghost use Rattle.ob_resolve.specs.Marked.{with_mark};
 ghost use Rattle.ob_targets.specs.Standing.{is_token};
 ghost use Rattle.ob_targets.specs.Targets.{is_written, last_name, writes};
 
 use crate::groups::selectors_near;
 use crate::standings::name_of;
-use ob_decls::{Designator, Selector, Table};
+use ob_rows::{Designator, Selector, Table};
 use std::alloc::{AllocError, Global};
 
 /// The last name of a designator with this head and these selectors.

@@ -1,6 +1,6 @@
 -- Lists whose numbers ascend.
 use Rattle.std.proofs.Common.{◌≡◌, ℕ, zero, suc, ◌<◌, ◌≤◌, List, [], ◌∷◌, Option, Some, None, slice_get, refl, subst, arith, filter_map}
-use Rattle.ob_decls.specs.Order.{AscendBy}
+use Rattle.ob_rows.specs.Order.{AscendBy}
 
 -- the numbers of a list ascend, from this one on
 abbrev pub Ascends : {X : Type 0} → (X → ℕ) → ℕ → List X → Type 0

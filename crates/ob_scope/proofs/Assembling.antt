@@ -6,9 +6,9 @@ use Rattle.std.proofs.lemmas.List.{length-map, take_all}
 use Rattle.std.proofs.lemmas.Option.{slice_get_within}
 use Rattle.ob_scan.specs.declared.token.Token.{Token}
 use Rattle.ob_scan.specs.Texts.{text_at, token_at}
-use Rattle.ob_decls.specs.declared.rows.Import.{Import}
-use Rattle.ob_decls.specs.declared.rows.Used.{Used}
-use Rattle.ob_decls.specs.Parts.{Rows}
+use Rattle.ob_rows.specs.declared.rows.Import.{Import}
+use Rattle.ob_rows.specs.declared.rows.Used.{Used}
+use Rattle.ob_rows.specs.Parts.{Rows}
 use Rattle.ob_scope.specs.declared.meaning.Resolution.{Resolution}
 use Rattle.ob_scope.specs.declared.members.Member.{Member}
 use Rattle.ob_scope.specs.declared.module_scopes.Alias.{Alias}
@@ -16,7 +16,7 @@ use Rattle.ob_scope.specs.Members.{members_of}
 use Rattle.ob_scope.specs.Scope.{IsFirstTwice, NoneTwice}
 use Rattle.ob_scope.specs.Counted.{Counts, HasUses, IsQualifiedBy}
 use Rattle.ob_scope.specs.Identified.{AreNames}
-use Rattle.ob_decls.specs.Order.{AreRowsInOrder, AscendBy}
+use Rattle.ob_rows.specs.Order.{AreRowsInOrder, AscendBy}
 use Rattle.ob_scope.specs.Kept.{alias_of, meaning_of, AreValidScopes}
 use Rattle.ob_scope.specs.Places.{AreFirstTwice}
 use Rattle.ob_scope.specs.Found.{AreAliasesOf, AreCounted, AreMeant, AreTexts, IsAliasOf, IsCountOf, MeansBefore}

@@ -1,8 +1,8 @@
 -- Blocks around blocks.
 use Rattle.std.proofs.Common.{◌≡◌, ℕ, ◌<◌, ◌≤◌, List, get_or, sym, ap, ◌∙◌, arith}
 use Rattle.std.proofs.lemmas.Option.{get_or_from_slice_get}
-use Rattle.ob_decls.specs.declared.rows.Block.{Block}
-use Rattle.ob_decls.specs.Order.{AscendBy, HasNoneBy, IsPlaceBy}
+use Rattle.ob_rows.specs.declared.rows.Block.{Block}
+use Rattle.ob_rows.specs.Order.{AscendBy, HasNoneBy, IsPlaceBy}
 use Rattle.ob_scope.specs.Scope.{IsAround, IsDirectlyIn, itself, further}
 use Rattle.ob_scope.proofs.Elements.{ascend_one, contains_slice, slice_contains}
 

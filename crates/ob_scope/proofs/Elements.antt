@@ -3,7 +3,7 @@ use Rattle.std.proofs.Common.{◌≡◌, ℕ, ◌<◌, ◌≤◌, List, [], ◌�
 use Rattle.std.specs.Prelude.{slice_get, option_map, Contains}
 use Rattle.std.proofs.lemmas.Bool.{cases_lt}
 use Rattle.std.proofs.lemmas.Option.{slice_get_within, slice_get-get_or, slice_get-map, get_or_from_slice_get}
-use Rattle.ob_decls.specs.Order.{AscendBy, HasNoneBy}
+use Rattle.ob_rows.specs.Order.{AscendBy, HasNoneBy}
 
 module _ {X : Type 0} where
   pub some_one : (x y : X) → Some x ≡ Some y → x ≡ y

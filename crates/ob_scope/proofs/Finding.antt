@@ -6,14 +6,14 @@ use Rattle.std.specs.Option.{is_some}
 use Rattle.std.proofs.lemmas.List.{get_or-set_same, get_or-set_other, length-set, take_more}
 use Rattle.std.proofs.lemmas.Option.{slice_get_within, get_or_from_slice_get}
 use Rattle.ob_scope.specs.declared.meaning.Resolution.{Resolution}
-use Rattle.ob_decls.specs.declared.rows.Block.{Block}
-use Rattle.ob_decls.specs.declared.rows.Used.{Used}
-use Rattle.ob_decls.specs.declared.rows.Sort.{Sort}
-use Rattle.ob_decls.specs.declared.rows.Sort.TheVariants as sorts
+use Rattle.ob_rows.specs.declared.rows.Block.{Block}
+use Rattle.ob_rows.specs.declared.rows.Used.{Used}
+use Rattle.ob_rows.specs.declared.rows.Sort.{Sort}
+use Rattle.ob_rows.specs.declared.rows.Sort.TheVariants as sorts
 use Rattle.ob_scope.specs.declared.members.Member.{Member}
 use Rattle.ob_scope.specs.Scope.{ResolvesTo, NoneTwice}
 use Rattle.ob_scope.specs.Counted.{Counts, IsQualifiedBy, none, one_more, other}
-use Rattle.ob_decls.specs.Order.{AscendBy}
+use Rattle.ob_rows.specs.Order.{AscendBy}
 use Rattle.ob_scope.specs.Looked.{MeansNothing}
 use Rattle.ob_scope.specs.Found.{counted_for, is_import, AreCounted, AreMeant, MeansBefore}
 use Rattle.ob_scope.proofs.Elements.{some_one}

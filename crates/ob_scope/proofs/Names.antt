@@ -14,8 +14,8 @@ use Rattle.ob_scan.specs.Spelling.{Spells}
 use Rattle.ob_scan.specs.Tokens.{is_name}
 use Rattle.ob_scan.proofs.NameTokens.{spelled_names}
 use Rattle.ob_scan.specs.Texts.{no_token, text_at, token_at}
-use Rattle.ob_decls.specs.declared.rows.Import.{Import}
-use Rattle.ob_decls.specs.Parts.{Rows}
+use Rattle.ob_rows.specs.declared.rows.Import.{Import}
+use Rattle.ob_rows.specs.Parts.{Rows}
 use Rattle.ob_scope.specs.declared.members.Member.{Member}
 use Rattle.ob_scope.specs.Found.{AreTexts}
 use Rattle.ob_scope.specs.Identified.{AreIdentifiers, AreNames}

@@ -3,8 +3,8 @@ use Rattle.std.proofs.Common.{◌≡◌, ℕ, zero, suc, ◌<◌, ◌⊎◌, inl
 use Rattle.std.proofs.lemmas.Option.{slice_get_within}
 use Rattle.ob_scan.specs.declared.token.Token.{Token}
 use Rattle.ob_scan.specs.Texts.{text_at}
-use Rattle.ob_decls.specs.Order.{AscendBy}
-use Rattle.ob_decls.specs.Parts.{Rows}
+use Rattle.ob_rows.specs.Order.{AscendBy}
+use Rattle.ob_rows.specs.Parts.{Rows}
 use Rattle.ob_scope.specs.Counted.{IsQualifiedBy}
 use Rattle.ob_scope.specs.Members.{members_of}
 use Rattle.ob_scope.specs.Scoped.{AliasUses, AreScopes, Meaning, ModuleScopes}

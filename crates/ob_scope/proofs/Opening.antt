@@ -3,8 +3,8 @@ use Rattle.std.proofs.Common.{◌≡◌, ℕ, zero, suc, ◌+◌, ◌-◌, ◌<�
 use Rattle.std.specs.Prelude.{slice_get, Contains}
 use Rattle.std.proofs.lemmas.List.Elements.{Contains-append_cases, Contains-append_left}
 use Rattle.std.proofs.lemmas.Option.{slice_get_within}
-use Rattle.ob_decls.specs.declared.rows.Block.{Block}
-use Rattle.ob_decls.specs.Order.{AscendBy}
+use Rattle.ob_rows.specs.declared.rows.Block.{Block}
+use Rattle.ob_rows.specs.Order.{AscendBy}
 use Rattle.ob_scope.specs.Scope.{IsAround, IsDirectlyIn, itself, further}
 use Rattle.ob_scope.specs.Sights.{AreOpen, Enters, IsInnermost, IsOpen}
 use Rattle.ob_scope.proofs.Blocks.{around-le, one_outer}

@@ -6,10 +6,10 @@ use Rattle.std.proofs.lemmas.List.{take_more}
 use Rattle.std.proofs.lemmas.List.Elements.{filter_map-append}
 use Rattle.std.proofs.lemmas.Option.{get_or_from_slice_get}
 use Rattle.std.proofs.lemmas.Bool.{cases_Bool, cases_eq, eq-eqb, eqb-true}
-use Rattle.ob_decls.specs.declared.rows.Declarer.{Declarer}
-use Rattle.ob_decls.specs.declared.rows.Declared.{Declared}
+use Rattle.ob_rows.specs.declared.rows.Declarer.{Declarer}
+use Rattle.ob_rows.specs.declared.rows.Declared.{Declared}
 use Rattle.ob_scope.specs.declared.members.Member.{Member}
-use Rattle.ob_decls.specs.Order.{AscendBy, HasNoneBy, IsPlaceBy}
+use Rattle.ob_rows.specs.Order.{AscendBy, HasNoneBy, IsPlaceBy}
 use Rattle.ob_scope.specs.Found.{IsCountOf}
 use Rattle.ob_scope.specs.Members.{declarer_at, member_by, members_by}
 use Rattle.ob_scope.proofs.Ascending.{ascending, ascends_by, picked}

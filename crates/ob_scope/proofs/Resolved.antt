@@ -1,8 +1,8 @@
 -- What a row says, found by its number.
 use Rattle.std.proofs.Common.{◌≡◌, ℕ, List, get_or, map, refl, sym, subst, ◌∙◌}
 use Rattle.std.specs.Prelude.{Contains}
-use Rattle.ob_decls.proofs.Searched.{placed_is}
-use Rattle.ob_decls.specs.Order.{AscendBy, HasNoneBy, IsPlaceBy}
+use Rattle.ob_rows.proofs.Searched.{placed_is}
+use Rattle.ob_rows.specs.Order.{AscendBy, HasNoneBy, IsPlaceBy}
 use Rattle.ob_scope.specs.declared.meaning.Resolution.{Resolution}
 use Rattle.ob_scope.specs.Kept.{meaning_of}
 use Rattle.ob_scope.specs.Scoped.{Meaning}

@@ -1,7 +1,7 @@
 -- The type that stands behind a use, by its place.
 use Rattle.std.proofs.Common.{ℕ, List}
-use Rattle.ob_decls.specs.declared.rows.Block.{Block}
-use Rattle.ob_decls.specs.declared.rows.Used.{Used}
+use Rattle.ob_rows.specs.declared.rows.Block.{Block}
+use Rattle.ob_rows.specs.declared.rows.Used.{Used}
 use Rattle.ob_scope.specs.declared.members.Member.{Member}
 use Rattle.ob_scope.specs.Scope.{IsLaterType}
 use Rattle.ob_scope.specs.Looked.{IsTypeAfter}

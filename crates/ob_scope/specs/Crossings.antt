@@ -1,10 +1,10 @@
 -- The uses that cross an import, by their tokens.
 use Rattle.std.specs.Prelude.{◌≡◌, ℕ, List, [], ◌∷◌, Some, Contains}
 use Rattle.ob_scan.specs.declared.token.Token.{Token}
-use Rattle.ob_decls.specs.declared.rows.Used.{Used}
-use Rattle.ob_decls.specs.declared.rows.Sort.TheVariants as sorts
-use Rattle.ob_decls.specs.Order.{AreRowsInOrder}
-use Rattle.ob_decls.specs.Parts.{Rows}
+use Rattle.ob_rows.specs.declared.rows.Used.{Used}
+use Rattle.ob_rows.specs.declared.rows.Sort.TheVariants as sorts
+use Rattle.ob_rows.specs.Order.{AreRowsInOrder}
+use Rattle.ob_rows.specs.Parts.{Rows}
 use Rattle.ob_scope.specs.declared.across.Crossing.{Crossing}
 use Rattle.ob_scope.specs.declared.members.Member.{Member}
 use Rattle.ob_scope.specs.Counted.{Crosses}

@@ -4,8 +4,8 @@ use Rattle.ob_scan.specs.declared.kind.Kind.TheVariants as kinds
 use Rattle.ob_scan.specs.declared.token.Token.{Token}
 use Rattle.ob_scan.specs.Tokens.{is_name}
 use Rattle.ob_scan.specs.Texts.{token_at}
-use Rattle.ob_decls.specs.declared.rows.Import.{Import}
-use Rattle.ob_decls.specs.Parts.{Rows}
+use Rattle.ob_rows.specs.declared.rows.Import.{Import}
+use Rattle.ob_rows.specs.Parts.{Rows}
 use Rattle.ob_scope.specs.declared.members.Member.{Member}
 use Rattle.ob_scope.specs.Members.{members_of}
 

@@ -1,7 +1,7 @@
 -- What every value of the type of scopes keeps.
 use Rattle.std.specs.Prelude.{◌≤◌}
 use Rattle.std.specs.String.{string_bytes}
-use Rattle.ob_decls.specs.Order.{AscendBy}
+use Rattle.ob_rows.specs.Order.{AscendBy}
 use Rattle.ob_scope.specs.declared.meaning.Resolution.{Resolution}
 use Rattle.ob_scope.specs.declared.module_scopes.Alias.{Alias}
 use Rattle.ob_scope.specs.Weights.{uses_of_all}

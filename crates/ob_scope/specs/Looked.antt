@@ -1,8 +1,8 @@
 -- What a use finds among the members of a module.
 use Rattle.std.specs.Prelude.{◌≡◌, ℕ, ◌<◌, List, slice_get, Some, None, false}
-use Rattle.ob_decls.specs.declared.rows.Block.{Block as BlockRow}
-use Rattle.ob_decls.specs.declared.rows.Used.{Used}
-use Rattle.ob_decls.specs.declared.rows.Sort.TheVariants as sorts
+use Rattle.ob_rows.specs.declared.rows.Block.{Block as BlockRow}
+use Rattle.ob_rows.specs.declared.rows.Used.{Used}
+use Rattle.ob_rows.specs.declared.rows.Sort.TheVariants as sorts
 use Rattle.ob_scope.specs.declared.members.Member.{Member}
 use Rattle.ob_scope.specs.declared.members.Scope.TheVariants.{Block}
 use Rattle.ob_scope.specs.Scope.{ResolvesTo, Resolves}

@@ -1,8 +1,8 @@
 -- Blocks, declarations and what a use means (Oberon-07 report, section 4).
 use Rattle.std.specs.Prelude.{◌≡◌, ℕ, ◌<◌, List, slice_get, Some, IsTrue, Contains}
-use Rattle.ob_decls.specs.declared.rows.Block.{Block as BlockRow}
-use Rattle.ob_decls.specs.declared.rows.Used.{Used}
-use Rattle.ob_decls.specs.declared.rows.Sort.TheVariants as sorts
+use Rattle.ob_rows.specs.declared.rows.Block.{Block as BlockRow}
+use Rattle.ob_rows.specs.declared.rows.Used.{Used}
+use Rattle.ob_rows.specs.declared.rows.Sort.TheVariants as sorts
 use Rattle.ob_scope.specs.declared.members.Member.{Member}
 use Rattle.ob_scope.specs.declared.members.Scope.TheVariants.{Block}
 

@@ -1,6 +1,6 @@
 -- What is kept of a sight.
 use Rattle.std.specs.Prelude.{◌≡◌, ℕ, ◌<◌, ◌≤◌, List, length, slice_get, Some}
-use Rattle.ob_decls.specs.declared.rows.Block.{Block as BlockRow}
+use Rattle.ob_rows.specs.declared.rows.Block.{Block as BlockRow}
 use Rattle.ob_scope.specs.declared.members.Member.{Member}
 use Rattle.ob_scope.specs.declared.sight.Sight.{Sight}
 use Rattle.ob_scope.specs.Sights.{AreSeen, IsOpen}

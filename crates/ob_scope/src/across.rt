@@ -2,9 +2,9 @@
 ghost use Rattle.std.specs.Prelude.{◌≡◌, ℕ, true, List, Contains, IfNone, IfOk, IfSome};
 ghost use Rattle.ob_scan.specs.declared.token.Token.{Token};
 ghost use Rattle.ob_scan.specs.Texts.{text_at};
-ghost use Rattle.ob_decls.specs.Declaring.{rows_in};
-ghost use Rattle.ob_decls.specs.Order.{AscendBy};
-ghost use Rattle.ob_decls.specs.Parts.{Rows};
+ghost use Rattle.ob_rows.specs.Tables.{rows_in};
+ghost use Rattle.ob_rows.specs.Order.{AscendBy};
+ghost use Rattle.ob_rows.specs.Parts.{Rows};
 ghost use Rattle.ob_scope.specs.declared.members.Member.{Member};
 ghost use Rattle.ob_scope.specs.Counted.{Crosses};
 ghost use Rattle.ob_scope.specs.Crossings.{AreCrossings, AreKnown, IsAliasFor, IsImportAt, IsOfUse};
@@ -13,7 +13,7 @@ ghost use Rattle.ob_scope.specs.Scoped.{AreScopes};
 use crate::Scopes;
 use crate::members::{Member, members_by};
 use crate::uses::is_import;
-use ob_decls::{Table, Used, place_of};
+use ob_rows::{Table, Used, place_of};
 use std::alloc::{AllocError, Global};
 
 /// A use that crosses an import, by the numbers of its tokens.

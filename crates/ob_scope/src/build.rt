@@ -2,11 +2,11 @@
 ghost use Rattle.std.specs.Prelude.{◌≡◌, ◌≤◌, [], length, take, IfOk, IfErr, OnOk};
 ghost use Rattle.ob_scan.specs.Spelling.{AreInText, Spells};
 ghost use Rattle.ob_scan.specs.Texts.{text_at};
-ghost use Rattle.ob_decls.specs.Declaring.{rows_in};
-ghost use Rattle.ob_decls.specs.Parts.{Rows};
+ghost use Rattle.ob_rows.specs.Tables.{rows_in};
+ghost use Rattle.ob_rows.specs.Parts.{Rows};
 ghost use Rattle.ob_scope.specs.Found.{AreAliasesOf, AreCounted, AreMeant, IsCountOf};
 ghost use Rattle.ob_scope.specs.Identified.{AreNames};
-ghost use Rattle.ob_decls.specs.Order.{AreRowsInOrder, AscendBy};
+ghost use Rattle.ob_rows.specs.Order.{AreRowsInOrder, AscendBy};
 ghost use Rattle.ob_scope.specs.Members.{members_of};
 ghost use Rattle.ob_scope.specs.Places.{TellsTwice};
 ghost use Rattle.ob_scope.specs.Scope.{NoneTwice};
@@ -21,7 +21,7 @@ use crate::numbering::{Numbered, no_names, number_rest};
 use crate::places::{IndexFault, index_of};
 use crate::uses::{Resolved, found_by};
 use crate::{Alias, ScopeFault, Scopes};
-use ob_decls::{Import, Table, place_of};
+use ob_rows::{Import, Table, place_of};
 use ob_scan::{Token, TokenTexts};
 use std::alloc::{AllocError, Global};
 
@@ -201,9 +201,11 @@ fn scopes_by(
     }
 }
 
-/// The scopes of a module with this table, of these tokens: what `scopes` answers of the tree that the table is of, for a
-/// caller that keeps the table. Memory is also answered where what the table names are no identifiers, or where it has more
-/// uses than a text has bytes; the table of a tree of tokens is never so.
+/// The scopes of a module with this table, of these tokens: what each used name means by the scope rule, and how many uses each of
+/// its aliases qualifies (Oberon-07 report, sections 4 and 11). Of two identifiers of one name in one block or record the pair whose
+/// second one stands first is told: Twice in a block, TwiceField in a record. Memory is answered where a growth of memory is refused,
+/// and where what the table names are no identifiers, or where it has more uses than a text has bytes; the table of a tree of tokens
+/// is never so.
 pub fn scopes_from(
     alloc: Global,
     table: &Table,

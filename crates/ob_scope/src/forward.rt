@@ -1,12 +1,12 @@
 //! The types that blocks declare, for the targets of pointers that stand before them.
 ghost use Rattle.std.specs.Prelude.{◌≡◌, ℕ, true, length, IfOk, IfSome, IfNone};
-ghost use Rattle.ob_decls.specs.declared.rows.Sort.TheVariants as sorts;
+ghost use Rattle.ob_rows.specs.declared.rows.Sort.TheVariants as sorts;
 ghost use Rattle.ob_scope.specs.Forward.{AreTypes};
 ghost use Rattle.ob_scope.specs.declared.members.Scope.TheVariants as places;
 
 use crate::members::{Member, Scope};
 use indexmap::IndexMap;
-use ob_decls::Sort;
+use ob_rows::Sort;
 use std::alloc::{AllocError, Global};
 use text_hash::Seed;
 

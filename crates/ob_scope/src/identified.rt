@@ -1,11 +1,11 @@
 //! Whether what a table names are identifiers. In the tree of the tokens they are.
 ghost use Rattle.std.specs.Prelude.{◌≡◌, true, Contains};
-ghost use Rattle.ob_decls.specs.declared.rows.Import.{Import};
+ghost use Rattle.ob_rows.specs.declared.rows.Import.{Import};
 ghost use Rattle.ob_scope.specs.declared.members.Member.{Member};
 ghost use Rattle.ob_scope.specs.Identified.{AreIdentifiers, IsIdentifier};
 
 use crate::members::Member;
-use ob_decls::Import;
+use ob_rows::Import;
 use ob_scan::{Kind, Token};
 
 /// Whether the token of this number is an identifier.

@@ -1,12 +1,11 @@
 //! The blocks of an Oberon-07 module, what is declared in them, and what each used name means.
-//! Stands on `ob_decls` for what a module declares and uses, on `ob_scan` and `ob_tree` below it, with `indexmap` and `text_hash` for its index and `thiserror` for its faults.
+//! Stands on `ob_rows` for what a module declares and uses, and on `ob_scan`, with `indexmap` and `text_hash` for its index and `thiserror` for its faults.
 //! Its contract: each use means what the scope rule gives it, or two identifiers of one name stand in one place.
 #![tactic(auto)]
 
 mod across;
 mod apart;
 mod build;
-mod entry;
 mod fault;
 mod forward;
 mod identified;
@@ -23,7 +22,6 @@ mod uses;
 
 pub use across::{Crossing, crossings};
 pub use build::scopes_from;
-pub use entry::scopes;
 pub use fault::ScopeFault;
 pub use members::{Member, Scope};
 pub use module_scopes::{Alias, Scopes};

@@ -1,6 +1,6 @@
 //! What a use means, by numbers of tokens.
 
-use ob_decls::Keyed;
+use ob_rows::Keyed;
 
 /// A use and the declaration that it means, by the numbers of their tokens.
 #[derive(Clone, Copy)]

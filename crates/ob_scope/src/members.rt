@@ -1,11 +1,11 @@
 //! What a module declares, each identifier with its place.
 ghost use Rattle.std.specs.Prelude.{◌≡◌, true, IfNone, IfOk, IfSome};
-ghost use Rattle.ob_decls.specs.declared.rows.Declarer.{Declarer};
+ghost use Rattle.ob_rows.specs.declared.rows.Declarer.{Declarer};
 ghost use Rattle.ob_scope.specs.declared.members.Member.{Member};
-ghost use Rattle.ob_decls.specs.Order.{AscendBy, HasNoneBy, IsPlaceBy};
+ghost use Rattle.ob_rows.specs.Order.{AscendBy, HasNoneBy, IsPlaceBy};
 ghost use Rattle.ob_scope.specs.Members.{declarer_at, member_by, members_by, scope_of};
 
-use ob_decls::{Declared, Declarer, Keyed, Sort, place_of};
+use ob_rows::{Declared, Declarer, Keyed, Sort, place_of};
 use std::alloc::{AllocError, Global};
 
 /// Where an identifier is declared.

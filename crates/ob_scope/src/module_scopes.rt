@@ -1,6 +1,6 @@
 //! The scopes of a module, and their readers.
 ghost use Rattle.std.specs.Prelude.{◌≡◌, ◌<◌, ◌≤◌, ℕ, true, Some, IfSome, IfNone, Contains, map, slice_get};
-ghost use Rattle.ob_decls.specs.Order.{AscendBy, HasNoneBy, IsPlaceBy};
+ghost use Rattle.ob_rows.specs.Order.{AscendBy, HasNoneBy, IsPlaceBy};
 ghost use Rattle.ob_scope.specs.Crossings.{IsAliasFor};
 ghost use Rattle.ob_scope.specs.Kept.{alias_of, AreValidScopes};
 ghost use Rattle.ob_scope.specs.declared.meaning.Resolution.{Resolution};
@@ -8,7 +8,7 @@ ghost use Rattle.ob_scope.specs.declared.module_scopes.Alias.{Alias};
 ghost use Rattle.ob_scope.specs.Scoped.{AliasUses};
 
 use crate::meaning::Resolution;
-use ob_decls::{Keyed, place_of};
+use ob_rows::{Keyed, place_of};
 use std::marker::Model;
 
 /// An import: the identifier that stands for a module, and the module's own name.

@@ -1,12 +1,12 @@
 //! The blocks that are open at a token.
 ghost use Rattle.std.specs.Prelude.{◌≡◌, ◌++◌, ◌∷◌, ◌+◌, ◌≤◌, ℕ, List, [], OnOk, IfSome, IfNone, Some, Contains, slice_get, true};
-ghost use Rattle.ob_decls.specs.declared.rows.Block.{Block};
-ghost use Rattle.ob_decls.specs.Order.{AscendBy, HasNoneBy, IsPlaceBy};
+ghost use Rattle.ob_rows.specs.declared.rows.Block.{Block};
+ghost use Rattle.ob_rows.specs.Order.{AscendBy, HasNoneBy, IsPlaceBy};
 ghost use Rattle.ob_scope.specs.Sights.{Enters, IsInnermost, IsOpen, IsOpenScope};
 
 use crate::members::Scope;
 use crate::resolve::outer_of;
-use ob_decls::Block;
+use ob_rows::Block;
 use std::alloc::AllocError;
 
 /// The open blocks by their first tokens, the outermost first.

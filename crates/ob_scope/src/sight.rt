@@ -3,8 +3,8 @@
 //! it. What is asked for a name leaves out, for all later questions, the members whose blocks have ended: so each is left
 //! out once, and a use costs one look-up whatever the depth of its block.
 ghost use Rattle.std.specs.Prelude.{◌≡◌, ◌≤◌, ◌<◌, false, true, ℕ, Some, None, List, Option, length, slice_get, slice_set, slice_index, slice_index_or, IfOk, IfSome, IfNone, OnOk, ◌+◌};
-ghost use Rattle.ob_decls.specs.declared.rows.Block.{Block};
-ghost use Rattle.ob_decls.specs.Order.{AscendBy};
+ghost use Rattle.ob_rows.specs.declared.rows.Block.{Block};
+ghost use Rattle.ob_rows.specs.Order.{AscendBy};
 ghost use Rattle.ob_scope.specs.declared.members.Member.{Member};
 ghost use Rattle.ob_scope.specs.Looked.{use_in, IsResolved};
 ghost use Rattle.ob_scope.specs.Scope.{ResolvesToNothing};
@@ -15,7 +15,7 @@ ghost use Rattle.ob_scan.specs.Texts.{text_at};
 use crate::members::{Member, Scope};
 use crate::numbering::Numbered;
 use crate::opened::{Open, enter, is_open};
-use ob_decls::Block;
+use ob_rows::Block;
 use ob_scan::TokenTexts;
 use std::alloc::{AllocError, Global};
 

@@ -6,13 +6,13 @@ use Rattle.ob_scan.specs.declared.kind.Kind.{Kind}
 use Rattle.ob_scan.specs.declared.token.Token.{Token}
 use Rattle.ob_tree.specs.Marks.{Out, word, separated}
 use Rattle.ob_tree.specs.Marks.{if_there as shown_there}
-use Rattle.ob_decls.specs.declared.rows.Sort.{Sort}
-use Rattle.ob_decls.specs.declared.rows.Declarer.{Declarer}
-use Rattle.ob_decls.specs.declared.draft.Context.{Context}
-use Rattle.ob_decls.specs.declared.draft.Draft.{Draft}
-use Rattle.ob_decls.specs.Drafts.{Stage, stage_of, after, added, closed, passed, ComesTo}
-use Rattle.ob_decls.specs.Parts.{Piece, token, both, if_there, declarer, declaring, declaring_at, one_declarer}
-use Rattle.ob_decls.proofs.Steps.{after_both, after_token, after_nothing, after_declaring, number_of, declarers_of}
+use Rattle.ob_rows.specs.declared.rows.Sort.{Sort}
+use Rattle.ob_rows.specs.declared.rows.Declarer.{Declarer}
+use Rattle.ob_rows.specs.declared.draft.Context.{Context}
+use Rattle.ob_rows.specs.declared.draft.Draft.{Draft}
+use Rattle.ob_rows.specs.Drafts.{Stage, stage_of, after, added, closed, passed, ComesTo}
+use Rattle.ob_rows.specs.Parts.{Piece, token, both, if_there, declarer, declaring, declaring_at, one_declarer}
+use Rattle.ob_rows.proofs.Steps.{after_both, after_token, after_nothing, after_declaring, number_of, declarers_of}
 use Rattle.ob_parse.specs.declared.cursor.Cursor.{Cursor}
 use Rattle.ob_parse.specs.declared.stop.Stop.{Stop}
 use Rattle.ob_parse.specs.declared.stop.Stop.TheVariants as stops

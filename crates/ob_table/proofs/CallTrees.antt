@@ -15,17 +15,17 @@ use Rattle.ob_tree.specs.Constructs as constructs
 use Rattle.ob_tree.specs.Marks.{Out, construct, word, each, tokens_of}
 use Rattle.ob_tree.specs.Expressions.{expr_outline, expr_list_outline}
 use Rattle.ob_tree.proofs.ExpressionLayers as shown
-use Rattle.ob_decls.specs.declared.rows.Selector.{Selector as SelectorRow}
-use Rattle.ob_decls.specs.declared.rows.Step.TheVariants as steps
-use Rattle.ob_decls.specs.declared.rows.TypeName.{TypeName}
-use Rattle.ob_decls.specs.declared.draft.Context.{Context}
-use Rattle.ob_decls.specs.declared.draft.Draft.{Draft}
-use Rattle.ob_decls.specs.Drafts.{Stage, stage_of, after, passed, settled, ComesTo}
-use Rattle.ob_decls.specs.Parts.{token, both}
-use Rattle.ob_decls.specs.Parts.{each as pieces}
+use Rattle.ob_rows.specs.declared.rows.Selector.{Selector as SelectorRow}
+use Rattle.ob_rows.specs.declared.rows.Step.TheVariants as steps
+use Rattle.ob_rows.specs.declared.rows.TypeName.{TypeName}
+use Rattle.ob_rows.specs.declared.draft.Context.{Context}
+use Rattle.ob_rows.specs.declared.draft.Draft.{Draft}
+use Rattle.ob_rows.specs.Drafts.{Stage, stage_of, after, passed, settled, ComesTo}
+use Rattle.ob_rows.specs.Parts.{token, both}
+use Rattle.ob_rows.specs.Parts.{each as pieces}
 use Rattle.ob_decls.specs.Expressions.{Selected, between, listed, expr_piece, expr_list_piece}
 use Rattle.ob_decls.proofs.ExpressionLayers as told
-use Rattle.ob_decls.proofs.Steps.{after_each, after_nothing, number_of}
+use Rattle.ob_rows.proofs.Steps.{after_each, after_nothing, number_of}
 use Rattle.ob_parse.specs.declared.cursor.Cursor.{Cursor}
 use Rattle.ob_parse.specs.declared.stop.Stop.{Stop}
 use Rattle.ob_parse.specs.Forms.{Reader, seq, node, prefixed, optional, unless, many, several, accept_at, expect_at}
@@ -38,7 +38,7 @@ use Rattle.ob_table.specs.Choosing.{is_there, Picked, picked_outline, picking, C
 use Rattle.ob_table.specs.LoneNames.{lone_of}
 use Rattle.ob_table.specs.Shapes.{exprs_outline, exprs_piece, arguments_outline, arguments_piece}
 use Rattle.ob_table.specs.Tabulating.{Told, Tabulates, TabulatesBy}
-use Rattle.ob_table.proofs.Combine.{told_as, told_at, told_then, told_there, told_behind, told_before, told_knowing_then, failed_then}
+use Rattle.ob_table.proofs.Combine.{told_as, told_at, told_then, told_there, told_behind, told_before, told_knowing_then}
 use Rattle.ob_table.proofs.DesignatorTrees.{picking_shown, told_settled}
 use Rattle.ob_table.proofs.ExpressionTrees.{both_after}
 use Rattle.ob_table.proofs.Lists.{Gathered, Listing, listing_begun, listing_more, listing_done, word_after}

@@ -1,5 +1,5 @@
 -- If the parts were told, the whole is told.
-use Rattle.std.proofs.Common.{◌≡◌, ◌+◌, false, [], ◌++◌, List, Result, Ok, Err, Some, None, refl, sym, ap, ◌∙◌, arith}
+use Rattle.std.proofs.Common.{◌≡◌, ◌+◌, false, [], ◌++◌, List, Result, Ok, Err, Some, None, refl, sym, ap, ◌∙◌}
 use Rattle.ob_scan.specs.declared.token.Token.{Token}
 use Rattle.ob_tree.specs.Constructs.{Construct}
 use Rattle.ob_tree.specs.Marks.{Out, construct}
@@ -8,8 +8,8 @@ use Rattle.ob_parse.specs.declared.stop.Stop.{Stop}
 use Rattle.ob_parse.specs.declared.stop.Stop.TheVariants as stops
 use Rattle.ob_parse.specs.Forms.{Read, Reader, Start, ◌>>=◌, seq, prefixed, node, optional}
 use Rattle.ob_parse.specs.Accords.{Fails, ahead}
-use Rattle.ob_decls.specs.declared.draft.Draft.{Draft}
-use Rattle.ob_decls.specs.Drafts.{Stage, stage_of, ComesTo}
+use Rattle.ob_rows.specs.declared.draft.Draft.{Draft}
+use Rattle.ob_rows.specs.Drafts.{Stage, stage_of, ComesTo}
 use Rattle.ob_table.specs.Tabulating.{Told, TabulatesBy}
 
 -- reading on after a fault

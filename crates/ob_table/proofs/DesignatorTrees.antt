@@ -17,19 +17,19 @@ use Rattle.ob_tree.specs.Marks.{Out, construct, word, used, each}
 use Rattle.ob_tree.specs.Marks as marks
 use Rattle.ob_tree.specs.Expressions.{selector_outline, designator_outline}
 use Rattle.ob_tree.proofs.ExpressionLayers as shown
-use Rattle.ob_decls.specs.declared.rows.Selector.{Selector as SelectorRow}
-use Rattle.ob_decls.specs.declared.rows.Step.TheVariants as steps
-use Rattle.ob_decls.specs.declared.draft.Context.{Context}
-use Rattle.ob_decls.specs.declared.draft.Draft.{Draft}
-use Rattle.ob_decls.specs.Drafts.{Stage, stage_of, after, passed, added, settled, ComesTo}
-use Rattle.ob_decls.specs.Parts.{Piece, token, both, joined, these_selectors}
+use Rattle.ob_rows.specs.declared.rows.Selector.{Selector as SelectorRow}
+use Rattle.ob_rows.specs.declared.rows.Step.TheVariants as steps
+use Rattle.ob_rows.specs.declared.draft.Context.{Context}
+use Rattle.ob_rows.specs.declared.draft.Draft.{Draft}
+use Rattle.ob_rows.specs.Drafts.{Stage, stage_of, after, passed, added, settled, ComesTo}
+use Rattle.ob_rows.specs.Parts.{Piece, token, both, joined, these_selectors}
 use Rattle.ob_decls.specs.Expressions.{Selected, selected, first_name, designator_piece, designator_row, expr_list_piece}
 use Rattle.ob_decls.specs.Expressions.{used as uses}
 use Rattle.ob_decls.specs.Settling.{blanks, row_at, settling}
 use Rattle.ob_decls.proofs.ExpressionLayers as told
 use Rattle.ob_decls.proofs.ExpressionLayers.{length_map}
 use Rattle.ob_decls.proofs.Settled.{map_more, settling_more, settling_none, designator_after}
-use Rattle.ob_decls.proofs.Steps.{after_both, after_token, number_of, selectors_of}
+use Rattle.ob_rows.proofs.Steps.{after_both, after_token, number_of, selectors_of}
 use Rattle.ob_parse.specs.declared.cursor.Cursor.{Cursor}
 use Rattle.ob_parse.specs.declared.stop.Stop.{Stop}
 use Rattle.ob_parse.specs.declared.stop.Stop.TheVariants as stops

@@ -7,8 +7,8 @@ use Rattle.ob_parse.specs.declared.cursor.Cursor.{Cursor}
 use Rattle.ob_parse.specs.Forms.{identifier_at, name_at}
 use Rattle.ob_parse.specs.Accords.{ahead}
 use Rattle.ob_parse.specs.Parsed.{IsRightEnd}
-use Rattle.ob_decls.specs.declared.draft.Draft.{Draft}
-use Rattle.ob_decls.specs.Drafts.{Stage, ComesTo}
+use Rattle.ob_rows.specs.declared.draft.Draft.{Draft}
+use Rattle.ob_rows.specs.Drafts.{Stage, ComesTo}
 use Rattle.ob_table.specs.Ended.{RightName}
 use Rattle.ob_table.specs.Tabulating.{Told}
 

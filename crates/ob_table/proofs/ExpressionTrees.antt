@@ -1,5 +1,5 @@
 -- Expressions of parts that were told: their outlines and what they tell.
-use Rattle.std.proofs.Common.{◌≡◌, ℕ, zero, suc, ◌+◌, ◌-◌, List, [], ◌++◌, Option, Some, None, Ok, Err, refl, sym, ap, ◌∙◌, arith}
+use Rattle.std.proofs.Common.{◌≡◌, ℕ, zero, suc, ◌+◌, ◌-◌, List, ◌++◌, Option, Some, None, Ok, Err, refl, sym, ap, ◌∙◌, arith}
 use Rattle.std.specs.Global.{Vec}
 use Rattle.std.specs.Prelude.{Result}
 use Rattle.ob_scan.specs.declared.token.Token.{Token}
@@ -15,12 +15,12 @@ use Rattle.ob_tree.specs.Constructs as constructs
 use Rattle.ob_tree.specs.Marks.{construct, word}
 use Rattle.ob_tree.specs.Expressions.{relation_kind, expr_outline, sum_outline, term_outline, factor_outline}
 use Rattle.ob_tree.proofs.ExpressionLayers.{expr_made, sum_made, term_out}
-use Rattle.ob_decls.specs.declared.draft.Context.{Context}
-use Rattle.ob_decls.specs.declared.draft.Draft.{Draft}
-use Rattle.ob_decls.specs.Drafts.{Stage, stage_of, after, passed, ComesTo}
-use Rattle.ob_decls.specs.Parts.{Piece, both}
+use Rattle.ob_rows.specs.declared.draft.Context.{Context}
+use Rattle.ob_rows.specs.declared.draft.Draft.{Draft}
+use Rattle.ob_rows.specs.Drafts.{Stage, stage_of, after, passed, ComesTo}
+use Rattle.ob_rows.specs.Parts.{Piece, both}
 use Rattle.ob_decls.specs.Expressions.{expr_piece, sum_piece, term_piece, factor_piece}
-use Rattle.ob_decls.proofs.Steps.{after_both, after_token, after_nothing}
+use Rattle.ob_rows.proofs.Steps.{after_both, after_token, after_nothing}
 use Rattle.ob_decls.proofs.ExpressionLayers as told
 use Rattle.ob_parse.specs.declared.cursor.Cursor.{Cursor}
 use Rattle.ob_parse.specs.declared.stop.Stop.{Stop}

@@ -17,12 +17,12 @@ use Rattle.ob_tree.specs.Constructs as constructs
 use Rattle.ob_tree.specs.Marks.{Out, construct, word}
 use Rattle.ob_tree.specs.Expressions.{expr_outline, factor_outline, element_outline, element_list_outline, designator_outline}
 use Rattle.ob_tree.proofs.ExpressionLayers.{set_made, name_made, group_made, not_made, element_made, element_list_made}
-use Rattle.ob_decls.specs.declared.draft.Context.{Context}
-use Rattle.ob_decls.specs.declared.draft.Draft.{Draft}
-use Rattle.ob_decls.specs.Drafts.{Stage, stage_of, after, passed, ComesTo}
-use Rattle.ob_decls.specs.Parts.{Piece, token, both}
+use Rattle.ob_rows.specs.declared.draft.Context.{Context}
+use Rattle.ob_rows.specs.declared.draft.Draft.{Draft}
+use Rattle.ob_rows.specs.Drafts.{Stage, stage_of, after, passed, ComesTo}
+use Rattle.ob_rows.specs.Parts.{Piece, token, both}
 use Rattle.ob_decls.specs.Expressions.{expr_piece, factor_piece, element_piece, element_list_piece, designator_piece}
-use Rattle.ob_decls.proofs.Steps.{after_both, after_token}
+use Rattle.ob_rows.proofs.Steps.{after_both, after_token}
 use Rattle.ob_decls.proofs.ExpressionLayers as told
 use Rattle.ob_parse.specs.declared.cursor.Cursor.{Cursor}
 use Rattle.ob_parse.specs.declared.stop.Stop.{Stop}

@@ -12,14 +12,14 @@ use Rattle.ob_tree.specs.Names.{qualident_outline}
 use Rattle.ob_tree.specs.Statements.{label_outline, label_range_outline}
 use Rattle.ob_tree.proofs.NameLayers as shown_names
 use Rattle.ob_tree.proofs.StatementLayers as shown
-use Rattle.ob_decls.specs.declared.draft.Context.{Context}
-use Rattle.ob_decls.specs.declared.draft.Draft.{Draft}
-use Rattle.ob_decls.specs.Drafts.{Stage, stage_of, after, passed, ComesTo}
-use Rattle.ob_decls.specs.Parts.{Piece, token, both, nothing}
+use Rattle.ob_rows.specs.declared.draft.Context.{Context}
+use Rattle.ob_rows.specs.declared.draft.Draft.{Draft}
+use Rattle.ob_rows.specs.Drafts.{Stage, stage_of, after, passed, ComesTo}
+use Rattle.ob_rows.specs.Parts.{Piece, token, both, nothing}
 use Rattle.ob_decls.specs.Expressions.{used as uses}
 use Rattle.ob_decls.specs.Statements.{qualident_piece, label_piece, label_range_piece}
 use Rattle.ob_decls.proofs.StatementLayers as told
-use Rattle.ob_decls.proofs.Steps.{after_both, after_token, after_nothing}
+use Rattle.ob_rows.proofs.Steps.{after_both, after_token, after_nothing}
 use Rattle.ob_parse.specs.declared.cursor.Cursor.{Cursor}
 use Rattle.ob_parse.specs.declared.stop.Stop.{Stop}
 use Rattle.ob_parse.specs.declared.stop.Stop.TheVariants as stops

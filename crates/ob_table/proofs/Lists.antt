@@ -3,7 +3,7 @@ use Rattle.std.proofs.Common.{◌≡◌, ℕ, ◌≤◌, ◌<◌, ◌+◌, false
 use Rattle.std.specs.Global.{Vec}
 use Rattle.ob_scan.specs.declared.token.Token.{Token}
 use Rattle.ob_tree.specs.Marks.{Out, each, word}
-use Rattle.ob_tree.proofs.Walks.{each_push}
+use Rattle.ob_tree.proofs.Eaches.{each_push}
 use Rattle.ob_parse.specs.declared.cursor.Cursor.{Cursor}
 use Rattle.ob_parse.specs.declared.stop.Stop.{Stop}
 use Rattle.ob_parse.specs.Forms.{Read, Reader, Start, many}
@@ -12,12 +12,12 @@ use Rattle.ob_parse.proofs.Arrays.{few_ahead}
 use Rattle.ob_parse.proofs.Loops.{Advances, with_front, goes_on, is_done, marked_some, marked_none}
 use Rattle.ob_parse.proofs.LoopEnds.{ends}
 use Rattle.ob_parse.proofs.Turns.{Operation, Repetition, operation_shown, operation_start}
-use Rattle.ob_decls.specs.declared.draft.Draft.{Draft}
-use Rattle.ob_decls.specs.declared.draft.Context.{Context}
-use Rattle.ob_decls.specs.Parts.{Piece, token, both}
-use Rattle.ob_decls.specs.Parts.{each as pieces}
-use Rattle.ob_decls.specs.Drafts.{Stage, stage_of, after, passed, ComesTo}
-use Rattle.ob_decls.proofs.Steps.{after_both, after_each, after_nothing, after_token}
+use Rattle.ob_rows.specs.declared.draft.Draft.{Draft}
+use Rattle.ob_rows.specs.declared.draft.Context.{Context}
+use Rattle.ob_rows.specs.Parts.{Piece, token, both}
+use Rattle.ob_rows.specs.Parts.{each as pieces}
+use Rattle.ob_rows.specs.Drafts.{Stage, stage_of, after, passed, ComesTo}
+use Rattle.ob_rows.proofs.Steps.{after_both, after_each, after_nothing, after_token}
 use Rattle.ob_table.specs.Tabulating.{TabulatesBy, Tabulates}
 use Rattle.ob_table.proofs.Combine.{told_as, told_behind}
 use Rattle.ob_table.proofs.Made.{listed}

@@ -28,7 +28,7 @@ use Rattle.ob_tree.specs.Constructs as constructs
 use Rattle.ob_tree.specs.Marks.{Out, construct, word, used, each, tokens_of}
 use Rattle.ob_tree.specs.Expressions.{relation_kind, add_kind, mul_kind, selector_outline, designator_outline, factor_outline, term_outline, sum_outline, expr_outline, expr_list_outline}
 use Rattle.ob_tree.proofs.ExpressionLayers as shown
-use Rattle.ob_decls.specs.declared.rows.TypeName.{TypeName}
+use Rattle.ob_rows.specs.declared.rows.TypeName.{TypeName}
 use Rattle.ob_decls.specs.Expressions.{Phrase, Selected, Lone, between, if_alone, if_bare, selected, denoted, name_with, dotted, factor_phrase, term_phrase, sum_phrase, expr_phrase, listed}
 use Rattle.ob_decls.proofs.ExpressionLayers as told
 use Rattle.ob_parse.proofs.Sound.{tokens_of-append, tokens_of-construct}

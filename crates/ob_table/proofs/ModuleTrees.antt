@@ -15,10 +15,10 @@ use Rattle.ob_tree.specs.Declaring.{declarations_outline, module_outline}
 use Rattle.ob_tree.specs.Derives.{endings_in}
 use Rattle.ob_tree.proofs.DeclarationLayers.{module_out}
 use Rattle.ob_tree.proofs.EndNames.{module_ends}
-use Rattle.ob_decls.specs.declared.draft.Context.{Context}
-use Rattle.ob_decls.specs.declared.draft.Draft.{Draft}
-use Rattle.ob_decls.specs.Drafts.{Stage, after, passed, ComesTo}
-use Rattle.ob_decls.specs.Parts.{token, tells, if_there}
+use Rattle.ob_rows.specs.declared.draft.Context.{Context}
+use Rattle.ob_rows.specs.declared.draft.Draft.{Draft}
+use Rattle.ob_rows.specs.Drafts.{Stage, after, passed, ComesTo}
+use Rattle.ob_rows.specs.Parts.{token, tells, if_there}
 use Rattle.ob_decls.specs.Declaring.{declarations_piece, imports_piece, module_end, module_piece}
 use Rattle.ob_decls.proofs.DeclarationLayers as told
 use Rattle.ob_parse.specs.declared.cursor.Cursor.{Cursor}

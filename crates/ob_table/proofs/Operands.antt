@@ -11,12 +11,12 @@ use Rattle.ob_tree.specs.declared.expression.Term.{Term}
 use Rattle.ob_tree.specs.declared.expression.Factor.{Factor}
 use Rattle.ob_tree.specs.Marks.{word}
 use Rattle.ob_tree.specs.Expressions.{add_kind, mul_kind, expr_outline, term_outline, factor_outline}
-use Rattle.ob_decls.specs.declared.draft.Context.{Context}
-use Rattle.ob_decls.specs.declared.draft.Draft.{Draft}
-use Rattle.ob_decls.specs.Drafts.{after}
-use Rattle.ob_decls.specs.Parts.{token, both}
+use Rattle.ob_rows.specs.declared.draft.Context.{Context}
+use Rattle.ob_rows.specs.declared.draft.Draft.{Draft}
+use Rattle.ob_rows.specs.Drafts.{after}
+use Rattle.ob_rows.specs.Parts.{token, both}
 use Rattle.ob_decls.specs.Expressions.{expr_piece, term_piece, factor_piece}
-use Rattle.ob_decls.proofs.Steps.{after_nothing}
+use Rattle.ob_rows.proofs.Steps.{after_nothing}
 use Rattle.ob_parse.specs.declared.cursor.Cursor.{Cursor}
 use Rattle.ob_parse.specs.declared.stop.Stop.{Stop}
 use Rattle.ob_parse.specs.Front.{uncons, front}

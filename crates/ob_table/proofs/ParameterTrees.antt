@@ -12,17 +12,17 @@ use Rattle.ob_tree.specs.Constructs as constructs
 use Rattle.ob_tree.specs.Marks.{Out, construct, word, declared, each, separated}
 use Rattle.ob_tree.specs.Types.{section_outline, parameters_outline}
 use Rattle.ob_tree.proofs.TypeLayers as shown
-use Rattle.ob_decls.specs.declared.rows.Declarer.{Declarer}
-use Rattle.ob_decls.specs.declared.rows.Sort.TheVariants as sorts
-use Rattle.ob_decls.specs.declared.rows.Part.TheVariants as parts
-use Rattle.ob_decls.specs.declared.draft.Context.{Context}
-use Rattle.ob_decls.specs.declared.draft.Draft.{Draft}
-use Rattle.ob_decls.specs.Drafts.{Stage, added, after, closed, passed, ComesTo}
-use Rattle.ob_decls.specs.Parts.{Piece, token, both, tells, declarer, declaring, declaring_at, one_declarer}
-use Rattle.ob_decls.specs.Parts.{each as pieces}
+use Rattle.ob_rows.specs.declared.rows.Declarer.{Declarer}
+use Rattle.ob_rows.specs.declared.rows.Sort.TheVariants as sorts
+use Rattle.ob_rows.specs.declared.rows.Part.TheVariants as parts
+use Rattle.ob_rows.specs.declared.draft.Context.{Context}
+use Rattle.ob_rows.specs.declared.draft.Draft.{Draft}
+use Rattle.ob_rows.specs.Drafts.{Stage, added, after, closed, passed, ComesTo}
+use Rattle.ob_rows.specs.Parts.{Piece, token, both, tells, declarer, declaring, declaring_at, one_declarer}
+use Rattle.ob_rows.specs.Parts.{each as pieces}
 use Rattle.ob_decls.specs.Statements.{qualident_piece}
 use Rattle.ob_decls.specs.Types.{part_here, name_part, open_arrays, parameter_piece, parameters_piece, section_inner, section_piece}
-use Rattle.ob_decls.proofs.Steps.{after_both, after_token, after_tells}
+use Rattle.ob_rows.proofs.Steps.{after_both, after_token, after_tells}
 use Rattle.ob_decls.proofs.TypeLayers as told
 use Rattle.ob_parse.specs.declared.cursor.Cursor.{Cursor}
 use Rattle.ob_parse.specs.declared.stop.Stop.{Stop}

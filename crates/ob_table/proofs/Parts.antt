@@ -9,12 +9,12 @@ use Rattle.ob_tree.specs.Constructs as constructs
 use Rattle.ob_tree.specs.Marks.{Out, construct, word}
 use Rattle.ob_tree.specs.Marks.{if_there as shown_there}
 use Rattle.ob_tree.specs.Statements.{stmt_outline}
-use Rattle.ob_decls.specs.declared.draft.Context.{Context}
-use Rattle.ob_decls.specs.declared.draft.Draft.{Draft}
-use Rattle.ob_decls.specs.Drafts.{after, passed, ComesTo}
-use Rattle.ob_decls.specs.Parts.{Piece, token, both, if_there}
+use Rattle.ob_rows.specs.declared.draft.Context.{Context}
+use Rattle.ob_rows.specs.declared.draft.Draft.{Draft}
+use Rattle.ob_rows.specs.Drafts.{after, passed, ComesTo}
+use Rattle.ob_rows.specs.Parts.{Piece, token, both, if_there}
 use Rattle.ob_decls.specs.Statements.{stmt_piece}
-use Rattle.ob_decls.proofs.Steps.{after_both, after_token, after_nothing}
+use Rattle.ob_rows.proofs.Steps.{after_both, after_token, after_nothing}
 use Rattle.ob_parse.specs.declared.cursor.Cursor.{Cursor}
 use Rattle.ob_parse.specs.declared.stop.Stop.{Stop}
 use Rattle.ob_parse.specs.Forms.{Read, Reader, Start, expect_at, seq, prefixed, node, optional}

@@ -26,18 +26,18 @@ use Rattle.ob_tree.specs.Declaring.{part as shown_part}
 use Rattle.ob_tree.specs.Derives.{endings_in}
 use Rattle.ob_tree.proofs.DeclarationLayers.{declarations_made, procedure_out}
 use Rattle.ob_tree.proofs.EndNames.{endings-append, endings-each_push, declarations_ends, procedure_ends}
-use Rattle.ob_decls.specs.declared.rows.Sort.TheVariants as sorts
-use Rattle.ob_decls.specs.declared.rows.Declarer.{Declarer}
-use Rattle.ob_decls.specs.declared.draft.Context.{Context}
-use Rattle.ob_decls.specs.declared.draft.Draft.{Draft}
-use Rattle.ob_decls.specs.Drafts.{Stage, after, passed, added, closed, ComesTo}
-use Rattle.ob_decls.specs.Parts.{Piece, token, both, tells, if_there, declarer, declaring, declaring_at, in_block, opens_block, one_block, one_declarer}
-use Rattle.ob_decls.specs.Parts.{each as pieces}
+use Rattle.ob_rows.specs.declared.rows.Sort.TheVariants as sorts
+use Rattle.ob_rows.specs.declared.rows.Declarer.{Declarer}
+use Rattle.ob_rows.specs.declared.draft.Context.{Context}
+use Rattle.ob_rows.specs.declared.draft.Draft.{Draft}
+use Rattle.ob_rows.specs.Drafts.{Stage, after, passed, added, closed, ComesTo}
+use Rattle.ob_rows.specs.Parts.{Piece, token, both, tells, if_there, declarer, declaring, declaring_at, in_block, opens_block, one_block, one_declarer}
+use Rattle.ob_rows.specs.Parts.{each as pieces}
 use Rattle.ob_decls.specs.Expressions.{expr_piece}
 use Rattle.ob_decls.specs.Statements.{block_piece}
 use Rattle.ob_decls.specs.Types.{identdef_piece, parameters_piece}
 use Rattle.ob_decls.specs.Declaring.{const_piece, type_decl_piece, variable_piece, part, procedure_end, declarations_piece, procedure_piece}
-use Rattle.ob_decls.proofs.Steps.{after_both, after_token}
+use Rattle.ob_rows.proofs.Steps.{after_both, after_token}
 use Rattle.ob_decls.proofs.DeclarationLayers as told
 use Rattle.ob_parse.specs.declared.cursor.Cursor.{Cursor}
 use Rattle.ob_parse.specs.declared.stop.Stop.{Stop}

@@ -1,10 +1,10 @@
 -- Places for selectors, one more at a time.
 use Rattle.std.proofs.Common.{◌≡◌, ℕ, zero, suc, ◌+◌, List, [], ◌∷◌, ◌++◌, refl, ap, arith, append_assoc}
 use Rattle.std.proofs.lemmas.List.{append-nil}
-use Rattle.ob_decls.specs.declared.rows.Selector.{Selector as SelectorRow}
-use Rattle.ob_decls.specs.declared.rows.Step.TheVariants as steps
-use Rattle.ob_decls.specs.Parts.{joined, these_selectors}
-use Rattle.ob_decls.specs.Drafts.{Stage, added}
+use Rattle.ob_rows.specs.declared.rows.Selector.{Selector as SelectorRow}
+use Rattle.ob_rows.specs.declared.rows.Step.TheVariants as steps
+use Rattle.ob_rows.specs.Parts.{joined, these_selectors}
+use Rattle.ob_rows.specs.Drafts.{Stage, added}
 use Rattle.ob_table.specs.Choosing.{places}
 
 abbrev blank : ℕ → SelectorRow

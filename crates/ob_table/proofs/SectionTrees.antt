@@ -10,17 +10,17 @@ use Rattle.ob_tree.specs.Marks.{Out, construct, word, each}
 use Rattle.ob_tree.specs.Marks.{if_there as shown_there}
 use Rattle.ob_tree.specs.Names.{identdef_outline}
 use Rattle.ob_tree.specs.Declaring.{part as shown_part}
-use Rattle.ob_decls.specs.declared.rows.Sort.{Sort}
-use Rattle.ob_decls.specs.declared.rows.Sort.TheVariants as sorts
-use Rattle.ob_decls.specs.declared.rows.Declarer.{Declarer}
-use Rattle.ob_decls.specs.declared.draft.Context.{Context}
-use Rattle.ob_decls.specs.declared.draft.Draft.{Draft}
-use Rattle.ob_decls.specs.Drafts.{Stage, stage_of, after, passed, added, closed, ComesTo}
-use Rattle.ob_decls.specs.Parts.{Piece, token, both, within, if_there, declarer, declaring, declaring_at, in_block, opens_block, one_block, one_declarer}
-use Rattle.ob_decls.specs.Parts.{each as pieces}
+use Rattle.ob_rows.specs.declared.rows.Sort.{Sort}
+use Rattle.ob_rows.specs.declared.rows.Sort.TheVariants as sorts
+use Rattle.ob_rows.specs.declared.rows.Declarer.{Declarer}
+use Rattle.ob_rows.specs.declared.draft.Context.{Context}
+use Rattle.ob_rows.specs.declared.draft.Draft.{Draft}
+use Rattle.ob_rows.specs.Drafts.{Stage, stage_of, after, passed, added, closed, ComesTo}
+use Rattle.ob_rows.specs.Parts.{Piece, token, both, within, if_there, declarer, declaring, declaring_at, in_block, opens_block, one_block, one_declarer}
+use Rattle.ob_rows.specs.Parts.{each as pieces}
 use Rattle.ob_decls.specs.Types.{identdef_piece}
 use Rattle.ob_decls.specs.Declaring.{part}
-use Rattle.ob_decls.proofs.Steps.{after_both, after_token, after_declaring, after_tells, after_within}
+use Rattle.ob_rows.proofs.Steps.{after_both, after_token, after_declaring, after_tells, after_within}
 use Rattle.ob_parse.specs.declared.cursor.Cursor.{Cursor}
 use Rattle.ob_parse.specs.declared.stop.Stop.{Stop}
 use Rattle.ob_parse.specs.Forms.{Read, Reader, seq, node, accept_at, expect_at, many, begins}

@@ -22,14 +22,14 @@ use Rattle.ob_tree.specs.Marks.{Out, construct, word, used}
 use Rattle.ob_tree.specs.Expressions.{expr_outline, designator_outline}
 use Rattle.ob_tree.specs.Statements.{case_outline, stmt_outline, block_outline, branch_outline}
 use Rattle.ob_tree.proofs.StatementLayers as shown
-use Rattle.ob_decls.specs.declared.draft.Context.{Context}
-use Rattle.ob_decls.specs.declared.draft.Draft.{Draft}
-use Rattle.ob_decls.specs.Drafts.{Stage, stage_of, after, passed, ComesTo}
-use Rattle.ob_decls.specs.Parts.{Piece, token, both, if_there}
+use Rattle.ob_rows.specs.declared.draft.Context.{Context}
+use Rattle.ob_rows.specs.declared.draft.Draft.{Draft}
+use Rattle.ob_rows.specs.Drafts.{Stage, stage_of, after, passed, ComesTo}
+use Rattle.ob_rows.specs.Parts.{Piece, token, both, if_there}
 use Rattle.ob_decls.specs.Expressions.{each_after, expr_piece, designator_piece}
 use Rattle.ob_decls.specs.Statements.{label_range_piece, case_piece, stmt_piece, block_piece, branch_piece, for_piece, variable_piece}
 use Rattle.ob_decls.proofs.StatementLayers as told
-use Rattle.ob_decls.proofs.Steps.{after_both, after_nothing}
+use Rattle.ob_rows.proofs.Steps.{after_both, after_nothing}
 use Rattle.ob_parse.specs.declared.cursor.Cursor.{Cursor}
 use Rattle.ob_parse.specs.declared.stop.Stop.{Stop}
 use Rattle.ob_parse.specs.declared.stop.Stop.TheVariants as stops

@@ -23,17 +23,17 @@ use Rattle.ob_tree.specs.Expressions.{expr_outline, expr_list_outline}
 use Rattle.ob_tree.specs.Types.{type_outline, fields_outline, var_outline}
 use Rattle.ob_tree.proofs.ExpressionLayers.{expr_list_made}
 use Rattle.ob_tree.proofs.TypeLayers as shown
-use Rattle.ob_decls.specs.declared.rows.Declarer.{Declarer}
-use Rattle.ob_decls.specs.declared.rows.Sort.TheVariants as sorts
-use Rattle.ob_decls.specs.declared.rows.Part.{Part}
-use Rattle.ob_decls.specs.declared.rows.Part.TheVariants as parts
-use Rattle.ob_decls.specs.declared.draft.Context.{Context}
-use Rattle.ob_decls.specs.declared.draft.Draft.{Draft}
-use Rattle.ob_decls.specs.Drafts.{Stage, stage_of, added, after, closed, passed, ComesTo}
-use Rattle.ob_decls.specs.Parts.{Piece, Rows, token, both, tells, opens_block, in_block, one_block, declarer, declaring_at, one_declarer}
+use Rattle.ob_rows.specs.declared.rows.Declarer.{Declarer}
+use Rattle.ob_rows.specs.declared.rows.Sort.TheVariants as sorts
+use Rattle.ob_rows.specs.declared.rows.Part.{Part}
+use Rattle.ob_rows.specs.declared.rows.Part.TheVariants as parts
+use Rattle.ob_rows.specs.declared.draft.Context.{Context}
+use Rattle.ob_rows.specs.declared.draft.Draft.{Draft}
+use Rattle.ob_rows.specs.Drafts.{Stage, stage_of, added, after, closed, passed, ComesTo}
+use Rattle.ob_rows.specs.Parts.{Piece, Rows, token, both, tells, opens_block, in_block, one_block, declarer, declaring_at, one_declarer}
 use Rattle.ob_decls.specs.Expressions.{each_after, expr_piece}
 use Rattle.ob_decls.specs.Types.{part_here, record_row, in_record, targeted, untargeted, identdef_piece, type_name_piece, lengths_piece, type_piece, fields_piece, record_piece, var_piece}
-use Rattle.ob_decls.proofs.Steps.{added_number, number_of, after_both, after_token, after_tells, after_within}
+use Rattle.ob_rows.proofs.Steps.{added_number, number_of, after_both, after_token, after_tells, after_within}
 use Rattle.ob_decls.proofs.TypeLayers as told
 use Rattle.ob_parse.specs.declared.cursor.Cursor.{Cursor}
 use Rattle.ob_parse.specs.declared.stop.Stop.{Stop}

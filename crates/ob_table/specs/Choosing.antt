@@ -13,11 +13,11 @@ use Rattle.ob_parse.specs.Forms.{Read}
 use Rattle.ob_parse.specs.Accords.{Fails, ahead}
 use Rattle.ob_parse.specs.declared.cursor.Cursor.{Cursor}
 use Rattle.ob_parse.specs.declared.stop.Stop.{Stop}
-use Rattle.ob_decls.specs.declared.rows.Selector.{Selector as SelectorRow}
-use Rattle.ob_decls.specs.declared.rows.Step.TheVariants as steps
-use Rattle.ob_decls.specs.declared.draft.Context.{Context}
-use Rattle.ob_decls.specs.declared.draft.Draft.{Draft}
-use Rattle.ob_decls.specs.Drafts.{Stage, after, settled}
+use Rattle.ob_rows.specs.declared.rows.Selector.{Selector as SelectorRow}
+use Rattle.ob_rows.specs.declared.rows.Step.TheVariants as steps
+use Rattle.ob_rows.specs.declared.draft.Context.{Context}
+use Rattle.ob_rows.specs.declared.draft.Draft.{Draft}
+use Rattle.ob_rows.specs.Drafts.{Stage, after, settled}
 use Rattle.ob_decls.specs.Expressions.{selected, first_name, listed, expr_list_piece}
 use Rattle.ob_decls.specs.Settling.{row_at, settling}
 use Rattle.ob_table.specs.Shapes.{exprs_outline, exprs_piece}

@@ -14,9 +14,9 @@ use Rattle.ob_tree.specs.Expressions.{expr_outline}
 use Rattle.ob_tree.specs.Statements.{block_outline}
 use Rattle.ob_tree.specs.Types.{parameters_outline}
 use Rattle.ob_tree.specs.Declaring.{declarations_outline, import_outline}
-use Rattle.ob_decls.specs.declared.draft.Context.{Context}
-use Rattle.ob_decls.specs.Drafts.{Stage, after, passed}
-use Rattle.ob_decls.specs.Parts.{Piece, token, both, tells, if_there}
+use Rattle.ob_rows.specs.declared.draft.Context.{Context}
+use Rattle.ob_rows.specs.Drafts.{Stage, after, passed}
+use Rattle.ob_rows.specs.Parts.{Piece, token, both, tells, if_there}
 use Rattle.ob_decls.specs.Expressions.{expr_piece}
 use Rattle.ob_decls.specs.Statements.{block_piece}
 use Rattle.ob_decls.specs.Types.{identdef_piece, parameters_piece}

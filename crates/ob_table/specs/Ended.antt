@@ -12,8 +12,8 @@ use Rattle.ob_parse.specs.declared.stop.Stop.{Stop}
 use Rattle.ob_parse.specs.Forms.{Refusal}
 use Rattle.ob_parse.specs.Accords.{Fails}
 use Rattle.ob_parse.specs.Parsed.{IsRightEnd}
-use Rattle.ob_decls.specs.declared.draft.Draft.{Draft}
-use Rattle.ob_decls.specs.Drafts.{Stage}
+use Rattle.ob_rows.specs.declared.draft.Draft.{Draft}
+use Rattle.ob_rows.specs.Drafts.{Stage}
 use Rattle.ob_table.specs.Tabulating.{Telling}
 
 -- the names after END in an outline are right

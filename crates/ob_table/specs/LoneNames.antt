@@ -3,7 +3,7 @@ use Rattle.std.specs.Prelude.{◌≡◌, ℕ, ◌+◌, List, [], ◌∷◌, Opti
 use Rattle.ob_scan.specs.declared.kind.Kind.TheVariants as kinds
 use Rattle.ob_tree.specs.declared.token.Leaf.{Leaf}
 use Rattle.ob_tree.specs.declared.token.Leaf.TheVariants as leafs
-use Rattle.ob_decls.specs.declared.rows.TypeName.{TypeName}
+use Rattle.ob_rows.specs.declared.rows.TypeName.{TypeName}
 use Rattle.ob_table.specs.declared.places.Lone.{Lone}
 use Rattle.ob_table.specs.declared.places.Lone.TheVariants as lones
 

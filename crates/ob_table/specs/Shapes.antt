@@ -16,7 +16,7 @@ use Rattle.ob_tree.specs.declared.expression.Factor.{Factor}
 use Rattle.ob_tree.specs.Marks.{Out, word}
 use Rattle.ob_tree.specs.Marks.{if_there as shown_there, each as shown_each, each_after as shown_after}
 use Rattle.ob_tree.specs.Expressions.{relation_kind, sign_kind, add_kind, mul_kind, sum_outline, term_outline, factor_outline, expr_outline, element_outline, element_list_outline, expr_list_outline}
-use Rattle.ob_decls.specs.Parts.{Piece, token, both, if_there, each}
+use Rattle.ob_rows.specs.Parts.{Piece, token, both, if_there, each}
 use Rattle.ob_decls.specs.Expressions.{each_after, sum_piece, term_piece, factor_piece, expr_piece, element_piece, element_list_piece, expr_list_piece}
 
 -- a relation and its right side

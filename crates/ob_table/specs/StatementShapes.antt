@@ -15,7 +15,7 @@ use Rattle.ob_tree.specs.Marks.{Out, word, separated}
 use Rattle.ob_tree.specs.Marks.{if_there as shown_there, each_after as shown_after}
 use Rattle.ob_tree.specs.Expressions.{expr_outline}
 use Rattle.ob_tree.specs.Statements.{label_outline, label_range_outline, case_outline, stmt_outline, block_outline, branch_outline}
-use Rattle.ob_decls.specs.Parts.{Piece, token, both, if_there}
+use Rattle.ob_rows.specs.Parts.{Piece, token, both, if_there}
 use Rattle.ob_decls.specs.Expressions.{each_after, expr_piece}
 use Rattle.ob_decls.specs.Statements.{label_piece, label_range_piece, case_piece, stmt_piece, block_piece, branch_piece, variable_piece}
 

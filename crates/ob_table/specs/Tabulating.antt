@@ -6,10 +6,10 @@ use Rattle.ob_parse.specs.declared.cursor.Cursor.{Cursor}
 use Rattle.ob_parse.specs.declared.stop.Stop.{Stop}
 use Rattle.ob_parse.specs.Forms.{Read}
 use Rattle.ob_parse.specs.Accords.{Fails, ahead}
-use Rattle.ob_decls.specs.declared.draft.Draft.{Draft}
-use Rattle.ob_decls.specs.declared.draft.Context.{Context}
-use Rattle.ob_decls.specs.Drafts.{Stage, stage_of, after}
-use Rattle.ob_decls.specs.Parts.{Piece}
+use Rattle.ob_rows.specs.declared.draft.Draft.{Draft}
+use Rattle.ob_rows.specs.declared.draft.Context.{Context}
+use Rattle.ob_rows.specs.Drafts.{Stage, stage_of, after}
+use Rattle.ob_rows.specs.Parts.{Piece}
 
 -- a tree, which is never made, has this outline, and by it the old draft comes to the new one
 pub record IsTold {T : Type 0} (outline : T → Out) (step : T → Stage → Stage) (out : Out) (old new : Draft) : Type 0 where

@@ -16,11 +16,11 @@ use Rattle.ob_tree.specs.Marks.{Out, construct, word, declared, separated, times
 use Rattle.ob_tree.specs.Marks.{if_there as shown_there, if_so as shown_so, each_after as shown_after}
 use Rattle.ob_tree.specs.Names.{qualident_outline}
 use Rattle.ob_tree.specs.Types.{section_outline, parameters_outline, type_outline, fields_outline, var_outline}
-use Rattle.ob_decls.specs.declared.rows.Sort.TheVariants as sorts
-use Rattle.ob_decls.specs.declared.rows.Part.TheVariants as parts
-use Rattle.ob_decls.specs.declared.draft.Context.{Context}
-use Rattle.ob_decls.specs.Drafts.{Stage, added, after, passed}
-use Rattle.ob_decls.specs.Parts.{Piece, token, both, tells, if_there, if_so, each, declaring}
+use Rattle.ob_rows.specs.declared.rows.Sort.TheVariants as sorts
+use Rattle.ob_rows.specs.declared.rows.Part.TheVariants as parts
+use Rattle.ob_rows.specs.declared.draft.Context.{Context}
+use Rattle.ob_rows.specs.Drafts.{Stage, added, after, passed}
+use Rattle.ob_rows.specs.Parts.{Piece, token, both, tells, if_there, if_so, each, declaring}
 use Rattle.ob_decls.specs.Expressions.{each_after, expr_piece}
 use Rattle.ob_decls.specs.Statements.{qualident_piece}
 use Rattle.ob_decls.specs.Types.{part_here, name_part, in_record, record_row, open_arrays, section_piece, parameters_piece, type_piece, fields_piece, var_piece}

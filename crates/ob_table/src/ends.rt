@@ -3,8 +3,8 @@
 
 ghost use Rattle.std.specs.Prelude.{◌≡◌, true, false};
 ghost use Rattle.ob_decls.specs.Declaring.{procedure_end, module_end};
-ghost use Rattle.ob_decls.specs.Drafts.{after, ComesTo};
-ghost use Rattle.ob_decls.specs.Parts.{tells, token};
+ghost use Rattle.ob_rows.specs.Drafts.{after, ComesTo};
+ghost use Rattle.ob_rows.specs.Parts.{tells, token};
 ghost use Rattle.ob_tree.specs.Marks.{repeated};
 ghost use Rattle.ob_parse.specs.Forms.{name_at};
 ghost use Rattle.ob_parse.specs.Accords.{ahead};
@@ -13,11 +13,11 @@ ghost use Rattle.ob_parse.specs.Parsed.{IsRightEnd};
 ghost use Rattle.ob_table.specs.Ended.{RightName};
 ghost use Rattle.ob_table.specs.Tabulating.{TabulatesBy};
 
-use ob_decls::draft::{Context, Draft};
 use ob_decls::walk::declarations::{walk_module_end, walk_procedure_end};
 use ob_parse::cursor::Cursor;
 use ob_parse::stop::Stop;
 use ob_parse::tokens::identifier;
+use ob_rows::draft::{Context, Draft};
 use ob_scan::Token;
 
 /// Whether both tokens lie in the text and have the same bytes.

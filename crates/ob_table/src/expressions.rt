@@ -8,7 +8,7 @@ ghost use Rattle.ob_tree.specs.Marks as marks;
 ghost use Rattle.ob_tree.specs.Marks.{construct, word};
 ghost use Rattle.ob_tree.specs.Expressions.{expr_outline, sum_outline, term_outline, factor_outline, designator_outline, element_outline, element_list_outline};
 ghost use Rattle.ob_decls.specs.Expressions.{expr_piece, sum_piece, term_piece, factor_piece, designator_piece, element_piece, element_list_piece};
-ghost use Rattle.ob_decls.specs.Drafts.{after};
+ghost use Rattle.ob_rows.specs.Drafts.{after};
 ghost use Rattle.ob_parse.specs.Forms.{many, several, optional, unless, nothing, accept_at, expect_at, name_at, begins, seq, prefixed, node};
 ghost use Rattle.ob_parse.specs.Accords.{ahead};
 ghost use Rattle.ob_parse.specs.ReadExpressions.{relation_start, sign_start, add_start, mul_start, element_with, selector_first, selector_with, designator_with, expr_at, sum_at, term_at, factor_at, negated_at};
@@ -24,15 +24,15 @@ use crate::places::{
 };
 use crate::source::Source;
 use crate::words::{pass_token, pass_word};
-use ob_decls::draft::{Context, Draft};
 use ob_decls::walk::expressions::walk_used;
-use ob_decls::{Designator as DesignatorRow, Selector as SelectorRow, Step};
 use ob_parse::cursor::Cursor;
 use ob_parse::operators::{
     add_operator, begins_expression, begins_factor, begins_selector, mul_operator, relation, sign,
 };
 use ob_parse::stop::Stop;
 use ob_parse::tokens::{accept, beyond, identifier, is_at};
+use ob_rows::draft::{Context, Draft};
+use ob_rows::{Designator as DesignatorRow, Selector as SelectorRow, Step};
 use ob_scan::{Kind, Token};
 use ob_tree::token::Leaf;
 

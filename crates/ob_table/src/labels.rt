@@ -11,10 +11,10 @@ ghost use Rattle.ob_table.specs.Tabulating.{Tabulates};
 
 use crate::uses::qualident_after;
 use crate::words::pass_token;
-use ob_decls::draft::{Context, Draft};
 use ob_parse::cursor::Cursor;
 use ob_parse::stop::Stop;
 use ob_parse::tokens::accept;
+use ob_rows::draft::{Context, Draft};
 use ob_scan::{Kind, Token};
 use ob_tree::expression::Literal;
 use ob_tree::token::Leaf;

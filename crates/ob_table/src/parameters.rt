@@ -5,7 +5,7 @@ ghost use Rattle.ob_scan.specs.declared.kind.Kind.TheVariants as kinds;
 ghost use Rattle.ob_tree.specs.Marks.{declared, separated, word};
 ghost use Rattle.ob_tree.specs.Names.{qualident_outline};
 ghost use Rattle.ob_tree.specs.Types.{section_outline, parameters_outline};
-ghost use Rattle.ob_decls.specs.Parts.{both, token};
+ghost use Rattle.ob_rows.specs.Parts.{both, token};
 ghost use Rattle.ob_decls.specs.Types.{open_arrays as arrays_piece, parameter_piece, parameters_piece, section_inner as inner_piece, section_piece};
 ghost use Rattle.ob_parse.specs.Forms.{accept_at, expect_at, many, name_at, optional, seq, several, unless};
 ghost use Rattle.ob_parse.specs.Accords.{ahead};
@@ -16,14 +16,14 @@ ghost use Rattle.ob_table.specs.Tabulating.{Tabulates};
 
 use crate::names::used_qualident;
 use crate::words::{pass_word, skip_word};
-use ob_decls::draft::{Context, Draft, declarer_at, declaring_from};
 use ob_decls::walk::statements::walk_qualident;
 use ob_decls::walk::types::{add_here, add_name, walk_parameter};
-use ob_decls::{Part, Sort};
 use ob_parse::cursor::Cursor;
 use ob_parse::names::qualident;
 use ob_parse::stop::Stop;
 use ob_parse::tokens::{accept, identifier, is_at};
+use ob_rows::draft::{Context, Draft, declarer_at, declaring_from};
+use ob_rows::{Part, Sort};
 use ob_scan::{Kind, Token};
 
 /// The name of a parameter.

@@ -3,19 +3,19 @@
 ghost use Rattle.std.specs.Prelude.{◌≡◌, ◌+◌, ◌<◌, ◌++◌, ◌∷◌, ℕ, false, length, List};
 ghost use Rattle.ob_tree.specs.declared.token.Leaf.{Leaf};
 ghost use Rattle.ob_tree.specs.declared.token.Leaf.TheVariants as leafs;
-ghost use Rattle.ob_decls.specs.Drafts.{added, ComesTo};
-ghost use Rattle.ob_decls.specs.Parts.{these_selectors};
+ghost use Rattle.ob_rows.specs.Drafts.{added, ComesTo};
+ghost use Rattle.ob_rows.specs.Parts.{these_selectors};
 ghost use Rattle.ob_parse.specs.Accords.{ahead, seen};
 ghost use Rattle.ob_table.specs.Choosing.{dot_at, is_there, places};
 ghost use Rattle.ob_parse.specs.Front.{uncons};
 ghost use Rattle.ob_table.specs.LoneNames.{lone_of, named_front, IsLone};
 
 use crate::source::{Source, kind_at};
-use ob_decls::draft::Draft;
-use ob_decls::{Selector as SelectorRow, Step, TypeName};
 use ob_parse::cursor::Cursor;
 use ob_parse::operators::begins_selector;
 use ob_parse::tokens::{accept, is_at};
+use ob_rows::draft::Draft;
+use ob_rows::{Selector as SelectorRow, Step, TypeName};
 use ob_scan::{Kind, Token};
 use ob_tree::token::Leaf;
 

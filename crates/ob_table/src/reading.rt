@@ -1,8 +1,9 @@
 //! The table of a text.
 
 ghost use Rattle.std.specs.Prelude.{◌≡◌, ◌<◌, ◌^◌, length, ℕ, List, Ok, IfOk, IfErr};
-ghost use Rattle.ob_decls.specs.Declaring.{rows_in, rows_of, module_piece, outermost};
-ghost use Rattle.ob_decls.specs.Drafts.{after};
+ghost use Rattle.ob_rows.specs.Tables.{rows_in};
+ghost use Rattle.ob_decls.specs.Declaring.{rows_of, module_piece, outermost};
+ghost use Rattle.ob_rows.specs.Drafts.{after};
 ghost use Rattle.ob_scan.specs.Spelling.{IsOutcome};
 ghost use Rattle.ob_scan.specs.declared.token.Token.{Token};
 ghost use Rattle.ob_tree.specs.Declaring.{module_outline};
@@ -14,12 +15,13 @@ ghost use Rattle.ob_table.specs.Ended.{EndedModule, TabulatesWhole};
 
 use crate::modules::whole;
 use crate::source::{Source, brackets_of};
-use ob_decls::draft::{Context, Draft};
-use ob_decls::{Table, table_from, table_of};
+use ob_decls::{table_from, table_of};
 use ob_parse::cursor::Cursor;
 use ob_parse::parser::{DEEPEST, fault_of};
 use ob_parse::stop::Stop;
 use ob_parse::{ParseFault, parse};
+use ob_rows::Table;
+use ob_rows::draft::{Context, Draft};
 use ob_scan::{Token, Tokens};
 use ob_tree::declaration::Module;
 use std::alloc::Global;

@@ -20,16 +20,16 @@ use crate::names::declared_names;
 use crate::parameters::some_parameters;
 use crate::source::Source;
 use crate::words::{pass_word, skip_word};
-use ob_decls::draft::{Context, Draft, block_from, declarer_at, declaring_from};
 use ob_decls::walk::types::{
     add_here, add_record, record_from, type_from, walk_base, walk_type_name,
 };
-use ob_decls::{Block, Part, Sort};
 use ob_parse::cursor::Cursor;
 use ob_parse::names::qualident_after;
 use ob_parse::stop::Stop;
 use ob_parse::tokens::{accept, beyond, is_at};
 use ob_parse::types::{base, begins_type, next_fields};
+use ob_rows::draft::{Context, Draft, block_from, declarer_at, declaring_from};
+use ob_rows::{Block, Part, Sort};
 use ob_scan::{Kind, Token};
 use ob_tree::name::Qualident;
 use ob_tree::token::Leaf;

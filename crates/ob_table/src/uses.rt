@@ -7,11 +7,11 @@ ghost use Rattle.ob_parse.specs.ReadNames as readers;
 ghost use Rattle.ob_table.specs.Tabulating.{Tabulates};
 
 use crate::words::pass_token;
-use ob_decls::draft::{Context, Draft};
 use ob_decls::walk::expressions::walk_used;
 use ob_parse::cursor::Cursor;
 use ob_parse::stop::Stop;
 use ob_parse::tokens::{accept, identifier};
+use ob_rows::draft::{Context, Draft};
 use ob_scan::{Kind, Token};
 
 /// A qualified identifier, behind its first name. Its row has the place of the name behind the dot, whatever that name is.

@@ -3,16 +3,16 @@
 ghost use Rattle.ob_scan.specs.declared.kind.Kind.{Kind};
 ghost use Rattle.ob_tree.specs.Marks.{word};
 ghost use Rattle.std.specs.Prelude.{◌≡◌};
-ghost use Rattle.ob_decls.specs.Drafts.{after, passed, ComesTo};
+ghost use Rattle.ob_rows.specs.Drafts.{after, passed, ComesTo};
 ghost use Rattle.ob_parse.specs.Forms.{accept_at, expect_at, nothing, optional};
 ghost use Rattle.ob_parse.specs.Accords.{ahead};
 ghost use Rattle.ob_table.specs.Tabulating.{TabulatesBy, Told};
 ghost use Rattle.ob_table.specs.TypeShapes.{skipped_outline, skipped_piece};
 
-use ob_decls::draft::{Context, Draft};
 use ob_parse::cursor::Cursor;
 use ob_parse::stop::Stop;
 use ob_parse::tokens::{expect, skip};
+use ob_rows::draft::{Context, Draft};
 use ob_scan::{Kind, Token};
 
 /// A token of this kind, which has to stand here.

@@ -4,8 +4,8 @@ use Rattle.std.specs.Prelude.{slice_get}
 use Rattle.type_search.proofs.Finding.{finds_once}
 use Rattle.type_search.proofs.Opening.{element_once, target_once}
 use Rattle.type_search.specs.Searches.{HasElement, HasTarget}
-use Rattle.ob_decls.specs.declared.rows.Selector.{Selector}
-use Rattle.ob_decls.specs.declared.rows.Step.{Step}
+use Rattle.ob_rows.specs.declared.rows.Selector.{Selector}
+use Rattle.ob_rows.specs.declared.rows.Step.{Step}
 use Rattle.ob_types.specs.declared.nodes.Field.{Field}
 use Rattle.ob_types.specs.declared.nodes.Node.{Node}
 use Rattle.ob_types.specs.World.{World, text}

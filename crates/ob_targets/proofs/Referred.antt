@@ -1,8 +1,8 @@
 -- An identifier stands for one thing, in one role.
 use Rattle.std.proofs.Common.{◌≡◌, ℕ, Some, false, refl, sym, ap, ◌∙◌, subst}
 use Rattle.std.specs.Prelude.{slice_get}
-use Rattle.ob_decls.specs.declared.rows.End.{End}
-use Rattle.ob_decls.specs.declared.rows.Used.{Used}
+use Rattle.ob_rows.specs.declared.rows.End.{End}
+use Rattle.ob_rows.specs.declared.rows.Used.{Used}
 use Rattle.ob_types.specs.World.{World}
 use Rattle.ob_targets.specs.declared.known.Known.{Known}
 use Rattle.ob_targets.specs.declared.standing.Standing.{Standing}

@@ -10,10 +10,11 @@ use Rattle.ob_scan.specs.declared.kind.Kind.TheVariants as kinds
 use Rattle.ob_scan.specs.declared.token.Token.{Token}
 use Rattle.ob_tree.specs.declared.declaration.Module.{Module}
 use Rattle.ob_tree.specs.Derives.{Derives}
-use Rattle.ob_decls.specs.Declaring.{own_name, rows_of}
+use Rattle.ob_rows.specs.Tables.{own_name}
+use Rattle.ob_decls.specs.Declaring.{rows_of}
 use Rattle.ob_decls.specs.Naming.{IsNamed}
 use Rattle.ob_decls.specs.Naming as names
-use Rattle.ob_decls.specs.Parts.{Rows}
+use Rattle.ob_rows.specs.Parts.{Rows}
 use Rattle.ob_decls.proofs.Derived.{each_named}
 use Rattle.ob_targets.specs.declared.standing.Standing.{Standing}
 use Rattle.ob_targets.specs.declared.standing.Standing.TheVariants as standings

@@ -1,9 +1,9 @@
 -- What is known of a designator, followed from left to right (Oberon-07 report, section 8.1).
 use Rattle.std.specs.Prelude.{◌≡◌, ℕ, zero, suc, ◌==◌, List, [], slice_get, Option, Some, None, Bool, true, false, not}
-use Rattle.ob_decls.specs.declared.rows.Selector.{Selector}
-use Rattle.ob_decls.specs.declared.rows.Step.{Step}
-use Rattle.ob_decls.specs.declared.rows.Step.TheVariants as steps
-use Rattle.ob_decls.specs.declared.rows.TypeName.{TypeName}
+use Rattle.ob_rows.specs.declared.rows.Selector.{Selector}
+use Rattle.ob_rows.specs.declared.rows.Step.{Step}
+use Rattle.ob_rows.specs.declared.rows.Step.TheVariants as steps
+use Rattle.ob_rows.specs.declared.rows.TypeName.{TypeName}
 use Rattle.type_search.specs.declared.shape.Shape.TheVariants as shapes
 use Rattle.type_search.specs.Searches.{Finds, HasElement, HasTarget}
 use Rattle.ob_types.specs.declared.nodes.Node.{Node}

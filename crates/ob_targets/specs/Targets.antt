@@ -2,11 +2,11 @@
 use Rattle.std.specs.Prelude.{ℕ, ◌==◌, List, Option, Some, None, Bool, true, false, ◌&&◌, if◌then◌else◌, nat_eq}
 use Rattle.std.specs.List.{filter, fold, list_any}
 use Rattle.std.specs.Option.{unwrap_or}
-use Rattle.ob_decls.specs.declared.rows.Designator.{Designator}
-use Rattle.ob_decls.specs.declared.rows.Selector.{Selector}
-use Rattle.ob_decls.specs.declared.rows.Sort.{Sort}
-use Rattle.ob_decls.specs.declared.rows.Sort.TheVariants as sorts
-use Rattle.ob_decls.specs.Parts.{Rows}
+use Rattle.ob_rows.specs.declared.rows.Designator.{Designator}
+use Rattle.ob_rows.specs.declared.rows.Selector.{Selector}
+use Rattle.ob_rows.specs.declared.rows.Sort.{Sort}
+use Rattle.ob_rows.specs.declared.rows.Sort.TheVariants as sorts
+use Rattle.ob_rows.specs.Parts.{Rows}
 use Rattle.ob_types.specs.declared.nodes.Node.{Node}
 use Rattle.ob_types.specs.declared.nodes.Node.TheVariants as nodes
 use Rattle.ob_types.specs.declared.nodes.Field.{Field}

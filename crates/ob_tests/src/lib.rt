@@ -1,6 +1,6 @@
 //! Tests of interfaces, graphs of imports, the work board, fields behind bases and documents, from outside: of what no command shows. What a
 //! command prints, tells and ends with stands in `rows/`.
-//! Stands on `ob_scan`, `ob_decls`, `ob_table`, `ob_scope`, `ob_interface`, `type_search`, `ob_types`, `ob_emit`, `ob_imports` and `work_board`.
+//! Stands on `ob_scan`, `ob_rows`, `ob_table`, `ob_scope`, `ob_interface`, `type_search`, `ob_types`, `ob_emit`, `ob_imports` and `work_board`.
 //! Its contract: none; it has nothing but tests.
 #![tactic(auto)]
 

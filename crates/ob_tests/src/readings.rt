@@ -1,6 +1,6 @@
 //! From texts to tables.
 
-use ob_decls::Table;
+use ob_rows::Table;
 use ob_scan::scan;
 use ob_table::read_table;
 use std::alloc::Global;

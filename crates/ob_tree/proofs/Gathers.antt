@@ -6,7 +6,7 @@ use Rattle.ob_tree.specs.Constructs.{Construct}
 use Rattle.ob_tree.specs.declared.expression.Literal.{Literal}
 use Rattle.ob_tree.specs.Marks.{Out, Mark, Begins, Ends, Value, construct, word, used, completed, selected, each}
 use Rattle.ob_tree.proofs.Closed.{IsClosed}
-use Rattle.ob_tree.proofs.Walks.{each_push}
+use Rattle.ob_tree.proofs.Eaches.{each_push}
 
 -- something of each mark, and nothing of one that neither declares nor repeats a name
 pub record Gathers {A : Type 0} (f : Out → List A) : Type 0 where

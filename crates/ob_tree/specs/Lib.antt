@@ -2,8 +2,6 @@ pub mod Constructs
 pub mod Declaring
 pub mod Derives
 pub mod Expressions
-pub mod Gathered
-pub mod Items
 pub mod Leaves
 pub mod Marks
 pub mod Names

@@ -10,7 +10,7 @@ use Rattle.std.proofs.lemmas.List.Elements.{Contains-get_or}
 use Rattle.std.proofs.lemmas.List.Folds.{find_at}
 use Rattle.std.proofs.lemmas.List.Sums.{position_or_len_is}
 use Rattle.std.proofs.lemmas.Option.{slice_get-get_or, slice_get_past, slice_get_within, get_or_from_slice_get}
-use Rattle.ob_decls.specs.Order.{AscendBy, RiseBy}
+use Rattle.ob_rows.specs.Order.{AscendBy, RiseBy}
 use Rattle.ob_scope.specs.Scoped.{Meaning}
 
 not_true : (b : Bool) → (b ≡ true → ⊥) → b ≡ false

@@ -8,7 +8,7 @@ use Rattle.std.proofs.lemmas.List.Elements.{Contains-append_left, Contains-push}
 use Rattle.std.proofs.lemmas.List.Quantifiers.{position-Some}
 use Rattle.std.proofs.lemmas.Option.{cond_some, get_or_from_slice_get, option_and_then_some, slice_get_within}
 use Rattle.std.proofs.lemmas.Slice.Eq.{bytes_eq-Decides}
-use Rattle.ob_decls.specs.declared.rows.Declared.{Declared}
+use Rattle.ob_rows.specs.declared.rows.Declared.{Declared}
 use Rattle.ob_interface.specs.Interfaces.{Declaration, ModuleInterface}
 use Rattle.ob_interface.specs.Placed.{declaration_at, is_member, place_of}
 use Rattle.type_search.specs.declared.told.OwnField.{OwnField}

@@ -2,10 +2,10 @@
 use Rattle.std.proofs.Common.{◌≡◌, ℕ, List, Bool, true, false, Option, Some, None, refl, sym, ap, ap₂, ◌∙◌, subst, eqb-true}
 use Rattle.std.specs.Prelude.{slice_get, if◌then◌else◌, nat_eq, ◌&&◌}
 use Rattle.std.specs.Option.{option_map, option_and_then}
-use Rattle.ob_decls.specs.declared.rows.FormPart.{FormPart}
-use Rattle.ob_decls.specs.declared.rows.Part.{Part as PartRow}
-use Rattle.ob_decls.specs.declared.rows.Part.TheVariants as parts
-use Rattle.ob_decls.specs.declared.rows.Sort.{Sort}
+use Rattle.ob_rows.specs.declared.rows.FormPart.{FormPart}
+use Rattle.ob_rows.specs.declared.rows.Part.{Part as PartRow}
+use Rattle.ob_rows.specs.declared.rows.Part.TheVariants as parts
+use Rattle.ob_rows.specs.declared.rows.Sort.{Sort}
 use Rattle.ob_interface.specs.Interfaces.{Alone, Qualified, Array, Pointer, Record as RecordPart, Procedure, Named as NamedPart, Base, Declaration, Part, TypeName}
 use Rattle.type_search.specs.declared.shape.Shape.TheVariants as shapes
 use Rattle.ob_types.specs.contracts.nodes.NamedPartialEq.TheImpl as named_equal

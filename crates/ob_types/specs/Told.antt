@@ -1,6 +1,6 @@
 -- The fields that are told of a module and of those that it reaches.
 use Rattle.std.specs.Prelude.{◌≡◌, ℕ, List, slice_get, Some, true}
-use Rattle.ob_decls.specs.declared.rows.Declared.{Declared}
+use Rattle.ob_rows.specs.declared.rows.Declared.{Declared}
 use Rattle.ob_interface.specs.Interfaces.{Declaration, ModuleInterface}
 use Rattle.type_search.specs.declared.told.OwnField.{OwnField}
 use Rattle.type_search.specs.ToldFields.{IsToldField}

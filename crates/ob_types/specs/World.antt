@@ -5,13 +5,13 @@ use Rattle.std.specs.Option.{option_eq, option_map, option_and_then}
 use Rattle.std.specs.Str.{bytes_eq}
 use Rattle.ob_scan.specs.declared.token.Token.{Token}
 use Rattle.ob_scan.specs.Texts.{text_at}
-use Rattle.ob_decls.specs.declared.rows.Declared.{Declared}
-use Rattle.ob_decls.specs.declared.rows.Declarer.{Declarer}
-use Rattle.ob_decls.specs.declared.rows.FormPart.{FormPart}
-use Rattle.ob_decls.specs.declared.rows.Import.{Import}
-use Rattle.ob_decls.specs.declared.rows.Record.{Record as RecordRow}
-use Rattle.ob_decls.specs.declared.rows.Sort.{Sort}
-use Rattle.ob_decls.specs.Parts.{Rows}
+use Rattle.ob_rows.specs.declared.rows.Declared.{Declared}
+use Rattle.ob_rows.specs.declared.rows.Declarer.{Declarer}
+use Rattle.ob_rows.specs.declared.rows.FormPart.{FormPart}
+use Rattle.ob_rows.specs.declared.rows.Import.{Import}
+use Rattle.ob_rows.specs.declared.rows.Record.{Record as RecordRow}
+use Rattle.ob_rows.specs.declared.rows.Sort.{Sort}
+use Rattle.ob_rows.specs.Parts.{Rows}
 use Rattle.ob_interface.specs.Interfaces.{Base, Declaration, ModuleInterface, Part}
 use Rattle.ob_interface.specs.Placed.{place_of, declaration_at, form_part, module_named, base_named, owner_place}
 use Rattle.ob_scope.specs.Scoped.{Meaning, ModuleScopes}

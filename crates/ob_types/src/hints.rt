@@ -1,6 +1,6 @@
 //! Where rows are likely to stand. No answer depends on these places: a row is taken there only if it is the one that is asked for.
 
-use ob_decls::{Declared, Declarer, FormPart, Table};
+use ob_rows::{Declared, Declarer, FormPart, Table};
 use std::alloc::{AllocError, Global};
 
 /// At most so many tokens, and parts of forms, stand for each declared identifier in a table whose places are kept. So what is made of a

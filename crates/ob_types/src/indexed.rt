@@ -21,7 +21,7 @@ use crate::nodes::{Named, Node, Record};
 use crate::parts::Parts;
 use crate::told::fields_told;
 use indexmap::IndexMap;
-use ob_decls::Sort;
+use ob_rows::Sort;
 use std::alloc::{AllocError, Global};
 use text_hash::{Name, Seed};
 use type_search::{OwnField, Shape};

@@ -1,5 +1,5 @@
 //! The types of a module and of those that it reaches, as one graph.
-//! Stands on `ob_scope` for what names mean, on `ob_decls` and `ob_interface` for what this module and others declare, on `type_search` and `text_hash`.
+//! Stands on `ob_scope` for what names mean, on `ob_rows` and `ob_interface` for what this module and others declare, on `type_search` and `text_hash`.
 //! Its contract: what a name, a place in a form, a record and a field stand for is exactly what the rows and the interfaces say.
 #![tactic(auto)]
 

@@ -3,7 +3,7 @@ ghost use Rattle.std.specs.Prelude.{◌≡◌, ◌&&◌, Some, IfOk, OnOk, if◌
 ghost use Rattle.std.specs.Option.{option_and_then};
 ghost use Rattle.std.specs.Str.{bytes_eq};
 ghost use Rattle.indexmap.specs.IndexMap.{get};
-ghost use Rattle.ob_decls.specs.declared.rows.Declarer.{Declarer as Construct};
+ghost use Rattle.ob_rows.specs.declared.rows.Declarer.{Declarer as Construct};
 ghost use Rattle.ob_scan.specs.Spelling.{AreInText};
 ghost use Rattle.ob_types.specs.Parted.{home_by, same_field, world_of, AreFields, FieldKey};
 ghost use Rattle.ob_types.specs.World.{declarer_from, is_of_record, text};
@@ -11,7 +11,7 @@ ghost use Rattle.ob_types.specs.World.{declarer_from, is_of_record, text};
 use crate::homes::Homes;
 use crate::parts::Parts;
 use indexmap::IndexMap;
-use ob_decls::Declared;
+use ob_rows::Declared;
 use std::alloc::{AllocError, Global};
 use text_hash::{Name, Seed};
 

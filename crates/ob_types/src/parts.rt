@@ -8,8 +8,8 @@ ghost use Rattle.ob_types.specs.World.{declared_at, declarer_from, declarer_of, 
 
 use crate::hints::Hints;
 use crate::places::{declared_here, declarer_here, form_here, place_of_alias, place_of_form};
-use ob_decls::{Declared, Declarer, FormPart, Record, Sort, Table};
 use ob_interface::Interface;
+use ob_rows::{Declared, Declarer, FormPart, Record, Sort, Table};
 use ob_scan::{Token, TokenTexts};
 use ob_scope::Scopes;
 use std::sync::Arc;

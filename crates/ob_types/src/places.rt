@@ -1,12 +1,12 @@
 //! Rows of a number, where they are likely to stand, and the first of them among rows whose numbers don't fall.
 ghost use Rattle.std.specs.Prelude.{◌≡◌, ◌<◌, ◌^◌, ◌==◌, ℕ, IfSome, None, Some, find, true, length, position, slice_get};
-ghost use Rattle.ob_decls.specs.Order.{AscendBy, RiseBy};
-ghost use Rattle.ob_decls.specs.declared.rows.Declared.{Declared as DeclaredRow};
-ghost use Rattle.ob_decls.specs.declared.rows.Declarer.{Declarer as DeclarerRow};
-ghost use Rattle.ob_decls.specs.declared.rows.FormPart.{FormPart as PartRow};
-ghost use Rattle.ob_decls.specs.declared.rows.Import.{Import as ImportItem};
+ghost use Rattle.ob_rows.specs.Order.{AscendBy, RiseBy};
+ghost use Rattle.ob_rows.specs.declared.rows.Declared.{Declared as DeclaredRow};
+ghost use Rattle.ob_rows.specs.declared.rows.Declarer.{Declarer as DeclarerRow};
+ghost use Rattle.ob_rows.specs.declared.rows.FormPart.{FormPart as PartRow};
+ghost use Rattle.ob_rows.specs.declared.rows.Import.{Import as ImportItem};
 
-use ob_decls::{Declared, Declarer, FormPart, Import};
+use ob_rows::{Declared, Declarer, FormPart, Import};
 
 /// The row at a place, if it is of this identifier.
 pub(crate) fn declared_here(rows: &[Declared], at: usize, number: u32) -> Option<Declared>

@@ -11,8 +11,8 @@ ghost use Rattle.ob_types.specs.declared.nodes.Node.TheVariants as nodes;
 
 use crate::indexed::{Indexed, is_type, known, type_by};
 use crate::nodes::{Field, Named, Node, Record};
-use ob_decls::{FormPart, Part as PartRow};
 use ob_interface::{Part, TypeName};
+use ob_rows::{FormPart, Part as PartRow};
 use type_search::Shape;
 
 /// Whether a part is a pointer.

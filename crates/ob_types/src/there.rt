@@ -9,8 +9,8 @@ ghost use Rattle.ob_types.specs.Parted.{world_of};
 ghost use Rattle.ob_types.specs.World.{base_there, declaration_there, declared_there, exported, exported_at, named_by_alias, owner_there, part_there, sort_there};
 
 use crate::parts::Parts;
-use ob_decls::Sort;
 use ob_interface::{Base, Declaration, Interface, Part};
+use ob_rows::Sort;
 
 /// The place of the declaration of a name in a record, or in the block, if other modules may name it.
 fn exported_at(interface: &Interface, record: Option<u32>, name: &[u8]) -> Option<u32>

@@ -12,8 +12,8 @@ use crate::homes::module_place;
 use crate::names::record_of;
 use crate::nodes::Record;
 use crate::parts::Parts;
-use ob_decls::Declared;
 use ob_interface::{Declaration, Interface, Part};
+use ob_rows::Declared;
 use std::alloc::{AllocError, Global};
 use type_search::OwnField;
 

@@ -12,7 +12,7 @@ use Rattle.cut_net.specs.declared.priced.Priced.{Priced}
 use Rattle.cut_net.specs.Network.{Network, name_of}
 use Rattle.digraph.proofs.Members.{from_map, in_map}
 use Rattle.ob_decls.specs.Declaring.{rows_of}
-use Rattle.ob_decls.specs.Parts.{Rows}
+use Rattle.ob_rows.specs.Parts.{Rows}
 use Rattle.ob_imports.specs.Files.{DifferInName, File, IsNode, names_of}
 use Rattle.ob_imports.specs.Graphs.{ImportGraph}
 use Rattle.ob_imports.specs.Names.{place_in}

@@ -19,7 +19,7 @@ use Rattle.ob_parse.specs.declared.fault.ParseFault.TheVariants as parses
 use Rattle.ob_parse.specs.Parsed.{IsFaultOf, IsTheTree}
 use Rattle.ob_parse.proofs.OneTree.{no_fault}
 use Rattle.ob_decls.specs.Declaring.{rows_of}
-use Rattle.ob_decls.specs.Parts.{Rows}
+use Rattle.ob_rows.specs.Parts.{Rows}
 use Rattle.ob_scope.specs.declared.fault.ScopeFault.{ScopeFault}
 use Rattle.ob_scope.specs.declared.fault.ScopeFault.TheVariants as scopes
 use Rattle.ob_scope.specs.Members.{members_of}

@@ -27,7 +27,7 @@ use Rattle.ob_parse.proofs.OneFault.{one_fault}
 use Rattle.ob_scope.specs.declared.fault.ScopeFault.{ScopeFault}
 use Rattle.ob_scope.specs.declared.fault.ScopeFault.TheVariants as scopes
 use Rattle.ob_decls.specs.Declaring.{rows_of}
-use Rattle.ob_decls.specs.Parts.{Rows}
+use Rattle.ob_rows.specs.Parts.{Rows}
 use Rattle.ob_scope.specs.declared.members.Member.{Member}
 use Rattle.ob_scope.specs.declared.members.Scope.{Scope}
 use Rattle.ob_scope.specs.declared.members.Scope.TheVariants.{Block, Record}

@@ -15,8 +15,8 @@ use Rattle.ob_parse.proofs.OneTree.{trees_same}
 use Rattle.ob_scope.specs.Counted.{HasWeight}
 use Rattle.ob_decls.proofs.ReadingModules.{tables_same}
 use Rattle.ob_decls.specs.Declaring.{rows_of}
-use Rattle.ob_decls.specs.Parts.{Rows}
-use Rattle.ob_decls.specs.declared.rows.Import.{Import}
+use Rattle.ob_rows.specs.Parts.{Rows}
+use Rattle.ob_rows.specs.declared.rows.Import.{Import}
 use Rattle.oscip_tree.specs.Trees.{file_of, files_of, rows, names, AreAccepted, HasImport, IsAccepted, ModuleFile}
 use Rattle.oscip_tree.specs.declared.source.Source.{Source}
 use Rattle.oscip_tree.proofs.TreeFiles.{same_maps, there}

@@ -10,7 +10,7 @@ use Rattle.ob_imports.specs.Files.{File, file_of as parsed_file, files_of as par
 use Rattle.ob_imports.specs.Names.{texts}
 use Rattle.ob_scope.specs.declared.module_scopes.Alias.{Alias}
 use Rattle.ob_scope.specs.Kept.{alias_of}
-use Rattle.ob_decls.specs.declared.rows.Import.{Import}
+use Rattle.ob_rows.specs.declared.rows.Import.{Import}
 use Rattle.ob_scope.specs.Scoped.{AliasUses, ModuleScopes}
 use Rattle.oscip_tree.specs.Trees.{file_of, files_of, rows, names, IsAccepted, ModuleFile}
 use Rattle.oscip_tree.specs.TreeReading.{AreFilesRead, AreScopesOf}

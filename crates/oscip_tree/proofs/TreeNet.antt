@@ -25,8 +25,8 @@ use Rattle.ob_imports.proofs.Nodes.{nodes_known}
 use Rattle.ob_scan.specs.declared.token.Token.{Token}
 use Rattle.ob_scan.specs.Texts.{text_at}
 use Rattle.ob_scope.specs.Counted.{HasWeight}
-use Rattle.ob_decls.specs.Parts.{Rows}
-use Rattle.ob_decls.specs.declared.rows.Import.{Import as Item}
+use Rattle.ob_rows.specs.Parts.{Rows}
+use Rattle.ob_rows.specs.declared.rows.Import.{Import as Item}
 use Rattle.ob_scope.specs.Scoped.{AreScopes, ModuleScopes}
 use Rattle.ob_scope.specs.Weights.{uses_across}
 use Rattle.ob_scope.proofs.Names.{same_test}

@@ -3,7 +3,7 @@ use Rattle.std.specs.Prelude.{◌≡◌, List, Box}
 use Rattle.std.specs.declared.alloc.Global.{Global}
 use Rattle.std.specs.Arc.{arc_value}
 use Rattle.digraph.specs.Chains.{IsAcyclic}
-use Rattle.ob_decls.specs.Declaring.{rows_in}
+use Rattle.ob_rows.specs.Tables.{rows_in}
 use Rattle.ob_imports.specs.Files.{Imports}
 use Rattle.ob_imports.specs.Outcomes.{AreFilesOfGraph}
 use Rattle.ob_interface.specs.Interfaces.{interface_of}

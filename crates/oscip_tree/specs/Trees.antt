@@ -14,7 +14,7 @@ use Rattle.ob_parse.specs.declared.fault.ParseFault.{ParseFault}
 use Rattle.ob_parse.specs.declared.fault.ParseFault.TheVariants as parses
 use Rattle.ob_parse.specs.Parsed.{IsTheTree, IsFaultOf}
 use Rattle.ob_decls.specs.Declaring.{rows_of}
-use Rattle.ob_decls.specs.Parts.{Rows}
+use Rattle.ob_rows.specs.Parts.{Rows}
 use Rattle.ob_scope.specs.declared.fault.ScopeFault.{ScopeFault}
 use Rattle.ob_scope.specs.declared.fault.ScopeFault.TheVariants as scopes
 use Rattle.ob_scope.specs.Counted.{HasWeight}

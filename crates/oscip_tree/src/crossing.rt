@@ -1,6 +1,6 @@
 //! Where a module of a tree uses another.
 ghost use Rattle.std.specs.Prelude.{◌≡◌, ℕ, List, Some, Contains, IfErr, IfNone, IfOk, IfSome, slice_get, Ok};
-ghost use Rattle.ob_decls.specs.Declaring.{rows_in};
+ghost use Rattle.ob_rows.specs.Tables.{rows_in};
 ghost use Rattle.ob_imports.specs.Files.{names_of};
 ghost use Rattle.ob_imports.specs.Outcomes.{AreFilesOfGraph};
 ghost use Rattle.ob_scan.specs.Position.{line_starts};
@@ -17,8 +17,8 @@ ghost use Rattle.oscip_tree.specs.Trees.{files_of, names, IsAccepted, IsFileFaul
 use crate::front_end::{scan_fault, table_after};
 use crate::tree_reading::{Tree, read_tree};
 use crate::{Source, TreeFault};
-use ob_decls::Table;
 use ob_imports::Graph;
+use ob_rows::Table;
 use ob_scan::laws::tokens_in_text;
 use ob_scan::{Lines, Position, Token, TokenTexts, Tokens, lines, scan};
 use ob_scope::{Crossing, Scopes, crossings};

@@ -1,6 +1,7 @@
 //! The scopes of one file of a tree, or its fault.
 ghost use Rattle.std.specs.Prelude.{◌≡◌, IfErr, IfOk, Ok};
-ghost use Rattle.ob_decls.specs.Declaring.{rows_in, rows_of};
+ghost use Rattle.ob_rows.specs.Tables.{rows_in};
+ghost use Rattle.ob_decls.specs.Declaring.{rows_of};
 ghost use Rattle.ob_parse.specs.Parsed.{IsTheTree};
 ghost use Rattle.ob_scan.specs.Spelling.{IsOutcome};
 ghost use Rattle.ob_tree.specs.declared.declaration.Module.{Module};
@@ -9,8 +10,8 @@ ghost use Rattle.oscip_tree.specs.TreeReading.{HasScopes};
 
 use crate::files::OfFile;
 use crate::{Source, TreeFault};
-use ob_decls::Table;
 use ob_parse::ParseFault;
+use ob_rows::Table;
 use ob_scan::laws::tokens_in_text;
 use ob_scan::{ScanFault, Tokens, position, scan};
 use ob_scope::{ScopeFault, Scopes, scopes_from};

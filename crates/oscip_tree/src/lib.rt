@@ -1,6 +1,6 @@
 //! A tree of Oberon-07 modules: from the bytes of its files to the network of its imports, or to the tree's fault.
 //! Stands on `ob_scan` to `ob_imports`, on `ob_interface` and `cut_net`, with `indexmap` for sums and `thiserror` for its faults.
-//! Its contract: the network is the tree's, an import costs the qualified uses that cross it, or the fault is that of the first file that has one, or else of the imports.
+//! Its contract: the network is the tree's, an import costs the qualified uses that cross it, or the fault is that of the first file that has one, or else of the imports; and the scopes of one module by its syntax tree.
 #![tactic(auto)]
 
 mod crossing;
@@ -10,6 +10,7 @@ mod from_graph;
 mod front_end;
 mod graph_net;
 pub mod laws;
+mod module_scopes;
 mod parts;
 mod source;
 mod tree_fault;
@@ -19,6 +20,7 @@ pub use crossing::{Crossed, Span, uses_across};
 pub use fault_text::{after_spaces, tree_fault_text, wants_memory};
 pub use from_graph::net_of_graph;
 pub use graph_net::FromGraph;
+pub use module_scopes::scopes;
 pub use parts::{ModuleParts, TreeParts, tree_parts};
 pub use source::{Source, in_order};
 pub use tree_fault::TreeFault;

@@ -1,7 +1,8 @@
 //! What an index needs of each file of a tree: tokens, table, scopes and interface of its module.
 ghost use Rattle.std.specs.Prelude.{◌≡◌, IfErr, IfOk, List, length, Ok};
 ghost use Rattle.std.specs.Arc.{arc_value};
-ghost use Rattle.ob_decls.specs.Declaring.{rows_in, rows_of};
+ghost use Rattle.ob_rows.specs.Tables.{rows_in};
+ghost use Rattle.ob_decls.specs.Declaring.{rows_of};
 ghost use Rattle.ob_imports.specs.Files.{files_of as parsed_files};
 ghost use Rattle.ob_interface.specs.Interfaces.{interface_of};
 ghost use Rattle.ob_parse.specs.Parsed.{IsTheTree};
@@ -15,9 +16,9 @@ use crate::files::{OfFile, read_files};
 use crate::front_end::{scan_fault, scope_fault, table_after};
 use crate::tree_reading::parsed_of;
 use crate::{Source, TreeFault};
-use ob_decls::Table;
 use ob_imports::{Graph, Parsed, graph};
 use ob_interface::{Interface, seen_of};
+use ob_rows::Table;
 use ob_scan::laws::tokens_in_text;
 use ob_scan::{Token, Tokens, scan};
 use ob_scope::{Scopes, scopes_from};

@@ -2,17 +2,17 @@
 
 ghost use Rattle.std.specs.Prelude.{◌≡◌, false};
 ghost use Rattle.ob_decls.specs.Declaring.{const_piece, declarations_piece, import_inner, import_piece, imports_piece, module_end, module_piece, named_by, part, procedure_end, procedure_inner, procedure_piece, type_decl_piece, variable_piece};
-ghost use Rattle.ob_decls.specs.Drafts.{after, ComesTo};
+ghost use Rattle.ob_rows.specs.Drafts.{after, ComesTo};
 ghost use Rattle.ob_decls.specs.Expressions.{expr_piece};
-ghost use Rattle.ob_decls.specs.Parts.{both, if_there, tells, token};
+ghost use Rattle.ob_rows.specs.Parts.{both, if_there, tells, token};
 ghost use Rattle.ob_decls.specs.Statements.{block_piece};
 ghost use Rattle.ob_decls.specs.Types.{parameters_piece};
 
-use crate::draft::{Context, Draft, block_from, declarer_at, declaring_from};
-use crate::rows::{Block, Declared, End, Import, Sort};
 use crate::walk::expressions::walk_expr;
 use crate::walk::statements::walk_block;
 use crate::walk::types::{walk_identdef, walk_parameters, walk_type, walk_var};
+use ob_rows::draft::{Context, Draft, block_from, declarer_at, declaring_from};
+use ob_rows::{Block, Declared, End, Import, Sort};
 use ob_tree::declaration::{
     ConstDecl, Declarations, ImportItem, Module, Parameters, ProcDecl, TypeDecl, VarDecl,
 };

@@ -1,13 +1,13 @@
 //! The rows of expressions and designators.
 
 ghost use Rattle.std.specs.Prelude.{◌≡◌, ◌+◌, IfOk, false, length, map};
-ghost use Rattle.ob_decls.specs.Drafts.{added, after, settled, ComesTo};
+ghost use Rattle.ob_rows.specs.Drafts.{added, after, settled, ComesTo};
 ghost use Rattle.ob_decls.specs.Expressions.{behind_dot, between, denoted, designator_piece, dotted, element_list_piece, element_piece, expr_list_piece, expr_phrase, expr_piece, factor_phrase, factor_piece, first_name, listed, selected, sum_phrase, sum_piece, term_phrase, term_piece, used};
-ghost use Rattle.ob_decls.specs.Parts.{these_selectors};
+ghost use Rattle.ob_rows.specs.Parts.{these_selectors};
 ghost use Rattle.ob_decls.specs.Settling.{blanks, row_at, settling};
 
-use crate::draft::{Context, Draft, behind};
-use crate::rows::{Designator as DesignatorRow, Selector as SelectorRow, Step, TypeName, Used};
+use ob_rows::draft::{Context, Draft, behind};
+use ob_rows::{Designator as DesignatorRow, Selector as SelectorRow, Step, TypeName, Used};
 use ob_tree::expression::{
     Designator, Element, ElementList, Expr, ExprList, Factor, Selector, SimpleExpression, Term,
 };
@@ -25,7 +25,7 @@ pub fn member_at(draft: &mut Draft, member: Option<u32>, head: u32) -> Option<u3
 }
 
 /// An identifier that is looked up and is no pointer's target.
-#[tactic(auto, using(crate::proofs::Steps::steps))]
+#[tactic(auto, using(ob_rows::proofs::Steps::steps))]
 pub fn walk_used(draft: &mut Draft, inside: Context, member: Option<u32>)
     ensures { ComesTo (after (used member) inside) draft.old draft.new }
 {
@@ -323,7 +323,7 @@ pub(crate) fn walk_designator(
 }
 
 /// Gives a selector's row in this place, and answers the place behind it.
-#[tactic(auto, using(crate::proofs::Steps::steps))]
+#[tactic(auto, using(ob_rows::proofs::Steps::steps))]
 fn settle_selector(draft: &mut Draft, head: u32, at: usize, selector: &Selector) -> usize
     ensures row { ComesTo (λ s. settled at (row_at head (selected selector.now) s) s) draft.old draft.new }
     ensures place { draft.new.refused ≡ false → result ≡ at + 1 }

@@ -1,13 +1,13 @@
 //! The rows of names and statements.
 
-ghost use Rattle.ob_decls.specs.Drafts.{after, ComesTo};
+ghost use Rattle.ob_rows.specs.Drafts.{after, ComesTo};
 ghost use Rattle.ob_decls.specs.Expressions.{each_after, expr_piece};
-ghost use Rattle.ob_decls.specs.Parts.{both, if_there, token};
+ghost use Rattle.ob_rows.specs.Parts.{both, if_there, token};
 ghost use Rattle.ob_decls.specs.Statements.{block_piece, branch_piece, case_piece, for_piece, label_piece, label_range_piece, qualident_piece, stmt_piece, variable_piece};
 
-use crate::draft::{Context, Draft};
-use crate::rows::Designator;
 use crate::walk::expressions::{walk_designator, walk_expr, walk_used};
+use ob_rows::Designator;
+use ob_rows::draft::{Context, Draft};
 use ob_tree::expression::Expr;
 use ob_tree::name::Qualident;
 use ob_tree::statement::{Branch, Case, For, Label, LabelRange, StatementSequence, Stmt};

@@ -1,16 +1,16 @@
 //! The rows of types and of formal parameters.
 
 ghost use Rattle.std.specs.Prelude.{◌≡◌, false};
-ghost use Rattle.ob_decls.specs.Drafts.{added, after, ComesTo};
+ghost use Rattle.ob_rows.specs.Drafts.{added, after, ComesTo};
 ghost use Rattle.ob_decls.specs.Statements.{qualident_piece};
 ghost use Rattle.ob_decls.specs.Types.{base_of, fields_piece, identdef_piece, lengths_piece, open_arrays, parameter_piece, parameters_piece, record_piece, in_record, name_part, part_here, record_row, section_inner, section_piece, type_name_piece, type_piece, var_piece};
-ghost use Rattle.ob_decls.specs.Parts.{declaring, opens_block, both, if_there, token};
-ghost use Rattle.ob_decls.specs.declared.rows.Sort.TheVariants as sorts;
+ghost use Rattle.ob_rows.specs.Parts.{declaring, opens_block, both, if_there, token};
+ghost use Rattle.ob_rows.specs.declared.rows.Sort.TheVariants as sorts;
 
-use crate::draft::{Context, Draft, block_from, declarer_at, declaring_from};
-use crate::rows::{Block, Declared, FormPart, Part, Record as RecordRow, Sort, TypeName, Used};
 use crate::walk::expressions::{member_at, walk_expr};
 use crate::walk::statements::walk_qualident;
+use ob_rows::draft::{Context, Draft, block_from, declarer_at, declaring_from};
+use ob_rows::{Block, Declared, FormPart, Part, Record as RecordRow, Sort, TypeName, Used};
 use ob_tree::declaration::{Fields, ParameterSection, Parameters, Record, TypeForm, VarDecl};
 use ob_tree::expression::ExprList;
 use ob_tree::name::{Identdef, Qualident};
@@ -243,7 +243,7 @@ pub(crate) fn walk_type(draft: &mut Draft, inside: Context, form: &TypeForm)
 
 /// The base that a record names, whose RECORD has this number.
 #[inline(always)]
-#[tactic(auto, using(crate::proofs::Steps::steps))]
+#[tactic(auto, using(ob_rows::proofs::Steps::steps))]
 fn base_from(draft: &mut Draft, base: Option<Qualident>, number: u32) -> Option<TypeName>
     ensures stage { ComesTo (λ s. s) draft.old draft.new }
     ensures base { draft.new.refused ≡ false → result ≡ base_of base number }

@@ -1,6 +1,6 @@
 use Rattle.std.proofs.Common.{map, sym, subst}
 use Rattle.std.specs.Arc.{arc_value}
-use Rattle.ob_decls.specs.Declaring.{rows_in}
+use Rattle.ob_rows.specs.Tables.{rows_in}
 use Rattle.ob_emit.specs.Named.{HaveNames}
 use Rattle.ob_types.specs.World.{world}
 use Rattle.ob_board.proofs.written.write_module.Goals as goal

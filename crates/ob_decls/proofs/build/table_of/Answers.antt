@@ -1,7 +1,7 @@
 use Rattle.std.proofs.Common.{◌≡◌, IfOk, subst}
-use Rattle.ob_decls.specs.Declaring.{rows_in}
-use Rattle.ob_decls.specs.Parts.{Rows}
-use Rattle.ob_decls.proofs.TableRows.{rows_after}
+use Rattle.ob_rows.specs.Tables.{rows_in}
+use Rattle.ob_rows.specs.Parts.{Rows}
+use Rattle.ob_rows.proofs.TableRows.{rows_after}
 use Rattle.ob_decls.proofs.build.table_of.Goals as goal
 
 pub table_from-requires : goal.table_from-requires

@@ -4,7 +4,7 @@ use Rattle.std.specs.Borrow.{Bor}
 use Rattle.std.specs.Prelude.{slice_get}
 use Rattle.std.specs.Option.{option_map}
 use Rattle.std.specs.String.{string_bytes}
-use Rattle.ob_decls.specs.declared.rows.Import.{Import}
+use Rattle.ob_rows.specs.declared.rows.Import.{Import}
 use Rattle.ob_emit.specs.Named.{IsName}
 use Rattle.ob_emit.proofs.Naming.{import_named}
 use Rattle.ob_emit.specs.Symbols.{descriptor, module_path}

@@ -1,8 +1,8 @@
 -- What is found near is what is found among all.
 use Rattle.std.proofs.Common.{List, sym, ap, subst, ◌∙◌}
 use Rattle.std.specs.Prelude.{◌==◌, find}
-use Rattle.ob_decls.specs.declared.rows.Declared.{Declared}
-use Rattle.ob_decls.specs.Order.{AscendBy}
+use Rattle.ob_rows.specs.declared.rows.Declared.{Declared}
+use Rattle.ob_rows.specs.Order.{AscendBy}
 use Rattle.ob_emit.proofs.Numbered.{find_answer}
 use Rattle.ob_emit.proofs.near_rows.declared_near.Goals as goal
 

@@ -1,5 +1,5 @@
 -- The row at the place that is found.
-use Rattle.ob_decls.proofs.Searched.{none_among, placed_is, placed_within}
+use Rattle.ob_rows.proofs.Searched.{none_among, placed_is, placed_within}
 use Rattle.ob_emit.proofs.near_rows.row_near.Goals as goal
 
 pub bounds-rows-at : goal.bounds-rows-at

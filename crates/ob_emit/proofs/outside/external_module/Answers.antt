@@ -3,7 +3,7 @@ use Rattle.std.proofs.Common.{◌≡◌, Some, sym, ap, ◌∙◌, subst}
 use Rattle.std.specs.Borrow.{Bor}
 use Rattle.std.specs.Prelude.{slice_get}
 use Rattle.std.specs.Option.{option_map}
-use Rattle.ob_decls.specs.declared.rows.Import.{Import}
+use Rattle.ob_rows.specs.declared.rows.Import.{Import}
 use Rattle.ob_emit.specs.Named.{IsName}
 use Rattle.ob_emit.proofs.Naming.{import_named}
 use Rattle.ob_emit.proofs.outside.external_module.Goals as goal

@@ -1,6 +1,6 @@
 -- What the table's look-up finds.
 use Rattle.std.proofs.Common.{◌∙◌}
-use Rattle.ob_decls.specs.declared.rows.Declarer.{Declarer}
+use Rattle.ob_rows.specs.declared.rows.Declarer.{Declarer}
 use Rattle.ob_emit.proofs.Numbered.{find_answer}
 use Rattle.ob_emit.proofs.own.declarer_from.Goals as goal
 

@@ -1,6 +1,6 @@
 -- The construct of the identifier that was found.
 use Rattle.std.proofs.Common.{◌∙◌}
-use Rattle.ob_decls.specs.Declaring.{rows_in}
+use Rattle.ob_rows.specs.Tables.{rows_in}
 use Rattle.ob_emit.proofs.Declarers.{declarer_none, declarer_some}
 use Rattle.ob_emit.proofs.own.declarer_of.Goals as goal
 

@@ -1,5 +1,5 @@
 -- The construct that was found.
-use Rattle.ob_decls.specs.Declaring.{rows_in}
+use Rattle.ob_rows.specs.Tables.{rows_in}
 use Rattle.ob_emit.proofs.Declarers.{local_none, local_some}
 use Rattle.ob_emit.proofs.own.is_local.Goals as goal
 

@@ -5,8 +5,8 @@ use Rattle.std.specs.Option.{option_map}
 use Rattle.std.specs.String.{string_bytes}
 use Rattle.std.proofs.lemmas.List.{map_push}
 use Rattle.std.proofs.lemmas.Option.{slice_get-get_or}
-use Rattle.ob_decls.specs.declared.rows.Declared.{Declared}
-use Rattle.ob_decls.specs.Parts.{Rows}
+use Rattle.ob_rows.specs.declared.rows.Declared.{Declared}
+use Rattle.ob_rows.specs.Parts.{Rows}
 use Rattle.ob_emit.specs.Made.{AreMade}
 use Rattle.ob_emit.proofs.Texting.{before_local, before_none, before_other}
 use Rattle.ob_emit.proofs.own_texts.declared_texts.Goals as goal

@@ -1,7 +1,7 @@
 use Rattle.std.proofs.Common.{rules, ◌∙◌}
 use Rattle.std.proofs.lemmas.Fn.{always_returns_same}
 use Rattle.std.proofs.lemmas.List.Sorted.{IsNonDecreasingBy-from_sort_by_key}
-use Rattle.ob_decls.specs.declared.rows.FormPart.{FormPart}
+use Rattle.ob_rows.specs.declared.rows.FormPart.{FormPart}
 use Rattle.ob_interface.proofs.Ranges.{filter_stable}
 use Rattle.ob_interface.proofs.forms.parts_of.Goals as goal
 

@@ -1,6 +1,6 @@
 use Rattle.std.proofs.Common.{ℕ, rules, ltb, leb}
 use Rattle.std.proofs.lemmas.List.Sorted.{IsPartitionPoint-from_clause, IsPartitionedBy-leb, IsPartitionedBy-ltb}
-use Rattle.ob_decls.specs.declared.rows.FormPart.{FormPart}
+use Rattle.ob_rows.specs.declared.rows.FormPart.{FormPart}
 use Rattle.ob_interface.proofs.Ranges.{filter_between}
 use Rattle.ob_interface.proofs.forms.places_of.Goals as goal
 

@@ -2,7 +2,7 @@ use Rattle.std.proofs.Common.{sym, ◌∙◌, ap, nat_eq, refl}
 use Rattle.std.specs.List.{filter_map}
 use Rattle.std.specs.Option.{option_map}
 use Rattle.indexmap.specs.IndexMap.{get}
-use Rattle.ob_decls.specs.declared.rows.Record.{Record}
+use Rattle.ob_rows.specs.declared.rows.Record.{Record}
 use Rattle.ob_interface.specs.Interfaces.{base, base_by}
 use Rattle.ob_interface.specs.Texts.{base_in}
 use Rattle.ob_interface.proofs.Growing.{all_told, grown_none, grown_twice, more_told, none_told}

@@ -1,7 +1,7 @@
 use Rattle.std.proofs.Common.{List, ap, ◌∙◌, arith, take_all}
 use Rattle.std.proofs.lemmas.Grind.{common_steps}
 use Rattle.std.proofs.lemmas.List.Folds.{find-append}
-use Rattle.ob_decls.specs.declared.rows.Declarer.{Declarer}
+use Rattle.ob_rows.specs.declared.rows.Declarer.{Declarer}
 use Rattle.ob_interface.specs.Interfaces.{outer_by}
 use Rattle.ob_interface.proofs.outers.outers_of.Goals as goal
 

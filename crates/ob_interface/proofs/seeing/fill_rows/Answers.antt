@@ -3,11 +3,11 @@ use Rattle.std.proofs.Common.{ℕ, List, Option, nat_eq, ap, ◌∙◌}
 use Rattle.std.specs.List.{filter_map}
 use Rattle.std.specs.Prelude.{map}
 use Rattle.indexmap.specs.IndexMap.{get}
-use Rattle.ob_decls.specs.Declaring.{rows_in}
-use Rattle.ob_decls.specs.declared.rows.Declarer.{Declarer}
-use Rattle.ob_decls.specs.declared.rows.Declared.{Declared}
-use Rattle.ob_decls.specs.declared.rows.Record.{Record}
-use Rattle.ob_decls.specs.declared.rows.Import.{Import}
+use Rattle.ob_rows.specs.Tables.{rows_in}
+use Rattle.ob_rows.specs.declared.rows.Declarer.{Declarer}
+use Rattle.ob_rows.specs.declared.rows.Declared.{Declared}
+use Rattle.ob_rows.specs.declared.rows.Record.{Record}
+use Rattle.ob_rows.specs.declared.rows.Import.{Import}
 use Rattle.ob_interface.specs.declared.rows.Rows.{Rows}
 use Rattle.ob_interface.specs.Interfaces.{declaration_by, base_by, imported_of}
 use Rattle.ob_interface.proofs.Assembled.{assembled}

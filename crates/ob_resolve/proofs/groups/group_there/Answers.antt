@@ -5,8 +5,8 @@ use Rattle.std.specs.List.{filter}
 use Rattle.std.proofs.lemmas.Bool.Decides.{nat_tests}
 use Rattle.std.proofs.lemmas.List.{get_or-drop}
 use Rattle.std.proofs.lemmas.Option.{slice_get-get_or}
-use Rattle.ob_decls.specs.declared.rows.Selector.{Selector}
-use Rattle.ob_decls.proofs.Groups.{grouped}
+use Rattle.ob_rows.specs.declared.rows.Selector.{Selector}
+use Rattle.ob_rows.proofs.Groups.{grouped}
 use Rattle.ob_resolve.proofs.groups.group_there.Goals as goal
 
 less_true : (a g : ℕ) → a < g → nat_lt a g ≡ true

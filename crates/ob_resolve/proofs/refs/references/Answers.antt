@@ -1,5 +1,5 @@
 use Rattle.std.proofs.Common.{sym, ap, ◌∙◌, ◌≤◌, subst, List, Vec, Global, length}
-use Rattle.ob_decls.specs.Order.{AscendBy}
+use Rattle.ob_rows.specs.Order.{AscendBy}
 use Rattle.ob_scan.specs.declared.token.Token.{Token}
 use Rattle.ob_targets.specs.declared.target.Reference.{Reference}
 use Rattle.ob_resolve.proofs.Referring.{all_gone, identifier_step, none_gone, other_step}

@@ -2,7 +2,7 @@
 use Rattle.std.proofs.Common.{◌≡◌, ℕ, zero, suc, ◌-◌, ◌≤◌, List, Option, Some, None, true, not, refl, sym, ap, ◌∙◌, arith}
 use Rattle.std.specs.Prelude.{◌==◌, slice_get}
 use Rattle.std.proofs.lemmas.Option.{slice_get_past, slice_get_read}
-use Rattle.ob_decls.specs.declared.rows.Selector.{Selector}
+use Rattle.ob_rows.specs.declared.rows.Selector.{Selector}
 use Rattle.ob_targets.specs.Steps.{begins_designator}
 use Rattle.ob_resolve.proofs.selectors.begins_designator.Goals as goal
 

@@ -1,6 +1,6 @@
 use Rattle.std.proofs.Common.{◌≡◌, ℕ, ◌∙◌, ap, length, subst, arith}
 use Rattle.std.proofs.lemmas.Option.{slice_get-get_or}
-use Rattle.ob_decls.specs.Parts.{Rows}
+use Rattle.ob_rows.specs.Parts.{Rows}
 use Rattle.ob_resolve.specs.Selected.{AreNamed}
 use Rattle.ob_resolve.proofs.Selecting.{nothing_passed, one_passed}
 use Rattle.ob_resolve.proofs.selectors.selected_targets.Goals as goal

@@ -1,5 +1,5 @@
 use Rattle.std.proofs.Common.{◌∙◌, ap, get_or}
-use Rattle.ob_decls.specs.Parts.{Rows}
+use Rattle.ob_rows.specs.Parts.{Rows}
 use Rattle.ob_targets.specs.declared.standing.Standing.TheVariants as standings
 use Rattle.ob_resolve.proofs.Referring.{end_refers, read_row, stands_placed}
 use Rattle.ob_resolve.proofs.standing_for.ending.Goals as goal

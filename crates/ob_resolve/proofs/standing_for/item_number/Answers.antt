@@ -1,5 +1,5 @@
 use Rattle.std.proofs.Common.{arith}
-use Rattle.ob_decls.specs.declared.rows.Import.{Import}
+use Rattle.ob_rows.specs.declared.rows.Import.{Import}
 use Rattle.ob_resolve.proofs.Within.{place_fits}
 use Rattle.ob_resolve.proofs.standing_for.item_number.Goals as goal
 

@@ -1,5 +1,5 @@
 use Rattle.std.proofs.Common.{◌∙◌, ap, get_or}
-use Rattle.ob_decls.specs.Parts.{Rows}
+use Rattle.ob_rows.specs.Parts.{Rows}
 use Rattle.ob_targets.specs.Targets.{second_target}
 use Rattle.ob_targets.specs.declared.standing.Standing.TheVariants as standings
 use Rattle.ob_resolve.proofs.Referring.{second_refers, read_row, stands_placed}

@@ -1,5 +1,5 @@
 use Rattle.std.proofs.Common.{arith}
-use Rattle.ob_decls.specs.Declaring.{rows_in}
+use Rattle.ob_rows.specs.Tables.{rows_in}
 use Rattle.ob_resolve.proofs.Laid.{all_laid, own_laid, own_left}
 use Rattle.ob_resolve.proofs.standings.mark_all.Goals as goal
 

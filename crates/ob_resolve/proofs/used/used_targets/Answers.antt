@@ -1,8 +1,8 @@
 -- One more use.
 use Rattle.std.proofs.Common.{ap, ◌∙◌, map}
 use Rattle.std.proofs.lemmas.List.{take_all}
-use Rattle.ob_decls.specs.Parts.{Rows}
-use Rattle.ob_decls.specs.declared.rows.Used.{Used}
+use Rattle.ob_rows.specs.Parts.{Rows}
+use Rattle.ob_rows.specs.declared.rows.Used.{Used}
 use Rattle.ob_types.proofs.Ascending.{mapped_more}
 use Rattle.ob_targets.specs.Targets.{used_target}
 use Rattle.ob_resolve.proofs.used.used_targets.Goals as goal

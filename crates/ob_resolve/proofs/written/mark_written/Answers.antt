@@ -1,6 +1,6 @@
 use Rattle.std.proofs.Common.{◌+◌, ◌∷◌, [], length, drop, get_or, false, refl}
 use Rattle.std.proofs.lemmas.List.{drop_more}
-use Rattle.ob_decls.specs.Declaring.{rows_in}
+use Rattle.ob_rows.specs.Tables.{rows_in}
 use Rattle.ob_targets.specs.Targets.{writes}
 use Rattle.ob_resolve.proofs.WrittenNames.{AreWritten, begun, stepped, done, drop_past}
 use Rattle.ob_resolve.proofs.written.mark_written.Goals as goal

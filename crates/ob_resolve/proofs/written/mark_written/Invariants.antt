@@ -1,5 +1,5 @@
 use Rattle.std.proofs.Common.{drop, length}
-use Rattle.ob_decls.specs.Declaring.{rows_in}
+use Rattle.ob_rows.specs.Tables.{rows_in}
 use Rattle.ob_targets.specs.Targets.{writes}
 use Rattle.ob_resolve.proofs.WrittenNames.{AreWritten}
 use Rattle.ob_resolve.proofs.written.mark_written.Given as goal

@@ -1,6 +1,6 @@
 -- Use after use.
 use Rattle.std.proofs.Common.{◌<◌, ◌≤◌, length, ◌∙◌}
-use Rattle.ob_decls.specs.Declaring.{rows_in}
+use Rattle.ob_rows.specs.Tables.{rows_in}
 use Rattle.ob_scope.specs.Crossings.{no_use}
 use Rattle.ob_scan.specs.Texts.{text_at}
 use Rattle.ob_scope.proofs.Crossed.{crossings_all, crossings_next, crossings_skip, item_contained}

@@ -1,5 +1,5 @@
 -- Two members of one name are a fault of the rows.
-use Rattle.ob_decls.specs.Declaring.{rows_in}
+use Rattle.ob_rows.specs.Tables.{rows_in}
 use Rattle.ob_scope.proofs.build.scopes_by.Goals as goal
 
 pub returns-clause-fault : goal.returns-clause-fault

@@ -1,6 +1,6 @@
 -- What the members name are names.
 use Rattle.std.proofs.Common.{◌∙◌}
-use Rattle.ob_decls.specs.Declaring.{rows_in}
+use Rattle.ob_rows.specs.Tables.{rows_in}
 use Rattle.ob_scope.proofs.Names.{named_by}
 use Rattle.ob_scope.proofs.build.scopes_from.Goals as goal
 

@@ -1,8 +1,8 @@
 -- The scopes are those of the rows, and keep what all scopes keep.
 use Rattle.std.proofs.Common.{subst, sym}
-use Rattle.ob_decls.specs.Declaring.{rows_in}
+use Rattle.ob_rows.specs.Tables.{rows_in}
 use Rattle.ob_scope.specs.declared.members.Member.{Member}
-use Rattle.ob_decls.specs.Order.{AscendBy}
+use Rattle.ob_rows.specs.Order.{AscendBy}
 use Rattle.ob_scope.proofs.Assembling.{are_kept, are_scopes_by}
 use Rattle.ob_scope.proofs.Placing.{members_ascend}
 use Rattle.ob_scope.proofs.build.scopes_of.Goals as goal

@@ -1,5 +1,5 @@
 -- The members are those of the rows.
-use Rattle.ob_decls.specs.Declaring.{rows_in}
+use Rattle.ob_rows.specs.Tables.{rows_in}
 use Rattle.ob_scope.proofs.Placing.{members_ascend}
 use Rattle.ob_scope.proofs.build.scopes_with.Goals as goal
 

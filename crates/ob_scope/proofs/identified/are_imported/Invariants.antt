@@ -1,6 +1,6 @@
 use Rattle.std.proofs.Common.{◌≡◌, ℕ, ◌<◌, Some}
 use Rattle.std.specs.Prelude.{slice_get}
-use Rattle.ob_decls.specs.declared.rows.Import.{Import}
+use Rattle.ob_rows.specs.declared.rows.Import.{Import}
 use Rattle.ob_scope.specs.Identified.{IsIdentifier}
 use Rattle.ob_scope.proofs.identified.are_imported.Given as goal
 

@@ -1,7 +1,7 @@
 -- What the search finds.
 use Rattle.std.proofs.Common.{ℕ, rules}
 use Rattle.std.proofs.lemmas.Fn.{always_returns_same}
-use Rattle.ob_decls.proofs.Searched.{searched_found, searched_none}
+use Rattle.ob_rows.proofs.Searched.{searched_found, searched_none}
 use Rattle.ob_scope.proofs.opened.place_of_open.Goals as goal
 
 pub returns-clause-found : goal.returns-clause-found

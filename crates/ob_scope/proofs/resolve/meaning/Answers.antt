@@ -1,8 +1,8 @@
 -- What is seen, or else the later type.
 use Rattle.std.proofs.Common.{◌≡◌, ℕ, List, refl, Bool, true, false, not, sym, ◌∙◌}
 use Rattle.std.proofs.lemmas.Bool.{false≢true}
-use Rattle.ob_decls.specs.declared.rows.Block.{Block}
-use Rattle.ob_decls.specs.declared.rows.Used.{Used}
+use Rattle.ob_rows.specs.declared.rows.Block.{Block}
+use Rattle.ob_rows.specs.declared.rows.Used.{Used}
 use Rattle.ob_scope.specs.declared.members.Member.{Member}
 use Rattle.ob_scope.specs.Scope.{ResolvesTo, by_scope, as_target, IsLaterType, ResolvesToNothing}
 use Rattle.ob_scope.specs.Looked.{use_in}

@@ -1,6 +1,6 @@
 use Rattle.std.proofs.Common.{ℕ, zero, suc, ◌<◌, List, Option, Some, None, length}
 use Rattle.std.specs.Prelude.{IfSome}
-use Rattle.ob_decls.specs.declared.rows.Block.{Block}
+use Rattle.ob_rows.specs.declared.rows.Block.{Block}
 use Rattle.ob_scope.specs.Sights.{AreSeen, IsStart}
 use Rattle.ob_scope.proofs.sight.last_open.Given as goal
 

@@ -5,11 +5,11 @@ use Rattle.ob_tree.specs.declared.declaration.ProcDecl.{ProcDecl}
 use Rattle.ob_tree.specs.Declaring.{procedure_outline}
 use Rattle.ob_tree.specs.Marks.{repeated}
 use Rattle.ob_decls.specs.Declaring.{procedure_piece}
-use Rattle.ob_decls.specs.declared.draft.Context.{Context}
-use Rattle.ob_decls.specs.Drafts.{after}
-use Rattle.ob_decls.specs.Parts.{in_block}
-use Rattle.ob_decls.specs.Parts.{each as pieces}
-use Rattle.ob_decls.proofs.Steps.{after_nothing, after_each}
+use Rattle.ob_rows.specs.declared.draft.Context.{Context}
+use Rattle.ob_rows.specs.Drafts.{after}
+use Rattle.ob_rows.specs.Parts.{in_block}
+use Rattle.ob_rows.specs.Parts.{each as pieces}
+use Rattle.ob_rows.proofs.Steps.{after_nothing, after_each}
 use Rattle.ob_parse.specs.Front.{is_word}
 use Rattle.ob_parse.specs.Forms.{begins, seq, expect_at, name_at, optional, accept_at, limit_at}
 use Rattle.ob_parse.specs.Accords.{ahead}

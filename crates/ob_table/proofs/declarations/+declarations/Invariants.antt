@@ -3,8 +3,8 @@ use Rattle.ob_scan.specs.declared.kind.Kind.TheVariants as kinds
 use Rattle.ob_tree.specs.declared.declaration.ProcDecl.{ProcDecl}
 use Rattle.ob_tree.specs.Declaring.{procedure_outline}
 use Rattle.ob_decls.specs.Declaring.{procedure_piece}
-use Rattle.ob_decls.specs.Drafts.{after}
-use Rattle.ob_decls.specs.Parts.{each}
+use Rattle.ob_rows.specs.Drafts.{after}
+use Rattle.ob_rows.specs.Parts.{each}
 use Rattle.ob_parse.specs.Front.{is_word}
 use Rattle.ob_parse.specs.Forms.{begins}
 use Rattle.ob_parse.specs.Accords.{ahead}

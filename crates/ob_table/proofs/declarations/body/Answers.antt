@@ -2,8 +2,8 @@ use Rattle.std.proofs.Common.{None, refl, sym, ap, ◌∙◌}
 use Rattle.ob_scan.specs.declared.kind.Kind.TheVariants as kinds
 use Rattle.ob_tree.specs.Statements.{block_outline}
 use Rattle.ob_decls.specs.Statements.{block_piece}
-use Rattle.ob_decls.specs.Drafts.{after}
-use Rattle.ob_decls.proofs.Steps.{after_nothing}
+use Rattle.ob_rows.specs.Drafts.{after}
+use Rattle.ob_rows.proofs.Steps.{after_nothing}
 use Rattle.ob_parse.specs.Forms.{accept_at}
 use Rattle.ob_parse.specs.Accords.{skipped}
 use Rattle.ob_parse.specs.ReadStatements.{block_at}

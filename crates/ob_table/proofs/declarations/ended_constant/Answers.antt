@@ -7,14 +7,14 @@ use Rattle.ob_tree.specs.Marks.{word}
 use Rattle.ob_tree.specs.Names.{identdef_outline}
 use Rattle.ob_tree.specs.Expressions.{expr_outline}
 use Rattle.ob_decls.specs.Expressions.{expr_piece}
-use Rattle.ob_decls.specs.Parts.{both, token}
+use Rattle.ob_rows.specs.Parts.{both, token}
 use Rattle.ob_parse.specs.Forms.{seq, expect_at}
 use Rattle.ob_parse.specs.ReadNames.{identdef_at}
 use Rattle.ob_parse.specs.ReadExpressions.{expr_at}
 use Rattle.ob_decls.specs.Types.{identdef_piece}
 use Rattle.ob_tree.specs.Declaring.{const_outline}
 use Rattle.ob_tree.proofs.DeclarationLayers.{const_out}
-use Rattle.ob_decls.specs.declared.rows.Sort.TheVariants as sorts
+use Rattle.ob_rows.specs.declared.rows.Sort.TheVariants as sorts
 use Rattle.ob_decls.specs.Declaring.{const_piece}
 use Rattle.ob_decls.proofs.DeclarationLayers as told
 use Rattle.ob_parse.specs.ReadModules.{const_with}

@@ -7,13 +7,13 @@ use Rattle.ob_tree.specs.Marks.{word}
 use Rattle.ob_tree.specs.Names.{identdef_outline}
 use Rattle.ob_tree.specs.Types.{type_outline}
 use Rattle.ob_decls.specs.Types.{identdef_piece, type_piece}
-use Rattle.ob_decls.specs.Parts.{both, token}
+use Rattle.ob_rows.specs.Parts.{both, token}
 use Rattle.ob_parse.specs.Forms.{seq, expect_at}
 use Rattle.ob_parse.specs.ReadNames.{identdef_at}
 use Rattle.ob_parse.specs.ReadTypes.{type_at}
 use Rattle.ob_tree.specs.Declaring.{type_decl_outline}
 use Rattle.ob_tree.proofs.DeclarationLayers.{type_decl_out}
-use Rattle.ob_decls.specs.declared.rows.Sort.TheVariants as sorts
+use Rattle.ob_rows.specs.declared.rows.Sort.TheVariants as sorts
 use Rattle.ob_decls.specs.Declaring.{type_decl_piece}
 use Rattle.ob_decls.proofs.DeclarationLayers as told
 use Rattle.ob_parse.specs.ReadModules.{type_decl_with}

@@ -5,7 +5,7 @@ use Rattle.ob_decls.specs.Types.{var_piece}
 use Rattle.ob_parse.specs.ReadTypes.{var_with, type_at}
 use Rattle.ob_tree.specs.Declaring.{variable_outline}
 use Rattle.ob_tree.proofs.DeclarationLayers.{variable_out}
-use Rattle.ob_decls.specs.declared.rows.Sort.TheVariants as sorts
+use Rattle.ob_rows.specs.declared.rows.Sort.TheVariants as sorts
 use Rattle.ob_decls.specs.Declaring.{variable_piece}
 use Rattle.ob_decls.proofs.DeclarationLayers as told
 use Rattle.ob_parse.specs.ReadModules.{variable_with}

@@ -1,6 +1,6 @@
-use Rattle.ob_decls.specs.Drafts.{after}
+use Rattle.ob_rows.specs.Drafts.{after}
 use Rattle.ob_decls.specs.Declaring.{module_end}
-use Rattle.ob_decls.specs.Parts.{tells, token}
+use Rattle.ob_rows.specs.Parts.{tells, token}
 use Rattle.ob_tree.specs.Marks.{repeated}
 use Rattle.ob_table.proofs.Behind.{name_failed}
 use Rattle.ob_table.proofs.EndNames.{name_told}

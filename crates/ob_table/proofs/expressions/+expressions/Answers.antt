@@ -8,11 +8,11 @@ use Rattle.ob_tree.specs.Constructs as constructs
 use Rattle.ob_tree.specs.Marks.{Value, word}
 use Rattle.ob_tree.specs.Expressions.{relation_kind, factor_outline, expr_outline, selector_outline}
 use Rattle.ob_tree.proofs.ExpressionLayers.{expressions_made, value_made, nil_made, true_made, false_made}
-use Rattle.ob_decls.specs.Drafts.{after}
-use Rattle.ob_decls.specs.Parts.{token, both, each}
+use Rattle.ob_rows.specs.Drafts.{after}
+use Rattle.ob_rows.specs.Parts.{token, both, each}
 use Rattle.ob_decls.specs.Expressions.{term_piece, factor_piece, element_piece, expr_piece, selected}
 use Rattle.ob_decls.specs.Settling.{settling}
-use Rattle.ob_decls.proofs.Steps.{after_nothing}
+use Rattle.ob_rows.proofs.Steps.{after_nothing}
 use Rattle.ob_decls.proofs.ExpressionLayers as told
 use Rattle.ob_parse.specs.declared.cursor.Cursor.{Cursor}
 use Rattle.ob_parse.specs.Front.{uncons, front}

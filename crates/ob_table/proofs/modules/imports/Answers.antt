@@ -1,6 +1,6 @@
 use Rattle.ob_decls.specs.Declaring.{imports_piece}
-use Rattle.ob_decls.specs.Drafts.{after}
-use Rattle.ob_decls.specs.Parts.{if_there}
+use Rattle.ob_rows.specs.Drafts.{after}
+use Rattle.ob_rows.specs.Parts.{if_there}
 use Rattle.ob_table.specs.DeclarationShapes.{imports_shown}
 use Rattle.ob_table.proofs.Combine.{told_walked}
 use Rattle.ob_table.proofs.modules.imports.Goals as goal

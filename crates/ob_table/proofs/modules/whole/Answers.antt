@@ -1,7 +1,7 @@
 use Rattle.std.proofs.Common.{sym, ap, ◌∙◌}
 use Rattle.ob_tree.specs.Declaring.{module_outline}
 use Rattle.ob_decls.specs.Declaring.{module_piece}
-use Rattle.ob_decls.specs.Drafts.{after}
+use Rattle.ob_rows.specs.Drafts.{after}
 use Rattle.ob_parse.specs.Accords.{ahead, seen}
 use Rattle.ob_table.specs.Ended.{EndedModule}
 use Rattle.ob_table.proofs.ModuleTrees.{whole_told, whole_failed, whole_left}

@@ -1,5 +1,5 @@
 use Rattle.ob_tree.specs.Names.{qualident_outline}
-use Rattle.ob_decls.specs.Drafts.{after}
+use Rattle.ob_rows.specs.Drafts.{after}
 use Rattle.ob_table.specs.TypeShapes.{formal_name_piece}
 use Rattle.ob_table.proofs.Combine.{told_walked}
 use Rattle.ob_table.proofs.ParameterTrees.{name_came}

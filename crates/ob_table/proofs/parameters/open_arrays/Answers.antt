@@ -1,10 +1,10 @@
 use Rattle.std.proofs.Common.{◌++◌, Ok, refl, sym, ap, ◌∙◌}
 use Rattle.ob_scan.specs.declared.kind.Kind.TheVariants as kinds
 use Rattle.ob_tree.specs.Marks.{word}
-use Rattle.ob_decls.specs.Drafts.{added, after, passed}
-use Rattle.ob_decls.specs.Parts.{each}
+use Rattle.ob_rows.specs.Drafts.{added, after, passed}
+use Rattle.ob_rows.specs.Parts.{each}
 use Rattle.ob_decls.specs.Types.{part_here}
-use Rattle.ob_decls.specs.declared.rows.Part.TheVariants as parts
+use Rattle.ob_rows.specs.declared.rows.Part.TheVariants as parts
 use Rattle.ob_parse.specs.Forms.{accept_at, expect_at, many}
 use Rattle.ob_parse.specs.Accords.{ahead, skipped}
 use Rattle.ob_parse.proofs.Arrays.{array_advances}

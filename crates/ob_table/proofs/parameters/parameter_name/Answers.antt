@@ -1,6 +1,6 @@
 use Rattle.std.proofs.Common.{false}
 use Rattle.ob_tree.specs.Marks.{declared}
-use Rattle.ob_decls.specs.Drafts.{after}
+use Rattle.ob_rows.specs.Drafts.{after}
 use Rattle.ob_decls.specs.Types.{parameter_piece}
 use Rattle.ob_table.proofs.Combine.{told_walked}
 use Rattle.ob_table.proofs.Behind.{name_read, name_failed}

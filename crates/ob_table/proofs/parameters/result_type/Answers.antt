@@ -2,7 +2,7 @@ use Rattle.std.proofs.Common.{◌++◌, sym, ap, ◌∙◌}
 use Rattle.ob_scan.specs.declared.kind.Kind.TheVariants as kinds
 use Rattle.ob_tree.specs.Marks.{word}
 use Rattle.ob_tree.specs.Names.{qualident_outline}
-use Rattle.ob_decls.specs.Parts.{both, token}
+use Rattle.ob_rows.specs.Parts.{both, token}
 use Rattle.ob_decls.specs.Statements.{qualident_piece}
 use Rattle.ob_parse.specs.Forms.{accept_at}
 use Rattle.ob_parse.specs.Accords.{skipped}

@@ -1,7 +1,7 @@
-use Rattle.std.proofs.Common.{sym, ap, ◌∙◌, ◌∷◌, [], arith}
-use Rattle.ob_decls.specs.Drafts.{added, stage_of}
-use Rattle.ob_decls.specs.Parts.{these_selectors}
-use Rattle.ob_decls.specs.declared.rows.Step.TheVariants as steps
+use Rattle.std.proofs.Common.{sym, ap, ◌∙◌, ◌∷◌, []}
+use Rattle.ob_rows.specs.Drafts.{added, stage_of}
+use Rattle.ob_rows.specs.Parts.{these_selectors}
+use Rattle.ob_rows.specs.declared.rows.Step.TheVariants as steps
 use Rattle.ob_table.proofs.Room.{no_places, more_places}
 use Rattle.ob_table.proofs.places.open_places.Goals as goal
 

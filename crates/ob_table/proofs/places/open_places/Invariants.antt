@@ -1,5 +1,5 @@
-use Rattle.ob_decls.specs.Drafts.{added, ComesTo}
-use Rattle.ob_decls.specs.Parts.{these_selectors}
+use Rattle.ob_rows.specs.Drafts.{added, ComesTo}
+use Rattle.ob_rows.specs.Parts.{these_selectors}
 use Rattle.ob_table.specs.Choosing.{places}
 use Rattle.ob_table.proofs.places.open_places.Given as goal
 

@@ -2,7 +2,7 @@ use Rattle.std.proofs.Common.{List, subst}
 use Rattle.ob_tree.specs.declared.token.Leaf.{Leaf}
 use Rattle.ob_tree.specs.Declaring.{module_outline}
 use Rattle.ob_decls.specs.Declaring.{module_piece, outermost}
-use Rattle.ob_decls.specs.Drafts.{after}
+use Rattle.ob_rows.specs.Drafts.{after}
 use Rattle.ob_parse.specs.ReadModules.{all_of}
 use Rattle.ob_parse.proofs.Ahead.{all_ahead}
 use Rattle.ob_table.specs.Ended.{EndedModule, TabulatesWhole}

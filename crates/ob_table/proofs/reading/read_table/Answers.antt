@@ -3,7 +3,7 @@ use Rattle.ob_scan.proofs.Places.{spelled_in_text}
 use Rattle.ob_scan.specs.declared.token.Token.{Token}
 use Rattle.ob_tree.specs.Marks.{Out}
 use Rattle.ob_decls.specs.Declaring.{module_piece, outermost}
-use Rattle.ob_decls.proofs.TableRows.{rows_after}
+use Rattle.ob_rows.proofs.TableRows.{rows_after}
 use Rattle.ob_parse.specs.Accords.{Fails}
 use Rattle.ob_parse.specs.Parsed.{read_left}
 use Rattle.ob_parse.proofs.OneTree.{why_none}

@@ -4,7 +4,7 @@ use Rattle.ob_tree.specs.declared.token.Leaf.TheVariants as leafs
 use Rattle.ob_tree.specs.Constructs as constructs
 use Rattle.ob_tree.specs.Marks.{word}
 use Rattle.ob_tree.specs.Types.{type_outline}
-use Rattle.ob_decls.specs.Drafts.{after}
+use Rattle.ob_rows.specs.Drafts.{after}
 use Rattle.ob_decls.specs.Types.{type_piece}
 use Rattle.ob_parse.specs.Forms.{accept_at, expect_at, limit_at, many, nothing, optional, seq, several, unless}
 use Rattle.ob_parse.specs.Accords.{ahead, skipped}

@@ -3,10 +3,10 @@ use Rattle.ob_scan.specs.declared.kind.Kind.TheVariants as kinds
 use Rattle.ob_tree.specs.declared.expression.Expr.{Expr}
 use Rattle.ob_tree.specs.Marks.{word}
 use Rattle.ob_tree.specs.Expressions.{expr_outline}
-use Rattle.ob_decls.specs.Drafts.{added, after, passed}
+use Rattle.ob_rows.specs.Drafts.{added, after, passed}
 use Rattle.ob_decls.specs.Expressions.{expr_piece}
 use Rattle.ob_decls.specs.Types.{part_here}
-use Rattle.ob_decls.specs.declared.rows.Part.TheVariants as parts
+use Rattle.ob_rows.specs.declared.rows.Part.TheVariants as parts
 use Rattle.ob_parse.specs.Forms.{accept_at}
 use Rattle.ob_parse.specs.Accords.{ahead, skipped}
 use Rattle.ob_parse.specs.ReadExpressions.{expr_at}

@@ -1,4 +1,4 @@
-use Rattle.ob_tree.proofs.Passes.{all_numbers}
+use Rattle.ob_tree.proofs.TokenNumbers.{all_numbers}
 use Rattle.ob_tree.proofs.laws.all_numbers.Goals as goal
 
 pub returns : goal.returns

@@ -3,7 +3,7 @@ use Rattle.std.specs.Prelude.{◌&&◌, find}
 use Rattle.std.specs.Option.{option_map}
 use Rattle.std.specs.Str.{bytes_eq}
 use Rattle.indexmap.specs.IndexMap.{get}
-use Rattle.ob_decls.specs.declared.rows.Declared.{Declared}
+use Rattle.ob_rows.specs.declared.rows.Declared.{Declared}
 use Rattle.ob_types.specs.Parted.{same_field, world_of, FieldKey}
 use Rattle.ob_types.specs.World.{is_of_record, text}
 use Rattle.ob_types.proofs.names.fields_of.Given as goal

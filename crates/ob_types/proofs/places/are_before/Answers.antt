@@ -1,6 +1,6 @@
 use Rattle.std.proofs.Common.{sym, ap, ◌∙◌}
 use Rattle.std.specs.Option.{option_copied}
-use Rattle.ob_decls.specs.declared.rows.Import.{Import}
+use Rattle.ob_rows.specs.declared.rows.Import.{Import}
 use Rattle.ob_types.proofs.Firsts.{placed_before, placed_none}
 use Rattle.ob_types.proofs.places.are_before.Goals as goal
 

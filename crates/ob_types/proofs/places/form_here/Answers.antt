@@ -1,6 +1,6 @@
 use Rattle.std.proofs.Common.{refl}
 use Rattle.std.proofs.lemmas.Option.{slice_get_read}
-use Rattle.ob_decls.specs.declared.rows.FormPart.{FormPart}
+use Rattle.ob_rows.specs.declared.rows.FormPart.{FormPart}
 use Rattle.ob_types.proofs.Firsts.{placed_first}
 use Rattle.ob_types.proofs.places.form_here.Goals as goal
 

@@ -1,8 +1,8 @@
 use Rattle.std.proofs.Common.{rules, sym}
 use Rattle.std.specs.Prelude.{nat_lt}
 use Rattle.std.proofs.lemmas.List.Sorted.{IsPartitionPoint-from_clause, IsPartitionedBy-ltb}
-use Rattle.ob_decls.specs.declared.rows.FormPart.{FormPart}
-use Rattle.ob_decls.proofs.Groups.{rising}
+use Rattle.ob_rows.specs.declared.rows.FormPart.{FormPart}
+use Rattle.ob_rows.proofs.Groups.{rising}
 use Rattle.ob_types.proofs.Firsts.{placed, placed_beyond, placed_nowhere, equal, unequal}
 use Rattle.ob_types.proofs.places.place_of_form.Goals as goal
 

@@ -1,6 +1,6 @@
 use Rattle.std.proofs.Common.{◌≤◌, List, arith, length, subst}
 use Rattle.std.proofs.lemmas.Option.{slice_get-get_or}
-use Rattle.ob_decls.specs.declared.rows.Declared.{Declared}
+use Rattle.ob_rows.specs.declared.rows.Declared.{Declared}
 use Rattle.ob_types.specs.Parted.{world_of}
 use Rattle.ob_types.proofs.Telling.{own_told, row_more, stay_on, RowsTold}
 use Rattle.ob_types.proofs.told.add_own.Goals as goal

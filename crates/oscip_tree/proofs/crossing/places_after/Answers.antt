@@ -1,6 +1,6 @@
 -- What one reading of the file finds holds of each.
 use Rattle.std.proofs.Common.{ℕ, List, subst}
-use Rattle.ob_decls.specs.Declaring.{rows_in}
+use Rattle.ob_rows.specs.Tables.{rows_in}
 use Rattle.ob_scan.specs.declared.token.Token.{Token}
 use Rattle.oscip_tree.specs.Crossings.{AreSpans}
 use Rattle.oscip_tree.proofs.CrossedTrees.{places_by}

@@ -1,6 +1,6 @@
 use Rattle.std.proofs.Common.{ℕ, List, subst}
-use Rattle.ob_decls.specs.Declaring.{rows_in}
-use Rattle.ob_decls.specs.Parts.{Rows}
+use Rattle.ob_rows.specs.Tables.{rows_in}
+use Rattle.ob_rows.specs.Parts.{Rows}
 use Rattle.ob_scan.specs.declared.token.Token.{Token}
 use Rattle.ob_scope.specs.Scoped.{AreScopes, IsScopeFault}
 use Rattle.oscip_tree.proofs.parts.parts_in.Goals as goal

@@ -1,7 +1,7 @@
 use Rattle.std.proofs.Common.{◌∙◌, ℕ, List, refl, ap, subst}
 use Rattle.std.specs.String.{string_bytes}
-use Rattle.ob_decls.specs.Declaring.{rows_in}
-use Rattle.ob_decls.specs.Parts.{Rows}
+use Rattle.ob_rows.specs.Tables.{rows_in}
+use Rattle.ob_rows.specs.Parts.{Rows}
 use Rattle.ob_interface.specs.Interfaces.{interface_of}
 use Rattle.ob_scan.specs.declared.token.Token.{Token}
 use Rattle.ob_scope.specs.Scoped.{AreScopes}

@@ -1,6 +1,6 @@
 use Rattle.std.proofs.Common.{take}
-use Rattle.ob_decls.specs.Drafts.{after, ComesTo}
-use Rattle.ob_decls.specs.Parts.{both, each, token}
+use Rattle.ob_rows.specs.Drafts.{after, ComesTo}
+use Rattle.ob_rows.specs.Parts.{both, each, token}
 use Rattle.ob_decls.specs.Declaring.{const_piece}
 use Rattle.ob_decls.proofs.walk.declarations.walk_constants.Given as goal
 

@@ -1,6 +1,6 @@
 use Rattle.std.proofs.Common.{take}
-use Rattle.ob_decls.specs.Drafts.{after, ComesTo}
-use Rattle.ob_decls.specs.Parts.{both, each, token}
+use Rattle.ob_rows.specs.Drafts.{after, ComesTo}
+use Rattle.ob_rows.specs.Parts.{both, each, token}
 use Rattle.ob_decls.specs.Declaring.{type_decl_piece}
 use Rattle.ob_decls.proofs.walk.declarations.walk_types.Given as goal
 

@@ -1,6 +1,6 @@
 use Rattle.std.proofs.Common.{◌≡◌, ◌+◌, false, map, take}
-use Rattle.ob_decls.specs.Drafts.{after, ComesTo}
-use Rattle.ob_decls.specs.Parts.{both, each, token}
+use Rattle.ob_rows.specs.Drafts.{after, ComesTo}
+use Rattle.ob_rows.specs.Parts.{both, each, token}
 use Rattle.ob_decls.specs.Expressions.{each_after, element_piece, expr_piece, factor_piece, selected, term_piece}
 use Rattle.ob_decls.specs.Settling.{settling}
 use Rattle.ob_decls.proofs.walk.expressions.+expressions.Given as goal

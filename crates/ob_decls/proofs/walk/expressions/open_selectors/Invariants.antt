@@ -1,6 +1,6 @@
 use Rattle.std.proofs.Common.{take}
-use Rattle.ob_decls.specs.Drafts.{added, ComesTo}
-use Rattle.ob_decls.specs.Parts.{these_selectors}
+use Rattle.ob_rows.specs.Drafts.{added, ComesTo}
+use Rattle.ob_rows.specs.Parts.{these_selectors}
 use Rattle.ob_decls.specs.Settling.{blanks}
 use Rattle.ob_decls.proofs.walk.expressions.open_selectors.Given as goal
 

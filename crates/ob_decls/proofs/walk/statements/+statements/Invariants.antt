@@ -1,5 +1,5 @@
 use Rattle.std.proofs.Common.{take}
-use Rattle.ob_decls.specs.Drafts.{after, ComesTo}
+use Rattle.ob_rows.specs.Drafts.{after, ComesTo}
 use Rattle.ob_decls.specs.Expressions.{each_after}
 use Rattle.ob_decls.specs.Statements.{label_range_piece, case_piece, stmt_piece, branch_piece}
 use Rattle.ob_decls.proofs.walk.statements.+statements.Given as goal

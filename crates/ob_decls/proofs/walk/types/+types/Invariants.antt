@@ -1,8 +1,8 @@
 use Rattle.std.proofs.Common.{take}
-use Rattle.ob_decls.specs.Drafts.{after, ComesTo}
-use Rattle.ob_decls.specs.Parts.{declaring}
+use Rattle.ob_rows.specs.Drafts.{after, ComesTo}
+use Rattle.ob_rows.specs.Parts.{declaring}
 use Rattle.ob_decls.specs.Expressions.{each_after}
-use Rattle.ob_decls.specs.declared.rows.Sort.TheVariants as sorts
+use Rattle.ob_rows.specs.declared.rows.Sort.TheVariants as sorts
 use Rattle.ob_decls.specs.Types.{identdef_piece, var_piece}
 use Rattle.ob_decls.proofs.walk.types.+types.Given as goal
 

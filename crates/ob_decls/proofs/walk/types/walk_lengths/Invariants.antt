@@ -1,8 +1,8 @@
 use Rattle.std.proofs.Common.{take}
-use Rattle.ob_decls.specs.Drafts.{after, ComesTo}
-use Rattle.ob_decls.specs.Parts.{both, each, tells, token}
+use Rattle.ob_rows.specs.Drafts.{after, ComesTo}
+use Rattle.ob_rows.specs.Parts.{both, each, tells, token}
 use Rattle.ob_decls.specs.Expressions.{expr_piece}
-use Rattle.ob_decls.specs.declared.rows.Part.TheVariants as parts
+use Rattle.ob_rows.specs.declared.rows.Part.TheVariants as parts
 use Rattle.ob_decls.specs.Types.{part_here}
 use Rattle.ob_decls.proofs.walk.types.walk_lengths.Given as goal
 

@@ -1,4 +1,4 @@
-use Rattle.ob_decls.specs.Drafts.{after, ComesTo}
+use Rattle.ob_rows.specs.Drafts.{after, ComesTo}
 use Rattle.ob_decls.specs.Types.{open_arrays}
 use Rattle.ob_decls.proofs.walk.types.walk_open_arrays.Given as goal
 

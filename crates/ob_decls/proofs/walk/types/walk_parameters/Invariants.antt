@@ -1,5 +1,5 @@
 use Rattle.std.proofs.Common.{take}
-use Rattle.ob_decls.specs.Drafts.{after, ComesTo}
+use Rattle.ob_rows.specs.Drafts.{after, ComesTo}
 use Rattle.ob_decls.specs.Expressions.{each_after}
 use Rattle.ob_decls.specs.Types.{section_piece}
 use Rattle.ob_decls.proofs.walk.types.walk_parameters.Given as goal

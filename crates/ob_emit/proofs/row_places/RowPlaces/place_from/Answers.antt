@@ -1,6 +1,6 @@
 -- The place at hand is the first.
 use Rattle.std.proofs.Common.{sym}
-use Rattle.ob_decls.specs.declared.rows.Declared.{Declared}
+use Rattle.ob_rows.specs.declared.rows.Declared.{Declared}
 use Rattle.ob_emit.proofs.Numbered.{position_there}
 use Rattle.ob_emit.proofs.row_places.RowPlaces.place_from.Goals as goal
 

@@ -1,5 +1,5 @@
 -- The place that is found is the first.
-use Rattle.ob_decls.specs.declared.rows.Declared.{Declared}
+use Rattle.ob_rows.specs.declared.rows.Declared.{Declared}
 use Rattle.ob_emit.proofs.Numbered.{position_answer}
 use Rattle.ob_emit.proofs.row_places.RowPlaces.place_of.Goals as goal
 

@@ -1,5 +1,5 @@
 use Rattle.std.proofs.Common.{◌∙◌}
-use Rattle.ob_decls.specs.declared.rows.Declared.{Declared}
+use Rattle.ob_rows.specs.declared.rows.Declared.{Declared}
 use Rattle.ob_types.specs.World.{declared_at}
 use Rattle.ob_types.proofs.Firsts.{told}
 use Rattle.ob_types.proofs.parts.Parts.declared.Goals as goal

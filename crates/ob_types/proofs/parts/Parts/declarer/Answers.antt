@@ -1,5 +1,5 @@
 use Rattle.std.proofs.Common.{◌∙◌}
-use Rattle.ob_decls.specs.declared.rows.Declarer.{Declarer}
+use Rattle.ob_rows.specs.declared.rows.Declarer.{Declarer}
 use Rattle.ob_types.specs.World.{declarer_from}
 use Rattle.ob_types.proofs.Firsts.{told}
 use Rattle.ob_types.proofs.parts.Parts.declarer.Goals as goal

@@ -1,5 +1,5 @@
 use Rattle.std.proofs.Common.{◌∙◌}
-use Rattle.ob_decls.specs.declared.rows.Record.{Record}
+use Rattle.ob_rows.specs.declared.rows.Record.{Record}
 use Rattle.ob_types.specs.World.{record_at}
 use Rattle.ob_types.proofs.Firsts.{told}
 use Rattle.ob_types.proofs.parts.Parts.«record».Goals as goal

@@ -1,0 +1,5 @@
+pub mod Groups
+pub mod Orders
+pub mod Searched
+pub mod Steps
+pub mod TableRows

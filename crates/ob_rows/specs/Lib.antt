@@ -1,0 +1,4 @@
+pub mod Drafts
+pub mod Order
+pub mod Parts
+pub mod Tables

@@ -1,8 +1,0 @@
-use Rattle.ob_scan.proofs.Places.{spelled_in_text}
-use Rattle.ob_scope.proofs.entry.scopes.Goals as goal
-
-pub scopes_from-requires-clause-spelled : goal.scopes_from-requires-clause-spelled
-scopes_from-requires-clause-spelled c = rw c.as_slice.ensures c.requires.spelled.1
-
-pub scopes_from-requires-clause-in_text : goal.scopes_from-requires-clause-in_text
-scopes_from-requires-clause-in_text c = rw c.as_slice.ensures (spelled_in_text c.args.bytes.now c.args.tokens.now c.requires.spelled.1)

@@ -1,9 +1,0 @@
-//! The tokens of a tree in order, each with what it does where it stands.
-
-pub(crate) mod declarations;
-pub(crate) mod declared;
-pub(crate) mod ends;
-mod expressions;
-mod names;
-mod statements;
-mod types;

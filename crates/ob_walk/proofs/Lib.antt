@@ -1,0 +1,8 @@
+pub mod DeclarationWalks
+pub mod DeclaredNames
+pub mod ExpressionWalks
+pub mod NameWalks
+pub mod Passes
+pub mod StatementWalks
+pub mod TypeWalks
+pub mod Walks

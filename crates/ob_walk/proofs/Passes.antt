@@ -1,0 +1,66 @@
+-- What one pass over the items of an outline finds.
+use Rattle.std.proofs.Common.{◌≡◌, ℕ, ◌+◌, ◌<◌, suc, List, [], ◌∷◌, ◌++◌, length, take, get_or, refl, ap, ◌∙◌, arith}
+use Rattle.std.specs.List.{filter_map}
+use Rattle.std.proofs.lemmas.List.{append-nil, take_all, take_more, length-take-le}
+use Rattle.std.proofs.lemmas.List.Elements.{filter_map-append}
+use Rattle.std.proofs.lemmas.Grind.{take_at_read}
+use Rattle.ob_walk.specs.declared.item.Item.{Item}
+use Rattle.ob_walk.specs.Items.{items_of, number_at, used_by}
+use Rattle.ob_tree.specs.declared.role.Role.TheVariants.{Declares, Aliases, Imports, Uses, Completes, Selects, Names, Repeats}
+use Rattle.ob_tree.specs.Marks.{Out, Begins, Ends, Identifier, Value, Word, tokens_of}
+use Rattle.ob_tree.specs.Derives.{numbers_from, used_in}
+use Rattle.ob_tree.proofs.TokenNumbers.{all_numbers}
+
+-- ---- one more item
+
+-- the numbers of items, the first of which stands in this place
+abbrev pub numbers_at : ℕ → List Item → List ℕ
+numbers_at at [] = []
+numbers_at at (i ∷ is) = number_at at i ∷ numbers_at (at + 1) is
+
+pub item_numbers : (at : ℕ) (ms : Out) → numbers_at at (items_of ms) ≡ numbers_from at ms
+item_numbers at [] = refl
+item_numbers at (Begins c n ∷ ms) = item_numbers at ms
+item_numbers at (Ends c ∷ ms) = item_numbers at ms
+item_numbers at (Identifier r n ∷ ms) = ap (λ (ns : List ℕ). n ∷ ns) (item_numbers (at + 1) ms)
+item_numbers at (Value k n ∷ ms) = ap (λ (ns : List ℕ). n ∷ ns) (item_numbers (at + 1) ms)
+item_numbers at (Word k ∷ ms) = ap (λ (ns : List ℕ). at ∷ ns) (item_numbers (at + 1) ms)
+
+-- as many items as tokens
+pub items-length : (ms : Out) → length (items_of ms) ≡ length (tokens_of ms)
+items-length [] = refl
+items-length (Begins c n ∷ ms) = items-length ms
+items-length (Ends c ∷ ms) = items-length ms
+items-length (Identifier r n ∷ ms) = ap suc (items-length ms)
+items-length (Value k n ∷ ms) = ap suc (items-length ms)
+items-length (Word k ∷ ms) = ap suc (items-length ms)
+
+numbers-append : (at : ℕ) (is js : List Item) → numbers_at at (is ++ js) ≡ numbers_at at is ++ numbers_at (at + length is) js
+numbers-append at [] js = ap (λ (m : ℕ). numbers_at m js) (omega arith)
+numbers-append at (i ∷ is) js =
+    ap (λ (ns : List ℕ). number_at at i ∷ ns) (numbers-append (at + 1) is js ∙ ap (λ (m : ℕ). numbers_at (at + 1) is ++ numbers_at m js) (omega arith))
+
+pub numbers-more : (is : List Item) (at : ℕ) (d : Item) → at < length is →
+    numbers_at 0 (take (at + 1) is) ≡ numbers_at 0 (take at is) ++ number_at at (get_or is at d) ∷ []
+numbers-more is at d h =
+    let e : 0 + length (take at is) ≡ at = omega (arith, h, length-take-le at is (omega (arith, h))) in
+    rw (take_more is at d h) (numbers-append 0 (take at is) (get_or is at d ∷ []) ∙ ap (λ (m : ℕ). numbers_at 0 (take at is) ++ number_at m (get_or is at d) ∷ []) e)
+
+-- ---- the items of one sort
+
+pub used-items : (ms : Out) → filter_map used_by (items_of ms) ≡ used_in ms
+used-items [] = refl
+used-items (Begins c n ∷ ms) = used-items ms
+used-items (Ends c ∷ ms) = used-items ms
+used-items (Identifier (Declares starred) n ∷ ms) = used-items ms
+used-items (Identifier Aliases n ∷ ms) = used-items ms
+used-items (Identifier Imports n ∷ ms) = used-items ms
+used-items (Identifier Uses n ∷ ms) = ap (λ (ns : List ℕ). n ∷ ns) (used-items ms)
+used-items (Identifier Completes n ∷ ms) = used-items ms
+used-items (Identifier Selects n ∷ ms) = used-items ms
+used-items (Identifier Names n ∷ ms) = used-items ms
+used-items (Identifier (Repeats name) n ∷ ms) = used-items ms
+used-items (Value k n ∷ ms) = used-items ms
+used-items (Word k ∷ ms) = used-items ms
+
+pub ruleset passes = (all_numbers, filter_map-append, take_at_read, take_all, used-items, item_numbers, append-nil)

@@ -1,0 +1,18 @@
+use Rattle.std.proofs.Common.{append_assoc, arith}
+use Rattle.ob_walk.proofs.DeclarationWalks.{procedure_items, declaration_walks}
+use Rattle.ob_walk.proofs.Walks.{items-append, more-more}
+use Rattle.ob_walk.proofs.walk.declarations.+declarations.Goals as goal
+
+pub walk_procedure-returns : goal.walk_procedure-returns
+walk_procedure-returns t c =
+    rw (procedure_items, c.put-2.ensures, c.put.ensures, c.walk_answer.ensures, c.walk_procedure_body.ensures, c.walk_declarations.ensures, c.walk_heading.ensures)
+    (simp (items-append, more-more, append_assoc))
+
+pub walk_declarations-loop-procedure-init : goal.walk_declarations-loop-procedure-init
+walk_declarations-loop-procedure-init t c = grind (arith, declaration_walks)
+
+pub walk_declarations-loop-procedure-preserved : goal.walk_declarations-loop-procedure-preserved
+walk_declarations-loop-procedure-preserved t c = grind (arith, declaration_walks)
+
+pub walk_declarations-returns : goal.walk_declarations-returns
+walk_declarations-returns t c = grind (arith, declaration_walks)

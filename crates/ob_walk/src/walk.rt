@@ -1,0 +1,8 @@
+//! The tokens of a tree in order, each with what it does where it stands.
+
+pub(crate) mod declarations;
+pub(crate) mod declared;
+mod expressions;
+mod names;
+mod statements;
+mod types;
