@@ -7,7 +7,7 @@ once, each time the least of three; where valgrind is there, of a part of it the
 Then, by valgrind, it counts the instructions of some networks, and of trees and indexes, each made against one table, search or
 look-ahead, those at twice the bytes over those at once. Then it tells the times of numbers of many bytes in an index over those of as
 many bytes in numbers of one byte. Last it gives the program an address space that is just enough: there it has to answer, or to tell
-want of memory, within some seconds.
+want of memory, within some seconds; and folders to which many paths of links lead, with as many names as there may be, and with one more.
 
 Each row ends with what is wrong, as more than it may take, or with `ok`. The status is 1 where something is wrong.
 
@@ -620,6 +620,26 @@ def bound(program, folder):
     return wrong
 
 
+def walked(program, folder):
+    """Tells seconds of walks through folders, from each of which two links lead to the next, with as many names as there may be along the links, and with one more. Returns how much is wrong."""
+    wrong, most = 0, 60
+    head("Input", "Names", "Seconds", "at most")
+    for more, status, line in ((2, ANSWERED, b""), (3, UNREAD, b"oscip: cannot read links3/0\n")):
+        # two links on each of 19 levels, 2^20 - 2 names in all
+        for level in range(20):
+            os.makedirs(f"{folder}/links{more}/{level}")
+        for level in range(19):
+            for name in "ab":
+                os.symlink(f"../{level + 1}", f"{folder}/links{more}/{level}/{name}")
+        for name in range(more):
+            os.mkdir(f"{folder}/links{more}/0/{name}")
+        ends = ended([program, "unresolved", f"links{more}/0"], folder)
+        faults = [f"status {ends[0]}, {ends[1][:200]!r}"] if ends[:2] != (status, line) else []
+        faults += ["too many seconds"] if ends[2] > most else []
+        wrong += row("folders with two links each to the next", faults, f"{(1 << 20) - 2 + more:,}", f"{ends[2]:.2f}", str(most))
+    return wrong
+
+
 def part_grown(program, words, folder, path, text):
     """The instructions at twice the bytes over those at once, of a part of the input, and how often a run ended in another way than it may."""
     global PART
@@ -709,7 +729,7 @@ def main(program=f"{HERE}/../crates/oscip/out/oscip", runs="500"):
     try:
         path = os.path.realpath(program)
         subprocess.run(["cc", "-O1", "-o", f"{folder}/peak", f"{HERE}/peak.c"], check=True)
-        wrong = changing(path, folder, int(runs)) + harmful(path, folder) + counted(path, folder) + grown(path, folder) + beside(path, folder) + bound(path, folder)
+        wrong = changing(path, folder, int(runs)) + harmful(path, folder) + counted(path, folder) + grown(path, folder) + beside(path, folder) + bound(path, folder) + walked(path, folder)
     finally:
         shutil.rmtree(folder)
     print(f"{wrong} wrong")

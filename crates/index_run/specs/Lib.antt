@@ -1,1 +1,2 @@
 pub mod IndexRuns
+pub mod FolderRuns

@@ -1,6 +1,6 @@
 //! The program: reads files, runs one engine on the real standard output, and ends with a status.
 //! Stands on `oscip_job` for the command line, on `oscip_run` for the files, the engines and the faults, and on `index_run` for the engines that index.
-//! Its contract: what an engine puts is what the definitions say of its inputs, and nothing else.
+//! Its contract: it is safe; what is put is what the calls of `oscip_run` and `index_run` promise.
 #![tactic(auto)]
 
 ghost use Rattle.std.specs.String.{string_bytes};
@@ -8,10 +8,10 @@ ghost use Rattle.oscip_tree.specs.Sources.{ArePathsInOrder};
 ghost use Rattle.oscip_job.specs.Jobs.{HasPackage, HasWorkers, IsPackage, MayWork};
 
 use byte_sink::{Sink, ToWrite};
-use index_run::{OpenBoard, answer_index, unresolved_to};
+use index_run::{OpenBoard, answer_index, run_unresolved, sources_to_index};
 use oscip_job::{Indexing, Job, JobFault, Output, job_of};
 use oscip_run::{
-    RunFault, SystemFiles, fault_line, run_crossings, run_net, run_question, run_tree, sources_of,
+    Reader, RunFault, SystemFiles, fault_line, run_crossings, run_net, run_question, run_tree,
     status_of, status_of_run, status_of_words,
 };
 use oscip_tree::Source;
@@ -53,31 +53,21 @@ fn index_to_file<R: Files + AllocGlobal + Threads + Wait + Sync>(
 }
 
 /// Makes an index, once all files of its folder are read. Nothing of it is a check that says no.
-fn run_index<R: Files + AllocGlobal + Threads + Wait + Sync + Clone + Drop, S: Sink>(
+fn run_index<R: Files + AllocGlobal + Threads + Wait + Sync, F: Reader, S: Sink>(
     rt: &R,
+    reader: &F,
     indexing: &Indexing,
     sink: &mut S,
 ) -> Result<bool, RunFault>
     requires package { IsPackage (string_bytes indexing.now.package) }
     requires workers { MayWork indexing.now.workers }
 {
-    let sources = sources_of(rt, indexing.folder.as_str())?;
+    let sources = sources_to_index(reader, indexing)?;
     let sources = sources.as_slice();
     match &indexing.output {
         Output::File(path) => index_to_file(rt, indexing, sources, path.as_str())?,
         Output::Hex => answer_index(rt, rt.alloc(), indexing, sources, &OpenBoard, sink)?,
     }
-    Ok(true)
-}
-
-/// Tells which identifiers of a folder's modules mean nothing. Nothing of it is a check that says no.
-fn run_unresolved<R: Files + AllocGlobal + Threads + Sync + Clone + Drop, S: Sink>(
-    rt: &R,
-    folder: &str,
-    sink: &mut S,
-) -> Result<bool, RunFault> {
-    let sources = sources_of(rt, folder)?;
-    unresolved_to(rt, rt.alloc(), sources.as_slice(), sink)?;
     Ok(true)
 }
 
@@ -100,8 +90,10 @@ fn run_job<R: Files + AllocGlobal + Print + Threads + Wait + Sync + Clone + Drop
             run_net(rt, rt.alloc(), &reader, job, &mut sink)
         }
         Job::Def(_) | Job::Refs(_) => run_question(rt.alloc(), &reader, job, &mut sink),
-        Job::Index(indexing) => run_index(rt, indexing, &mut sink),
-        Job::Unresolved { folder } => run_unresolved(rt, folder.as_str(), &mut sink),
+        Job::Index(indexing) => run_index(rt, &reader, indexing, &mut sink),
+        Job::Unresolved { folder } => {
+            run_unresolved(rt, rt.alloc(), &reader, folder.as_str(), &mut sink)
+        }
     }
 }
 

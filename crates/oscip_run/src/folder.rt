@@ -16,6 +16,9 @@ use std::{fs, io};
 /// The most folders that a folder may lie in, below the one that is walked.
 const LEVELS: u32 = 32;
 
+/// The most names that a walk looks at, each once for every path that leads to it.
+const NAMES: u64 = 1 << 20;
+
 /// The most bytes that a module may have.
 const MODULE_LIMIT: u64 = 1 << 24;
 
@@ -156,7 +159,7 @@ fn finish<R: Files + AllocGlobal + Clone + Drop>(
     folder: &str,
     walk: &mut Walk,
 ) -> Result<(), ReadFault> {
-    for _ in 0..u64::MAX {
+    for _ in 0..NAMES + 1 {
         let Some(place) = walk.pending.pop() else {
             return Ok(());
         };
@@ -253,7 +256,8 @@ fn sources_below<R: Files + AllocGlobal + Clone + Drop>(
 /// The files below a folder whose names end in `.Mod` or `.mod`, in the order of their paths. Links are followed, and
 /// a folder is walked whatever its name. All names are walked first, and then the files are read by path, each to one
 /// byte beyond the limit of a module. Refuses with `CannotRead` a folder or file that can't be read, a folder below more
-/// than 32 others, a name that isn't UTF-8, by its folder, and a module that is no regular file; and with `Memory`.
+/// than 32 others, a name that isn't UTF-8, by its folder, a module that is no regular file, and more than 1,048,576 names,
+/// counted along links, by the folder that is walked; and with `Memory`.
 pub fn sources_of<R: Files + AllocGlobal + Clone + Drop>(
     rt: &R,
     folder: &str,
