@@ -7,7 +7,8 @@ once, each time the least of three; where valgrind is there, of a part of it the
 Then, by valgrind, it counts the instructions of some networks, and of trees and indexes, each made against one table, search or
 look-ahead, those at twice the bytes over those at once. Then it tells the times of numbers of many bytes in an index over those of as
 many bytes in numbers of one byte. Last it gives the program an address space that is just enough: there it has to answer, or to tell
-want of memory, within some seconds; and folders to which many paths of links lead, with as many names as there may be, and with one more.
+want of memory, within some seconds; and folders to which many paths of links lead, with as many names as there may be, with one more,
+and with a link to itself.
 
 Each row ends with what is wrong, as more than it may take, or with `ok`. The status is 1 where something is wrong.
 
@@ -335,6 +336,12 @@ def imported(names):
     return one(b"MODULE M; IMPORT " + b", ".join(names) + b"; END M.")
 
 
+def constants(k):
+    """A module of constants whose first tokens, by their numbers, begin in an eighth of a table as large as it is with twice as many."""
+    gaps = printed("gaps", str(2 * many(32_768)), "13", "4", "4")[: k * many(32_768)]
+    return one(b"MODULE M; CONST " + b"".join(b"c%d = %s1; " % (at, int(gap) * b"~") for at, gap in enumerate(gaps)) + b"END M.")
+
+
 def outside(names):
     """A module that uses these names of a module which isn't in the tree, twice each."""
     return one(b"MODULE M; IMPORT X; BEGIN " + b"; ".join(b"X.%s := X.%s" % (it, it) for it in names) + b" END M.")
@@ -443,6 +450,7 @@ GROWN = [
             "names of variables that fall together": (lambda k: declared(together(k)),),
             "names of constants that fall together": (lambda k: declared(together(k), b"CONST", b"%s = 1; "),),
             "names of variables and of uses that fall together": (lambda k: half_declared(together(k)),),
+            "constants whose first tokens begin in an eighth of a table": (constants,),
             "names of local variables that fall together": (lambda k: locals_of(together(k, bits=14)),),
             "names that fall together with their block, of a module that hides one": (lambda k: hidden(together(k, "8:0", "4:0")),),
             "names of fields that fall together with their record": (lambda k: fields_of(together(k, "4:6")),),
@@ -455,6 +463,7 @@ GROWN = [
             "one name in 20,000 procedures": (lambda k: same_locals(many(20_000) * k),),
             "names of 200 letters": (lambda k: declared(long_names(many(5_000) * k)),),
             "modules that declare a few names": (lambda k: small_modules(many(2_048) * k, lambda it: ()),),
+            "modules that declare a few names, each of which imports the one before it": (lambda k: small_modules(many(2_048) * k, lambda it: (it - 1,) if it else ()), 3.4),
             "190 parentheses in one another, again and again": (lambda k: one(b"MODULE M; BEGIN " + b"; ".join(many(400) * k * [190 * b"h(" + b"x" + 190 * b")"]) + b" END M."),),
         },
     ),
@@ -637,7 +646,21 @@ def walked(program, folder):
         faults = [f"status {ends[0]}, {ends[1][:200]!r}"] if ends[:2] != (status, line) else []
         faults += ["too many seconds"] if ends[2] > most else []
         wrong += row("folders with two links each to the next", faults, f"{(1 << 20) - 2 + more:,}", f"{ends[2]:.2f}", str(most))
-    return wrong
+    return wrong + returned(program, folder)
+
+
+def returned(program, folder):
+    """Tells the memory of a walk through a folder of long names with a link to itself, and returns how much is wrong."""
+    most, names = 400 << 20, many(40_000)
+    os.makedirs(f"{folder}/again")
+    os.symlink(".", f"{folder}/again/a")
+    for name in range(names):
+        open(f"{folder}/again/b{name:0199}", "wb").close()
+    head("Input", "Names", "Bytes of memory", "at most")
+    ends = ended([program, "unresolved", "again"], folder)
+    faults = [f"status {ends[0]}, {ends[1][:200]!r}"] if ends[0] != UNREAD else []
+    faults += ["too much memory"] if ends[3] > most else []
+    return row("a folder with a link to itself", faults, f"{names:,}", f"{ends[3]:,}", f"{most:,}")
 
 
 def part_grown(program, words, folder, path, text):
@@ -700,7 +723,7 @@ BESIDE = {
     "a range of numbers of three bytes": (
         lambda: document(definition(b"") + definition(record(1, 3_000_000 * b"\xa0\x9c\x01"))),
         lambda: document(definition(b"") + definition(record(1, 9_000_000 * b"\x01"))),
-        3,
+        1.5,
     ),
 }
 

@@ -9,7 +9,7 @@ use crate::Work;
 use std::alloc::{AllocError, Global};
 use std::marker::Brand;
 use std::sync::Arc;
-use work_board::{Board, Claim, Graph, NamedTree, WorkEntry};
+use work_board::{Board, BoardFault, Claim, Graph, NamedTree, WorkEntry};
 
 /// Claims the next module, and takes the parts for it; none where all are delivered.
 fn claimed<T: NamedTree, E: WorkEntry>(
@@ -30,7 +30,8 @@ fn claimed<T: NamedTree, E: WorkEntry>(
             board.keeps();
             match board.interfaces(number) {
                 Ok(parts) => Ok(Some((number, parts))),
-                Err(_) => Err(AllocError),
+                Err(BoardFault::Memory) => Err(AllocError),
+                Err(_) => unreachable!(),
             }
         }
     }

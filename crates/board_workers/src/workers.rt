@@ -12,7 +12,7 @@ use std::marker::Brand;
 use std::sync::{Arc, Condvar, Mutex, MutexGuard, Wait};
 use std::thread;
 use std::thread::Threads;
-use work_board::{Board, Claim, Graph, NamedTree, WorkEntry};
+use work_board::{Board, BoardFault, Claim, Graph, NamedTree, WorkEntry};
 
 /// A board behind a lock.
 type Locked<'g, T, E> = Mutex<Board<'g, T, E>>;
@@ -39,10 +39,11 @@ fn take<T: NamedTree, E: WorkEntry>(
             board.keeps();
             match board.interfaces(number) {
                 Ok(parts) => Ok(Some((number, parts))),
-                Err(_) => {
+                Err(BoardFault::Memory) => {
                     board.abandon(number);
                     Ok(None)
                 }
+                Err(_) => unreachable!(),
             }
         }
     }

@@ -3,7 +3,7 @@ ghost use Rattle.std.specs.Prelude.{◌≡◌, ◌≢◌, ◌<◌, Err, IfOk, le
 ghost use Rattle.cut_net.specs.Answers.{said_by, said_by_cut};
 ghost use Rattle.cut_net.specs.Lines.{IsAnswer, IsCheapestSaid};
 ghost use Rattle.cut_solve.specs.Faults.{Tells};
-ghost use Rattle.cut_solve.specs.Solving.{IsSolveOutcome, SolveRefusal};
+ghost use Rattle.cut_solve.specs.Solving.{AreNeeded, IsSolveOutcome, SolveRefusal};
 
 use crate::maximum_flow::maximum_flow;
 use cut_net::{Answer, Cut, Net};
@@ -38,7 +38,10 @@ pub fn plain(alloc: Global, net: &Net, from: &str, to: &str) -> Result<Answer, S
     ensures exact { Tells said_by result (IsSolveOutcome net.now from.now to.now) }
     // What is wrong with the names is answered unless memory runs out.
     ensures refused { (refusal : SolveRefusal) → IsSolveOutcome net.now from.now to.now (Err refusal) → Tells said_by result (λ o. o ≡ Err refusal) }
+    // Each import of a cut is needed: with all others removed a chain still leads from the one module to the other.
+    ensures needed { IfOk result (λ answer. AreNeeded net.now from.now to.now (said_by answer)) }
 {
+    net.keeps();
     let from = module_of(alloc, net, from)?;
     let to = module_of(alloc, net, to)?;
     if from == to {

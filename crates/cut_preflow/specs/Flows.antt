@@ -4,6 +4,7 @@ use Rattle.cut_net.specs.declared.priced.Priced.{Priced}
 use Rattle.cut_net.specs.Network.{Network}
 use Rattle.cut_net.specs.Cuts.{AreThose, IsFlow, Near, Reached}
 use Rattle.cut_net.specs.Lines.{flow_by}
+use Rattle.cut_net.specs.Pins.{ArePins, NearWithPins, PinChain}
 use Rattle.cut_part.specs.Apart.{flow_lines}
 use Rattle.cut_part.specs.Narrowing.{IsBarred}
 use Rattle.cut_preflow.specs.Preflow.{FlowNetwork, State, inflow, outflow}
@@ -50,3 +51,8 @@ AreReached flow_net s marks = (net : Network) → IsOf net flow_net → AreThose
 -- the marked modules are those that are near
 abbrev pub AreNear : FlowNetwork → List Bool → Type 0
 AreNear flow_net marks = (net : Network) → IsOf net flow_net → AreThose (has marks) (Near net flow_net.source flow_net.sink)
+
+-- and where no chain of pins leads from the source to the sink, those that are near with pins
+abbrev pub AreNearWithPins : FlowNetwork → List Bool → Type 0
+AreNearWithPins flow_net marks =
+    (net : Network) → IsOf net flow_net → ArePins net → (PinChain net flow_net.source flow_net.sink → ⊥) → AreThose (has marks) (NearWithPins net flow_net.source flow_net.sink)

@@ -4,7 +4,7 @@ ghost use Rattle.cut_net.specs.Pins.{PinChain};
 ghost use Rattle.cut_preflow.specs.Preflow.{count, import_at, flow_at, label_at, excess, inflow, outflow, is_active, applies, after, opening, is_legal};
 ghost use Rattle.cut_preflow.specs.Kept.{IsFlowNetwork, IsQuiet};
 ghost use Rattle.cut_preflow.specs.Bound.{most_changes};
-ghost use Rattle.cut_preflow.specs.Flows.{AreEnds, AreNear, AreReached, HasFlow, IsShutOff, network_between, network_on};
+ghost use Rattle.cut_preflow.specs.Flows.{AreEnds, AreNear, AreNearWithPins, AreReached, HasFlow, IsShutOff, network_between, network_on};
 ghost use Rattle.cut_preflow.specs.Trace.{state_of, step_outcome, history_after, IsSound, IsWithinLimits};
 ghost use Rattle.cut_preflow.specs.Settled.{Appends, AppendsUpTo};
 ghost use Rattle.cut_preflow.specs.Shares.{count_after, mark_after};
@@ -15,6 +15,7 @@ use crate::event::SettleFault;
 use crate::preflow_core::{PreflowCore, opening};
 use crate::share::MOST_SHARES;
 use crate::{Event, NetworkLedger, Outcome, Share, Step};
+use cut_net::laws::near_with_pins;
 use cut_net::{Net, Priced};
 use std::alloc::{AllocError, Global};
 use std::marker::Model;
@@ -322,14 +323,16 @@ impl<L: NetworkLedger> Preflow<L> {
         }
     }
 
-    /// Marks what the source reaches by arcs with residual above 0, by the modules' numbers. Once quiet, these are the near modules, and
-    /// the sink is none of them. Fails where memory is refused.
+    /// Marks what the source reaches by arcs with residual above 0, by the modules' numbers. Once quiet, these are the near modules, with
+    /// pins too where no chain of pins leads from the source to the sink, and the sink is none of them. Fails where memory is refused.
     pub fn side(&self) -> Result<Vec<bool>, AllocError>
         ensures size { IfOk result (λ m. length m.items ≡ self.now.trace.net.nodes) }
         ensures reached { IfOk result (λ m. AreReached self.now.trace.net (state_of self.now.trace) m.items) }
         ensures near { IsQuiet self.now.trace.net (state_of self.now.trace) → IfOk result (λ m. AreNear self.now.trace.net m.items) }
+        ensures near_with_pins { IsQuiet self.now.trace.net (state_of self.now.trace) → IfOk result (λ m. AreNearWithPins self.now.trace.net m.items) }
         ensures end { IsQuiet self.now.trace.net (state_of self.now.trace) → IfOk result (λ m. has m.items self.now.trace.net.sink ≡ false) }
     {
+        near_with_pins();
         self.plain.side()
     }
 }

@@ -7,3 +7,9 @@ pub mod Started
 pub mod Lower
 pub mod Settled
 pub mod Refusals
+pub mod Needing
+pub mod LeastChain
+pub mod Resting
+pub mod Reachable
+pub mod SomeAnswer
+pub mod OneAnswer

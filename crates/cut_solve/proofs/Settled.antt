@@ -31,7 +31,7 @@ use Rattle.cut_solve.proofs.Started.{below_size, either_way, narrow_between, tur
 
 -- a flow by another function that is the same on each import
 module _ (net : Network) (a b : ℕ) (f g : Priced → ℕ) (same : (i : Priced) → Contains net.imports i → f i ≡ g i) where
-  same_flow : (value : ℕ) → IsFlow net a b f value → IsFlow net a b g value
+  pub same_flow : (value : ℕ) → IsFlow net a b f value → IsFlow net a b g value
   same_flow value is =
       let into = λ (m : ℕ). sum_by-same (λ (i : Priced). if i.to == m then f i else 0) (λ i. if i.to == m then g i else 0) net.imports (λ i c. ap (λ x. if i.to == m then x else 0) (same i c)) in
       let out = λ (m : ℕ). sum_by-same (λ (i : Priced). if i.from == m then f i else 0) (λ i. if i.from == m then g i else 0) net.imports (λ i c. ap (λ x. if i.from == m then x else 0) (same i c)) in
@@ -41,7 +41,7 @@ module _ (net : Network) (a b : ℕ) (f g : Priced → ℕ) (same : (i : Priced)
         at_start = let i = into a in let o = out a in let s = is.at_start in omega arith;
       }
 
-  same_closed : (modules : ℕ → Bool) → IsClosed net f modules → IsClosed net g modules
+  pub same_closed : (modules : ℕ → Bool) → IsClosed net f modules → IsClosed net g modules
   same_closed modules closed = record {
     forward = λ i c room. closed.forward i c (subst (λ x. x < i.amount) (sym (same i c)) room);
     backward = λ i c some. closed.backward i c (subst (λ x. 0 < x) (sym (same i c)) some);
@@ -215,34 +215,37 @@ pub record IsSearched (net : Network) (a b : ℕ) (flow : List ℕ) (near : List
   pub end : is_seen near b ≡ came
 
 -- the flow of the arcs is that flow
-module _ (net : Network) (a b : ℕ) (flow : List ℕ) (near : List Bool) (came : Bool) (searched : IsSearched net a b flow near came) (up : IsAscending net.imports) (a_in : a < length net.names) where
+module _ (net : Network) (flow : List ℕ) (same : length flow ≡ length net.imports) (up : IsAscending net.imports) where
   abbrev arcs : List Arc
   arcs = carrying net.imports flow
 
   abbrev on : Priced → ℕ
   on = flow_by (flow_lines net.imports flow)
 
-  imports_are : imports_of arcs ≡ net.imports
-  imports_are = carrying_imports net.imports flow searched.same
+  pub imports_are : imports_of arcs ≡ net.imports
+  imports_are = carrying_imports net.imports flow same
 
-  agree : (i : Priced) → Contains net.imports i → on i ≡ flow_on arcs i
+  pub agree : (i : Priced) → Contains net.imports i → on i ≡ flow_on arcs i
   agree = at_numbers net.imports (λ i. on i ≡ flow_on arcs i) (λ k h.
       let size : length arcs ≡ length net.imports = sym (length-map arcs import_on) ∙ ap length imports_are in
       let here : import_on (get_or arcs k no_arc) ≡ import_in net.imports k =
       sym (get_or-map import_on arcs k no_arc none_there (omega arith)) ∙ ap (λ (v : List Priced). get_or v k none_there) imports_are in
-      flow_by_number net.imports flow (ascending_apart net.imports up) searched.same k h ∙ sym (carrying_at net.imports flow searched.same k h)
+      flow_by_number net.imports flow (ascending_apart net.imports up) same k h ∙ sym (carrying_at net.imports flow same k h)
       ∙ sym (flow_is arcs (subst IsAscending (sym imports_are) up) k (omega arith)) ∙ ap (flow_on arcs) here)
 
+-- so it is a greatest one where the search doesn't come to the end
+module _ (net : Network) (a b : ℕ) (flow : List ℕ) (near : List Bool) (came : Bool) (searched : IsSearched net a b flow near came) (up : IsAscending net.imports) (a_in : a < length net.names) where
   pub settled_greatest : (value : ℕ) → IsFlow net a b (flow_by (flow_lines net.imports flow)) value → came ≡ false →
       IsMaximumFlow net a b near (filter has_flow (map flow_line (carrying net.imports flow)))
-  settled_greatest value is missed = greatest_by net arcs a b value imports_are up a_in (same_flow net a b on (flow_on arcs) agree value is) near searched.reached searched.closed (searched.end ∙ missed)
+  settled_greatest value is missed = greatest_by net (carrying net.imports flow) a b value (imports_are net flow searched.same up) up a_in
+      (same_flow net a b (flow_by (flow_lines net.imports flow)) (flow_on (carrying net.imports flow)) (agree net flow searched.same up) value is) near searched.reached searched.closed (searched.end ∙ missed)
 
   pub settled_end : IsBarred net (flow_by (flow_lines net.imports flow)) a b → came ≡ false
-  settled_end barred = sym searched.end ∙ end_unmarked net arcs a b imports_are up a_in (
+  settled_end barred = sym searched.end ∙ end_unmarked net (carrying net.imports flow) a b (imports_are net flow searched.same up) up a_in (
     barred.0,
     record {
       start = barred.1.start;
       end = barred.1.end;
-      closed = same_closed net a b on (flow_on arcs) agree barred.0 barred.1.closed;
+      closed = same_closed net a b (flow_by (flow_lines net.imports flow)) (flow_on (carrying net.imports flow)) (agree net flow searched.same up) barred.0 barred.1.closed;
     },
   ) near searched.reached searched.closed

@@ -1,5 +1,5 @@
 //! Two workers whose turns a gate orders, and workers whose gate is open.
-ghost use Rattle.std.specs.Prelude.{◌≡◌, false};
+ghost use Rattle.std.specs.Prelude.{◌≡◌, ◌≤◌, false};
 ghost use Rattle.cut_net.specs.Pins.{PinChain};
 ghost use Rattle.cut_preflow.specs.Flows.{AreEnds, network_between};
 
@@ -200,14 +200,17 @@ fn told_on_line<R: Threads + Wait + Sync, G: Gate + Sync>(
     told_in::<Brand, R, G>(rt, alloc, Blank::new(PARTS), &net, gate)
 }
 
-/// The cut of the line of three imports by two workers at a gate.
+/// The cut of the line of three imports by so many workers at a gate.
 fn told_cut<R: Threads + Wait + Sync, G: Gate + Sync>(
     rt: &R,
     alloc: Global,
+    workers: u32,
     gate: &G,
-) -> Result<String, AllocError> {
+) -> Result<String, AllocError>
+    requires { (1 ≤ workers) × (workers ≤ 64) }
+{
     let net = net_of(alloc, THREE_IMPORTS, b"")?;
-    match solve(rt, alloc, &net, "A", "B", 2, gate) {
+    match solve(rt, alloc, &net, "A", "B", workers, gate) {
         Ok(answer) => told_answer(alloc, &answer),
         Err(_) => Err(AllocError),
     }
@@ -231,7 +234,7 @@ fn two_workers_take_turns(rt: HostRuntime) -> Result<(), Fail> {
 #[test]
 fn the_solver_takes_turns(rt: HostRuntime) -> Result<(), Fail> {
     let gate = Holds::new(&rt);
-    let cut = told_cut(&rt, rt.alloc(), &gate)?;
+    let cut = told_cut(&rt, rt.alloc(), 2, &gate)?;
     assert!(rt; gate.were_passed());
     is_told(
         &rt,
@@ -262,6 +265,18 @@ fn one_worker_takes_all_steps_or_none(rt: HostRuntime) -> Result<(), Fail> {
         &rt,
         found.as_str(),
         "marked true counted true whole true out 0 quiet true after 4",
+    );
+    Ok(())
+}
+
+// Where memory for the history is refused to the worker, the last pass takes all steps.
+#[test]
+fn one_worker_or_none_finds_the_cut(rt: HostRuntime) -> Result<(), Fail> {
+    let cut = told_cut(&rt, rt.alloc(), 1, &OpenGate)?;
+    is_told(
+        &rt,
+        cut.as_str(),
+        "weight 2 remove 0 2 2 flow 0 2 2 flow 2 3 2 flow 3 1 2",
     );
     Ok(())
 }

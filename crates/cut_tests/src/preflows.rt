@@ -24,6 +24,8 @@ pub(crate) enum Trial {
     Shares,
     /// Steps in a share and outside of it.
     Counts,
+    /// A relabel of the third module.
+    Raised,
 }
 
 /// What is told of a trial; and once the preflow is settled the modules that are near, and the imports that carry flow.
@@ -258,6 +260,36 @@ fn tell_counts<L: NetworkLedger>(
     write!(text, "{quiet} {:?} {out} out; ", preflow.history())
 }
 
+/// Raises the label of the third module, once more where memory was refused to that, and tells the label behind the refusal and in the end.
+fn tell_raised<L: NetworkLedger>(
+    text: &mut String,
+    net: &Net,
+    ends: (u32, u32),
+    preflow: &mut Preflow<L>,
+) -> Result<(), AllocError>
+    requires { preflow.old.trace.net ≡ network_between net.now ends.0 ends.1 }
+    ensures { preflow.new.trace.net ≡ preflow.old.trace.net }
+{
+    let _ = ends;
+    if net.nodes() < 3 {
+        return Err(AllocError);
+    }
+    let event = Event {
+        worker: 7,
+        step: Step::Relabel { node: 2 },
+    };
+    let mut refused = 0;
+    if preflow.apply(event) == Outcome::Refused {
+        refused = preflow.label(2);
+        let _ = preflow.apply(event);
+    }
+    write!(
+        text,
+        "refused at {refused} raised to {}; ",
+        preflow.label(2)
+    )
+}
+
 fn tell_trial<L: NetworkLedger>(
     text: &mut String,
     alloc: Global,
@@ -286,6 +318,7 @@ fn tell_trial<L: NetworkLedger>(
         }
         Trial::Shares => tell_shares(text, preflow),
         Trial::Counts => tell_counts(text, preflow),
+        Trial::Raised => tell_raised(text, net, ends, preflow),
     }
 }
 
@@ -471,6 +504,12 @@ const ROWS: &[(&[u8], Trial, &str)] = &[
         "false Raised { label: 1 } 1 false; false Stale 1 false; false Moved { amount: 2 } 1 false; \
         1 true; true [Event { worker: 7, step: Relabel { node: 2 } }, Event { worker: 7, step: Push { arc: 2 } }] 0 out; \
         None None Quiet quiet true after 2 side [true, false, false]; ",
+    ),
+    // Where memory for the history is refused to a relabel, the label stays.
+    (
+        TWO_IMPORTS,
+        Trial::Raised,
+        "refused at 0 raised to 1; None None Quiet quiet true after 2 side [true, false, false]; ",
     ),
 ];
 

@@ -17,6 +17,7 @@ use Rattle.oscip_run.specs.declared.fault.RunFault.TheVariants.{CannotRead, Cann
 use Rattle.oscip_tree.specs.declared.source.Source.{Source}
 use Rattle.scip_index.specs.Plain.{PlainIndex}
 use Rattle.scip_index.specs.Written.{written}
+use Rattle.text_escape.specs.Escapes.{escaped}
 
 -- the bytes are the written form of the index of the tree
 pub record IsIndexText (sources : List Source) (package_name root text : List ℕ) : Type 0 where
@@ -30,9 +31,10 @@ pub record IsHexText (sources : List Source) (package_name root text : List ℕ)
   pub is_index : IsIndexText sources package_name root bytes
   pub text_is : text ≡ encode_lower bytes ++ codes "\n"
 
--- PATH:LINE:COL NAME and the end of the line: an identifier that stands for nothing, and where it begins
+-- PATH:LINE:COL NAME and the end of the line: an identifier that stands for nothing, and where it begins, with the path's control
+-- characters written out
 abbrev pub unresolved_line : PlainUnresolved → List ℕ
-unresolved_line row = row.path ++ codes ":" ++ decimal row.line ++ codes ":" ++ decimal row.column ++ codes " " ++ row.name ++ codes "\n"
+unresolved_line row = escaped row.path ++ codes ":" ++ decimal row.line ++ codes ":" ++ decimal row.column ++ codes " " ++ row.name ++ codes "\n"
 
 -- a line for each of them, in their order
 abbrev pub unresolved_lines : List PlainUnresolved → List ℕ

@@ -1,2 +1,3 @@
 pub mod IndexRuns
 pub mod FolderRuns
+pub mod WriterFaults

@@ -21,6 +21,7 @@ use scip_index::laws::in_parts;
 use std::alloc::{AllocError, Global};
 use std::sync::Wait;
 use std::thread::Threads;
+use text_escape::EscapingWriter;
 
 /// The gate of a board that lets every worker through at once.
 #[derive(Drop)]
@@ -128,26 +129,33 @@ pub fn answer_index<R: Threads + Wait + Sync, G: BoardGate + Sync, S: Sink>(
 }
 
 /// Adds the line of an identifier that stands for nothing to the text.
-fn push_line(text: &mut String, row: &Unresolved) -> Result<(), AllocError>
+fn push_line<'a>(
+    paths: &mut EscapingWriter<'a>,
+    text: &mut String,
+    row: &'a Unresolved,
+) -> Result<(), AllocError>
     ensures { IfOk result (λ _. string_bytes text.new ≡ string_bytes text.old ++ unresolved_line (plain_unresolved row.now)) }
 {
-    let (path, at, name) = (&row.path, row.at, &row.name);
-    writeln!(text, "{path}:{}:{} {name}", at.line, at.column)
+    let (at, name) = (row.at, &row.name);
+    paths.push(text, row.path.as_str())?;
+    writeln!(text, ":{}:{} {name}", at.line, at.column)
 }
 
 /// The lines of identifiers that stand for nothing, in their order.
 fn lines_of(alloc: Global, rows: &[Unresolved]) -> Result<String, AllocError>
     ensures { IfOk result (λ text. string_bytes text ≡ unresolved_lines (map plain_unresolved rows.now)) }
 {
+    let mut paths = EscapingWriter::new();
     let mut text = String::new(alloc);
     for row in rows {
-        push_line(&mut text, row)?;
+        push_line(&mut paths, &mut text, row)?;
     }
     Ok(text)
 }
 
 /// Puts a line for each identifier of a tree that stands for nothing and isn't predeclared, as `PATH:LINE:COL NAME`: where it
-/// begins, from 0, columns in bytes, in the order of the files and in each by start. Refuses with `Tree`, `Device` or `Memory`.
+/// begins, from 0, columns in bytes, in the order of the files and in each by start. Control characters of a path are written out.
+/// Refuses with `Tree`, `Device` or `Memory`.
 pub fn unresolved_to<R: Threads + Sync, S: Sink>(
     rt: &R,
     alloc: Global,

@@ -1,10 +1,11 @@
 //! An index, put into a sink document by document.
-ghost use Rattle.std.specs.Prelude.{◌≡◌, IsSome, None, OnOk, map};
+ghost use Rattle.std.specs.Prelude.{◌≡◌, IfErr, IsSome, None, OnOk, map};
 ghost use Rattle.proto_wire.specs.Writers.{is_failure, PutsRecord};
 ghost use Rattle.byte_sink.specs.Sinks.{failures_after, failures_by, is_device, Puts};
 ghost use Rattle.scip_index.specs.declared.writer.Stage.TheVariants.{Open};
 ghost use Rattle.scip_index.specs.Plain.{plain_document, plain_index};
 ghost use Rattle.scip_index.specs.Written.{documents_part, written};
+ghost use Rattle.index_run.specs.WriterFaults.{IsOfSink};
 
 use byte_sink::{Sink, SinkFault};
 use proto_wire::WireFault;
@@ -22,6 +23,7 @@ fn put_documents<S: Sink>(
     requires well { writer.old.refusal ≡ None }
     ensures puts { PutsRecord (S.taken sink.old) (S.taken sink.new) result (documents_part (map plain_document documents.items)) }
     ensures failures { S.failures sink.new ≡ failures_by is_failure result (S.failures sink.old) }
+    ensures of_sink { IfErr result IsOfSink }
     ensures stage { OnOk result (writer.new.stage ≡ Open) }
     ensures well { OnOk result (writer.new.refusal ≡ None) }
 {
@@ -36,6 +38,7 @@ fn put_parts<S: Sink>(alloc: Global, index: Index, sink: &mut S) -> Result<(), W
     requires { IsSome index.metadata }
     ensures puts { PutsRecord (S.taken sink.old) (S.taken sink.new) result (written (plain_index index)) }
     ensures failures { S.failures sink.new ≡ failures_by is_failure result (S.failures sink.old) }
+    ensures of_sink { IfErr result IsOfSink }
 {
     in_parts();
     let mut writer = IndexWriter::new(alloc);
@@ -49,16 +52,17 @@ fn put_parts<S: Sink>(alloc: Global, index: Index, sink: &mut S) -> Result<(), W
 
 /// Why a writer stopped: its sink failed, or memory ran out.
 pub(crate) fn stopped_by(fault: &WireFault) -> SinkFault
+    requires { IsOfSink fault.now }
     ensures { is_device result ≡ is_failure fault.now }
 {
     match fault {
         WireFault::Device => SinkFault::Device,
+        WireFault::Memory => SinkFault::Memory,
         WireFault::Truncated { .. }
         | WireFault::LongVarint { .. }
         | WireFault::Group { .. }
         | WireFault::ZeroField { .. }
-        | WireFault::BadText { .. }
-        | WireFault::Memory => SinkFault::Memory,
+        | WireFault::BadText { .. } => unreachable!(),
     }
 }
 

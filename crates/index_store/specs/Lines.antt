@@ -2,6 +2,7 @@
 use Rattle.std.specs.Prelude.{ℕ, List, ◌++◌, codes}
 use Rattle.std.specs.List.{flat_map}
 use Rattle.std.specs.Fmt.{decimal}
+use Rattle.text_escape.specs.Escapes.{escaped}
 use Rattle.index_store.specs.declared.place.Position.{Position}
 use Rattle.index_store.specs.Queries.{PlainPlace}
 
@@ -9,9 +10,9 @@ use Rattle.index_store.specs.Queries.{PlainPlace}
 abbrev pub position_text : Position → List ℕ
 position_text at = decimal at.line ++ codes ":" ++ decimal at.column
 
--- PATH:LINE:COL-LINE:COL and the end of the line: where the place begins and where it ends
+-- PATH:LINE:COL-LINE:COL and the end of the line: where the place begins and where it ends, with the path's control characters written out
 abbrev pub place_line : PlainPlace → List ℕ
-place_line place = place.path ++ codes ":" ++ position_text place.span.start ++ codes "-" ++ position_text place.span.end ++ codes "\n"
+place_line place = escaped place.path ++ codes ":" ++ position_text place.span.start ++ codes "-" ++ position_text place.span.end ++ codes "\n"
 
 -- a line for each place, in their order
 abbrev pub place_lines : List PlainPlace → List ℕ

@@ -10,19 +10,25 @@ ghost use Rattle.index_store.specs.Lines.{place_line, place_lines};
 use crate::Place;
 use byte_sink::{Sink, SinkFault, put_all};
 use std::alloc::Global;
+use text_escape::EscapingWriter;
 
 /// Lines are gathered to so many bytes, and then put.
 const ENOUGH: usize = 65536;
 
 /// Puts the line of a place behind the text.
-fn push_line(text: &mut String, place: &Place<'_>) -> Result<(), SinkFault>
+fn push_line<'a>(
+    paths: &mut EscapingWriter<'a>,
+    text: &mut String,
+    place: &Place<'a>,
+) -> Result<(), SinkFault>
     ensures line { OnOk result (string_bytes text.new ≡ string_bytes text.old ++ place_line (plain_place place.now)) }
     ensures memory { IfErr result (λ fault. fault ≡ Memory) }
 {
-    let (path, start, end) = (place.path, place.start, place.end);
+    let (start, end) = (place.start, place.end);
+    paths.push(text, place.path).map_err(|_| SinkFault::Memory)?;
     writeln!(
         text,
-        "{path}:{}:{}-{}:{}",
+        ":{}:{}-{}:{}",
         start.line, start.column, end.line, end.column
     )
     .map_err(|_| SinkFault::Memory)
@@ -41,7 +47,7 @@ fn put_enough<S: Sink>(text: &mut String, sink: &mut S) -> Result<(), SinkFault>
     Ok(())
 }
 
-/// Puts a line for each place, in their order. At a refusal a front of the lines is taken.
+/// Puts a line for each place, in their order, with the control characters of its path written out. At a refusal a front of the lines is taken.
 pub fn put_lines<S: Sink>(
     alloc: Global,
     places: &[Place<'_>],
@@ -50,10 +56,11 @@ pub fn put_lines<S: Sink>(
     ensures puts { Puts (S.taken sink.old) (S.taken sink.new) result (place_lines (map plain_place places.now)) }
     ensures failures { S.failures sink.new ≡ failures_after result (S.failures sink.old) }
 {
+    let mut paths = EscapingWriter::new();
     let mut text = String::new(alloc);
     for place in places {
         put_enough(&mut text, sink)?;
-        push_line(&mut text, place)?;
+        push_line(&mut paths, &mut text, place)?;
     }
     put_all(sink, text.as_bytes())
 }

@@ -1,13 +1,17 @@
 //! From texts to trees and tables.
 ghost use Rattle.std.specs.Prelude.{◌<◌, ◌^◌, length, IfOk, Ok};
 ghost use Rattle.ob_parse.specs.Parsed.{IsTheTree};
+ghost use Rattle.ob_rows.specs.Tables.{rows_in};
+ghost use Rattle.ob_rows.specs.Trees.{AreTreeRows};
 ghost use Rattle.ob_scan.specs.Spelling.{IsOutcome};
+ghost use Rattle.ob_scope.specs.Identified.{IsIdentifier};
 ghost use Rattle.ob_tree.specs.Derives.{spelling};
 
 use ob_decls::table_of;
 use ob_parse::{ParseFault, parse};
 use ob_rows::Table;
 use ob_scan::{Tokens, scan};
+use ob_table::read_table;
 use ob_tree::declaration::Module;
 use std::alloc::Global;
 use std::test::Fail;
@@ -30,5 +34,18 @@ pub(crate) fn table_in(alloc: Global, text: &[u8]) -> Result<Box<Table>, Fail> {
     let tokens = scan(alloc, text)?;
     let tree = parsed(alloc, text, &tokens)?;
     let table = table_of(alloc, &tree)?;
+    Ok(Box::new(alloc, table)?)
+}
+
+/// The table of a text with these tokens, in one pass over them.
+pub(crate) fn table_by_tokens(
+    alloc: Global,
+    text: &[u8],
+    tokens: &Tokens,
+) -> Result<Box<Table>, Fail>
+    requires { IsOutcome text.now (Ok tokens.now) }
+    ensures { IfOk result (λ t. AreTreeRows (IsIdentifier tokens.now) (length tokens.now) (rows_in t.value)) }
+{
+    let table = read_table(alloc, text, tokens)?;
     Ok(Box::new(alloc, table)?)
 }

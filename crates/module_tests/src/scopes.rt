@@ -1,7 +1,7 @@
 //! Texts, each with the scopes of its module, or the first two of one name.
 use crate::asked::Asked::{ByTree, Meanings};
 use crate::asked::{Row, are_told};
-use crate::readings::{parsed, table_in};
+use crate::readings::{parsed, table_by_tokens};
 use ob_scan::laws::tokens_in_text;
 use ob_scan::scan;
 use ob_scope::{Scopes, scopes_from};
@@ -144,7 +144,7 @@ fn told_of_scopes(alloc: Global, scopes: &Scopes, tokens: u32) -> Result<String,
 pub(crate) fn told_scopes(alloc: Global, text: &[u8]) -> Result<String, Fail> {
     let tokens = scan(alloc, text)?;
     tokens_in_text();
-    let table = table_in(alloc, text)?;
+    let table = table_by_tokens(alloc, text, &tokens)?;
     match scopes_from(alloc, &table, tokens.as_slice(), text) {
         Ok(scopes) => Ok(told_of_scopes(alloc, &scopes, tokens.len() as u32)?),
         Err(fault) => Ok(format!(in alloc; "{fault:?}")?),

@@ -2,7 +2,7 @@
 
 use crate::asked::Asked::Meanings;
 use crate::asked::{Row, are_told};
-use crate::readings::table_in;
+use crate::readings::table_by_tokens;
 use crate::scopes::{told_by_tree, told_scopes};
 use ob_scan::laws::tokens_in_text;
 use ob_scan::scan;
@@ -52,7 +52,7 @@ fn compare_meanings<R: Abort + AllocGlobal>(rt: &R, text: &[u8]) -> Result<(), F
     let alloc = rt.alloc();
     tokens_in_text();
     let tokens = scan(alloc, text)?;
-    let table = table_in(alloc, text)?;
+    let table = table_by_tokens(alloc, text, &tokens)?;
     let scopes = scopes_from(alloc, &table, tokens.as_slice(), text)?;
     let types = Types::new(alloc, text, tokens.as_slice(), &table, &scopes, &[])?;
     let count = tokens.len() as u32;
@@ -107,7 +107,7 @@ fn told_types(alloc: Global, types: &Types, tokens: u32) -> Result<String, Alloc
 fn told_of_types(alloc: Global, text: &[u8], first: u32) -> Result<String, Fail> {
     tokens_in_text();
     let tokens = scan(alloc, text)?;
-    let table = table_in(alloc, text)?;
+    let table = table_by_tokens(alloc, text, &tokens)?;
     let scopes = scopes_from(alloc, &table, tokens.as_slice(), text)?;
     let types = Types::new(alloc, text, tokens.as_slice(), &table, &scopes, &[])?;
     Ok(told_types(alloc, &types, first)?)

@@ -1,8 +1,9 @@
 -- What a worker has at hand for a module, whatever is made of it.
-use Rattle.std.proofs.Common.{◌≡◌, ℕ, ◌<◌, Bool, List, [], length, Some, sym, ap, ◌∙◌, subst}
+use Rattle.std.proofs.Common.{◌≡◌, ℕ, ◌<◌, ◌≤◌, ◌^◌, Bool, true, false, List, [], ◌∷◌, length, Some, sym, ap, ◌∙◌, subst, arith}
 use Rattle.std.specs.Prelude.{Contains, slice_get, slice_index_or, Box}
 use Rattle.std.specs.Bool.{OnTrue}
 use Rattle.std.specs.declared.alloc.Global.{Global}
+use Rattle.std.proofs.lemmas.List.{length-map}
 use Rattle.std.proofs.lemmas.Option.{slice_get-get_or}
 use Rattle.ob_imports.specs.Graphs.{ImportGraph}
 use Rattle.ob_imports.specs.Outcomes.{AreFilesOfGraph}
@@ -15,7 +16,7 @@ use Rattle.oscip_tree.specs.declared.source.Source.{Source}
 use Rattle.work_board.specs.Graphs.{row_at}
 use Rattle.board_workers.specs.Parts.{IsJob}
 use Rattle.ob_board.specs.Boards.{modules_of}
-use Rattle.ob_board.specs.Reached.{files_of, interface_in, names, AreReachedInterfaces, ReachesAlike, SeenFile}
+use Rattle.ob_board.specs.Reached.{file_of, files_of, interface_in, marked_interfaces, names, AreReachedInterfaces, ReachesAlike, SeenFile}
 use Rattle.ob_board.specs.Seen.{all_seen, seen_in, AreSourcesRead}
 use Rattle.ob_board.proofs.Shared.{parts_reached}
 use Rattle.ob_board.specs.Entries.{interfaces_of, AreAllNamed, IsEntryOf, PlainEntry}
@@ -32,6 +33,18 @@ pub record IsGiven (files : List SeenFile) (sources : List Source) (modules : Li
   pub named : (s : Source) (m : Box ModuleParts Global) (p : ModuleParts) → p ≡ (slice_index_or modules n m).value → text_at (slice_index_or sources n s).bytes.items p.tokens 1 ≡ row_at (modules_of board).names n
   pub all_named : (s : Source) (m : Box ModuleParts Global) → AreAllNamed parts
   pub by_name : (s : Source) (m : Box ModuleParts Global) (known : Bool) → OnTrue known (AreByName (interfaces_of modules)) → OnTrue known (AreByName parts)
+
+few_marked : (marks : List Bool) (files : List SeenFile) → length (marked_interfaces marks files) ≤ length files
+few_marked [] files = omega arith
+few_marked (mark ∷ marks) [] = omega arith
+few_marked (true ∷ marks) (file ∷ files) = let rest = few_marked marks files in omega (arith, rest)
+few_marked (false ∷ marks) (file ∷ files) = let rest = few_marked marks files in omega (arith, rest)
+
+-- no more are reached than the files of a tree, whose limit this is far below
+few_reached : (files : List SeenFile) (g : ImportGraph) (m : List ℕ) (parts : List ModuleInterface) → AreFilesOfGraph (files_of files) g → AreReachedInterfaces files m parts → length parts ≤ 2 ^ 32
+few_reached files g m parts kept among =
+    let few : length (files_of files) ≤ 4096 = kept.are_files.few_modules in
+    omega (arith, few, few_marked among.marks files, length-map files file_of, ap length among.reached_are)
 
 -- what an entry says of its file
 abbrev SaysOfFile : {E : Type 0} → (List SeenFile → List ℕ → E → Type 0) → (E → ModuleInterface) → Type 0
@@ -62,6 +75,7 @@ module _ {E : Type 0} (is_of : List SeenFile → List ℕ → E → Type 0) (sha
               is_of_tree = contains_slice files n (seen_in here own.value) (at s m);
               is_seen = seen.each n here own (slice_get-get_or sources n s both.0) (slice_get-get_or modules n m both.1);
               are_reached = reached s m;
+              few_reached = few_reached files g _ parts seen.kept (reached s m);
             });
         named = λ s m p is.
             let here = slice_index_or sources n s in

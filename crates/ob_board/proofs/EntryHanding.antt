@@ -114,18 +114,21 @@ external_rows (y ∷ ys) each x has = elim (Contains-append_cases y.externals (f
   | inr later ↦ external_rows ys (λ k e at. each (suc k) e at) x later
 ]
 
-pub externals_of_tree : (sources : List Source) (package_name : List ℕ) (entries : List PlainEntry) → AreTreeEntries sources package_name entries → AreExternalRows (flat_map (λ (e : PlainEntry). e.externals) entries)
-externals_of_tree sources package_name entries are =
+pub externals_of_files : (files : List SeenFile) (package_name : List ℕ) (entries : List PlainEntry) → AreEntriesOf files package_name entries → AreExternalRows (flat_map (λ (e : PlainEntry). e.externals) entries)
+externals_of_files files package_name entries are =
     external_rows entries (λ k e at.
     let lt : k < length entries = slice_get_within entries k e at in
-    let many : length entries ≡ length (map seen_of are.files) = are.are_entries.as_many in
-    let room : k < length (map seen_of are.files) = omega arith in
-    let file = get_or (map seen_of are.files) k none_seen in
-    let at_file : slice_get (map seen_of are.files) k ≡ Some file = slice_get-get_or (map seen_of are.files) k none_seen room in
-    (are.are_entries.each k file e at_file at).are.rows)
+    let many : length entries ≡ length files = are.as_many in
+    let room : k < length files = omega arith in
+    let file = get_or files k none_seen in
+    let at_file : slice_get files k ≡ Some file = slice_get-get_or files k none_seen room in
+    (are.each k file e at_file at).are.rows)
   where
     none_seen : SeenFile
     none_seen = record { path = []; bytes = []; tokens = []; rows = record { declarers = []; declared = []; uses = []; blocks = []; imports = []; parts = []; records = []; designators = []; selectors = []; ends = [] } }
+
+pub externals_of_tree : (sources : List Source) (package_name : List ℕ) (entries : List PlainEntry) → AreTreeEntries sources package_name entries → AreExternalRows (flat_map (λ (e : PlainEntry). e.externals) entries)
+externals_of_tree sources package_name entries are = externals_of_files (map seen_of are.files) package_name entries are.are_entries
 
 -- what entries have, by either way of seeing them
 pub same_externals : (es : List Entry) → flat_map (λ (e : Entry). (plain_entry e).externals) es ≡ flat_map (λ (e : PlainEntry). e.externals) (map plain_entry es)

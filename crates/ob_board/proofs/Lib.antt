@@ -12,3 +12,4 @@ pub mod OneTree
 pub mod OneExternals
 pub mod OneIndex
 pub mod ByName
+pub mod Gathering

@@ -1,5 +1,5 @@
 -- What is found of a module while its tree is gone through.
-use Rattle.std.specs.Prelude.{◌≡◌, ℕ, List, Contains}
+use Rattle.std.specs.Prelude.{◌≡◌, ℕ, ◌≤◌, ◌^◌, List, length, Contains}
 use Rattle.ob_interface.specs.Interfaces.{ModuleInterface}
 use Rattle.oscip_tree.specs.declared.parts.ModuleParts.{ModuleParts}
 use Rattle.oscip_tree.specs.declared.source.Source.{Source}
@@ -20,8 +20,9 @@ pub record IsFoundOf (files : List SeenFile) (name : List ℕ) (f : PlainFound) 
   pub interface_is : f.interface ≡ interface_in file
   pub are_rows : IsUnresolvedIn files file f.rows
 
--- what is at hand for a module of the tree: its file's source and parts, and the interfaces of what it reaches
+-- what is at hand for a module of the tree: its file's source and parts, and the interfaces of what it reaches, whose places are numbers of 32 bits
 pub record IsAtHand (files : List SeenFile) (s : Source) (parts : ModuleParts) (reached : List ModuleInterface) : Type 0 where
   pub is_of_tree : Contains files (seen_in s parts)
   pub is_seen : IsSourceRead s parts
   pub are_reached : AreReachedInterfaces files (names (seen_in s parts) 1) reached
+  pub few_reached : length reached ≤ 2 ^ 32

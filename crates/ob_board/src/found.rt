@@ -1,5 +1,5 @@
 //! What is found of a module: its interface, and its identifiers that stand for nothing.
-ghost use Rattle.std.specs.Prelude.{◌≡◌, map, IfOk, List};
+ghost use Rattle.std.specs.Prelude.{◌≡◌, ◌≤◌, ◌^◌, length, map, IfOk, List};
 ghost use Rattle.std.specs.Arc.{arc_value};
 ghost use Rattle.std.specs.Bool.{OnTrue};
 ghost use Rattle.ob_rows.specs.Tables.{rows_in};
@@ -108,6 +108,7 @@ fn numbers_of(
     by_name: bool,
 ) -> Result<Vec<u32>, AllocError>
     requires in_text { AreInText source.now.bytes.items parts.now.tokens }
+    requires few { length (map arc_value reached.now) ≤ 2 ^ 32 }
     requires by_name { OnTrue by_name (AreByName (map arc_value reached.now)) }
     ensures { IfOk result (λ numbers. (refs : List Reference) × (numbers.items ≡ unresolved refs)
         × AreReferences (world source.now.bytes.items parts.now.tokens (rows_in parts.now.table) parts.now.scopes (map arc_value reached.now)) refs) }

@@ -79,6 +79,7 @@ fn entries_in<F: NamedIndex + Send + Sync, G: BoardGate + Sync, R: Threads + Wai
     gate: &G,
 ) -> Result<Vec<Entry>, AllocError>
     requires files { F.files ≡ all_seen sources.now tree.now.modules.items }
+    requires graph { F.graph ≡ tree.now.graph }
     requires seen { AreSourcesRead sources.now tree.now.modules.items tree.now.graph }
     requires package { string_bytes options.now.package ≡ F.package_name }
     requires right { is_wrong_part F.package_name ≡ false }
@@ -168,7 +169,7 @@ fn gather(alloc: Global, entries: Vec<Entry>) -> Result<Gathered, AllocError>
 }
 
 /// The index of these entries.
-fn index_of(alloc: Global, entries: Vec<Entry>, root: &str) -> Result<Index, AllocError>
+pub(crate) fn index_of(alloc: Global, entries: Vec<Entry>, root: &str) -> Result<Index, AllocError>
     requires { AreExternalRows (flat_map (λ e. (plain_entry e).externals) entries.items) }
     ensures { IfOk result (λ index. IsMadeOf (map plain_entry entries.items) root.now (plain_index index)) }
 {

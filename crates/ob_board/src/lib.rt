@@ -1,8 +1,10 @@
 //! What is made of a tree of Oberon-07 modules, module by module, each once all that it reaches is there.
 //! Stands on `work_board` and `board_workers` for the order, on `oscip_tree` for the files, on `ob_types`, `ob_resolve` and `ob_emit` for each module.
-//! Its contract: the index is exactly the tree's, for every number of workers and every gate; the identifiers that stand for nothing are the tree's.
+//! Its contract: the index is exactly the tree's, for every number of workers and every gate, and so is what is gathered of a board at which others work;
+//! the identifiers that stand for nothing are the tree's.
 #![tactic(auto)]
 
+mod driving;
 mod entry;
 mod files;
 mod found;
@@ -20,10 +22,13 @@ mod writing;
 mod written;
 
 pub use board_workers::BoardGate;
+pub use driving::{Job, TreeBoard};
 pub use entry::Entry;
 pub use graphs::board_graph;
 pub use indexing::{IndexOptions, entries, index_tree};
 pub use listing::unresolved_in_tree;
+pub use made::{Made, Making};
+pub use named_index::{BoardOf, NamedIndex};
 pub use unresolved::Unresolved;
 pub use work_board::{Board, BoardFault, Claim, Graph, NamedTree, WorkEntry};
 pub use writing::{WrittenIndex, written_index};

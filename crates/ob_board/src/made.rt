@@ -6,7 +6,7 @@ ghost use Rattle.ob_scan.specs.Texts.{text_at};
 ghost use Rattle.ob_types.specs.Homes.{AreByName};
 ghost use Rattle.scip_symbol.specs.Outcomes.{is_wrong_part};
 ghost use Rattle.ob_board.specs.Seen.{all_seen, AreSourcesRead};
-ghost use Rattle.ob_board.specs.Entries.{interfaces_of, plain_entry, AreAllNamed};
+ghost use Rattle.ob_board.specs.Entries.{interfaces_of, plain_entry, AreAllNamed, IsEntryOf};
 ghost use Rattle.ob_board.specs.Found.{IsAtHand};
 
 use crate::Entry;
@@ -22,9 +22,9 @@ use std::marker::{Model, PhantomData};
 use std::sync::Arc;
 use work_board::WorkEntry;
 
-/// The entry of a module of the tree that the type names.
+/// The entry of a module of the tree and the package that the type names.
 #[derive(Drop)]
-pub(crate) struct Made<F: NamedIndex> {
+pub struct Made<F: NamedIndex> {
     entry: Entry,
     of: PhantomData<F>,
 }
@@ -41,8 +41,15 @@ impl<F: NamedIndex> Model for Made<F> {
 }
 
 impl<F: NamedIndex> Made<F> {
+    /// What every such value keeps: it is the entry of the module that it names, in that tree and that package.
+    pub fn keeps(&self)
+        ensures { IsEntryOf F.files F.package_name self.now.name self.now }
+    {
+        let _entry = &self.entry;
+    }
+
     /// The entry itself.
-    pub(crate) fn into_entry(self) -> Entry
+    pub fn into_entry(self) -> Entry
         ensures { plain_entry result ≡ self }
     {
         let Made { entry, of: _ } = self;
@@ -105,9 +112,9 @@ fn made_in<F: NamedIndex>(
     })
 }
 
-/// Makes what becomes of each module of a tree, which the type names.
+/// Makes what becomes of each module of a tree, which the type names. Contracts see the graph of its imports.
 #[derive(Drop)]
-pub(crate) struct Making<'a, F: NamedIndex, E> {
+pub struct Making<'a, F: NamedIndex, E> {
     pub(crate) alloc: Global,
     pub(crate) sources: &'a [Source],
     pub(crate) modules: &'a [Box<ModuleParts>],
@@ -133,7 +140,7 @@ impl<'a, F: NamedIndex, E> Model for Making<'a, F, E> {
     ghost view = { λ w. w.graph.now };
 
     ghost invariant = { λ w. (F.files ≡ all_seen w.sources.now w.modules.now) × AreSourcesRead w.sources.now w.modules.now w.graph.now × (w.package_name.now ≡ F.package_name)
-        × (is_wrong_part F.package_name ≡ false) × OnTrue w.by_name (AreByName (interfaces_of w.modules.now)) };
+        × (is_wrong_part F.package_name ≡ false) × OnTrue w.by_name (AreByName (interfaces_of w.modules.now)) × (F.graph ≡ w.graph.now) };
 }
 
 impl<'a, F: NamedIndex, E> Making<'a, F, E> {
@@ -149,6 +156,7 @@ impl<'a, F: NamedIndex, E> Making<'a, F, E> {
     ) -> Making<'a, F, E>
         requires files { F.files ≡ all_seen sources.now modules.now }
         requires seen { AreSourcesRead sources.now modules.now graph.now }
+        requires graph { F.graph ≡ graph.now }
         requires package { package_name.now ≡ F.package_name }
         requires right { is_wrong_part F.package_name ≡ false }
         requires by_name { OnTrue by_name (AreByName (interfaces_of modules.now)) }
@@ -164,6 +172,13 @@ impl<'a, F: NamedIndex, E> Making<'a, F, E> {
             of: PhantomData,
             made: PhantomData,
         }
+    }
+
+    /// What every such value keeps: the type names its graph.
+    pub fn keeps(&self)
+        ensures { self.now ≡ F.graph }
+    {
+        let _graph = self.graph;
     }
 }
 

@@ -1,5 +1,5 @@
 //! The types of a module of a tree.
-ghost use Rattle.std.specs.Prelude.{◌≡◌, map, IfOk};
+ghost use Rattle.std.specs.Prelude.{◌≡◌, ◌≤◌, ◌^◌, length, map, IfOk};
 ghost use Rattle.std.specs.Arc.{arc_value};
 ghost use Rattle.std.specs.Bool.{OnTrue};
 ghost use Rattle.ob_rows.specs.Tables.{rows_in};
@@ -23,6 +23,7 @@ pub(crate) fn module_types<'a>(
     by_name: bool,
 ) -> Result<Types<'a>, AllocError>
     requires in_text { AreInText source.now.bytes.items parts.now.tokens }
+    requires few { length (map arc_value reached.now) ≤ 2 ^ 32 }
     requires by_name { OnTrue by_name (AreByName (map arc_value reached.now)) }
     ensures { IfOk result (λ t. t ≡ world source.now.bytes.items parts.now.tokens (rows_in parts.now.table) parts.now.scopes (map arc_value reached.now)) }
 {

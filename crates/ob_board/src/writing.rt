@@ -71,6 +71,7 @@ fn records_in<F: NamedIndex + Send + Sync, G: BoardGate + Sync, R: Threads + Wai
     gate: &G,
 ) -> Result<Gathered, AllocError>
     requires files { F.files ≡ all_seen sources.now tree.now.modules.items }
+    requires graph { F.graph ≡ tree.now.graph }
     requires seen { AreSourcesRead sources.now tree.now.modules.items tree.now.graph }
     requires package { string_bytes options.now.package ≡ F.package_name }
     requires right { is_wrong_part F.package_name ≡ false }

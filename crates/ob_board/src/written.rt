@@ -1,5 +1,5 @@
 //! The document and the external symbols of a module.
-ghost use Rattle.std.specs.Prelude.{◌≡◌, ◌<◌, ◌^◌, false, length, map, IfOk, Ok};
+ghost use Rattle.std.specs.Prelude.{◌≡◌, ◌<◌, ◌≤◌, ◌^◌, false, length, map, IfOk, Ok};
 ghost use Rattle.std.specs.Arc.{arc_value};
 ghost use Rattle.std.specs.Bool.{OnTrue};
 ghost use Rattle.ob_rows.specs.Tables.{rows_in};
@@ -73,6 +73,7 @@ pub(crate) fn write_module(
     requires spelled { IsOutcome source.now.bytes.items (Ok parts.now.tokens) }
     requires scoped { AreScopes source.now.bytes.items parts.now.tokens (rows_in parts.now.table) parts.now.scopes }
     requires named { AreAllNamed (map arc_value reached.now) }
+    requires few { length (map arc_value reached.now) ≤ 2 ^ 32 }
     requires by_name { OnTrue by_name (AreByName (map arc_value reached.now)) }
     requires package { is_wrong_part package_name.now ≡ false }
     ensures { IfOk result (λ w. IsWritten source.now parts.now (map arc_value reached.now) package_name.now (plain_document w.document) (map plain_symbol w.externals.items)) }
@@ -131,6 +132,7 @@ pub(crate) fn record_module(
     requires spelled { IsOutcome source.now.bytes.items (Ok parts.now.tokens) }
     requires scoped { AreScopes source.now.bytes.items parts.now.tokens (rows_in parts.now.table) parts.now.scopes }
     requires named { AreAllNamed (map arc_value reached.now) }
+    requires few { length (map arc_value reached.now) ≤ 2 ^ 32 }
     requires by_name { OnTrue by_name (AreByName (map arc_value reached.now)) }
     requires package { is_wrong_part package_name.now ≡ false }
     ensures { IfOk result (λ w. IsRecorded source.now parts.now (map arc_value reached.now) package_name.now w.bytes.items (map plain_symbol w.externals.items)) }

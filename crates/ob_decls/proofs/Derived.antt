@@ -1,6 +1,7 @@
 -- Where a tree derives tokens, the places of its identifiers are their numbers.
-use Rattle.std.proofs.Common.{◌≡◌, ℕ, zero, suc, ◌+◌, ◌⊎◌, inl, inr, List, [], ◌∷◌, map, Some, refl, sym, ap, ap₂, ◌∙◌, subst, arith}
+use Rattle.std.proofs.Common.{◌≡◌, ℕ, zero, suc, ◌+◌, ◌<◌, ◌≤◌, ◌⊎◌, inl, inr, List, [], ◌∷◌, length, get_or, map, Some, refl, sym, ap, ap₂, ◌∙◌, subst, arith}
 use Rattle.std.specs.Prelude.{Contains, slice_get}
+use Rattle.std.proofs.lemmas.Option.{get_or_from_slice_get, slice_get-get_or, slice_get_within}
 use Rattle.ob_scan.specs.declared.kind.Kind.{Kind}
 use Rattle.ob_scan.specs.declared.kind.Kind.TheVariants as kinds
 use Rattle.ob_tree.specs.declared.declaration.Module.{Module}
@@ -13,12 +14,16 @@ use Rattle.ob_tree.specs.Derives.{Derives, declared_in, used_in, spelling}
 use Rattle.ob_tree.specs.Leaves.{leaf_of, leaves_from}
 use Rattle.ob_tree.specs.Marks.{Out, Begins, Ends, Identifier, Value, Word, construct, tokens_of}
 use Rattle.ob_rows.specs.declared.rows.Declared.{Declared}
+use Rattle.ob_rows.specs.declared.rows.Import.{Import}
 use Rattle.ob_rows.specs.declared.rows.Used.{Used}
+use Rattle.ob_rows.specs.Order.{AscendBy}
 use Rattle.ob_rows.specs.Tables.{own_name}
 use Rattle.ob_decls.specs.Declaring.{rows_of, outermost}
 use Rattle.ob_decls.specs.Naming.{IsNamed}
+use Rattle.ob_decls.proofs.LinedModules.{rows_in_order}
 use Rattle.ob_decls.proofs.Mirrored.{declares_at, uses_at}
 use Rattle.ob_decls.proofs.Named.{AtNames}
+use Rattle.ob_decls.proofs.NamedImports.{names_at, i-module}
 use Rattle.ob_decls.proofs.NamedModules.{m-module, module_named}
 
 -- one token with the tokens behind it
@@ -148,6 +153,14 @@ uses_idents k ks (Identifier (Repeats r) m ∷ ms) n e h = behind k ks (leafs.Na
 uses_idents k ks (Value l m ∷ ms) n e h = behind k ks (leafs.Value l m) (tokens_of ms) n e (λ rest t. uses_idents (suc k) rest ms n t h)
 uses_idents k ks (Word w ∷ ms) n e h = behind k ks (leafs.Word w) (tokens_of ms) n e (λ rest t. uses_idents (suc k) rest ms n t h)
 
+names_idents : (k : ℕ) (ks : List Kind) (o : Out) (n : ℕ) → leaves_from k ks ≡ tokens_of o → Contains (names_at k o) n → IsIdentAt k ks n
+names_idents k ks [] n e (i, l, h) = absurd (omega arith)
+names_idents k ks (Begins c m ∷ ms) n e h = names_idents k ks ms n e h
+names_idents k ks (Ends c ∷ ms) n e h = names_idents k ks ms n e h
+names_idents k ks (Identifier r m ∷ ms) n e h = found k ks m (tokens_of ms) (names_at (suc k) ms) n e h (λ rest t g. names_idents (suc k) rest ms n t g)
+names_idents k ks (Value l m ∷ ms) n e h = behind k ks (leafs.Value l m) (tokens_of ms) n e (λ rest t. names_idents (suc k) rest ms n t h)
+names_idents k ks (Word w ∷ ms) n e h = behind k ks (leafs.Word w) (tokens_of ms) n e (λ rest t. names_idents (suc k) rest ms n t h)
+
 at_front : (ks : List Kind) (n : ℕ) → IsIdentAt 0 ks n → slice_get ks n ≡ Some kinds.Ident
 at_front ks n h = let e : h.place ≡ n = (let i = h.is in omega arith) in subst (λ (j : ℕ). slice_get ks j ≡ Some kinds.Ident) e h.there
 
@@ -165,6 +178,37 @@ pub used_ident : (ks : List Kind) (m : Module) → Derives ks m → (u : Used) �
 used_ident ks m e u h =
     at_front ks u.number (uses_idents 0 ks (module_outline m) u.number e
     (subst (λ (ns : List ℕ). Contains ns u.number) ((m-module m).uses outermost 0) (mapped (λ (x : Used). x.number) (rows_of m).uses u h)))
+
+pub imported_ident : (ks : List Kind) (m : Module) → Derives ks m → (i : Import) → Contains (rows_of m).imports i → slice_get ks i.imported ≡ Some kinds.Ident
+imported_ident ks m e i h = at_front ks i.imported (names_idents 0 ks (module_outline m) i.imported e ((i-module m).among outermost 0 i h))
+
+-- ---- how many uses
+
+module _ {X : Type 0} (n : X → ℕ) (xs : List X) (up : AscendBy n xs) where
+  at_least : (i : ℕ) (x : X) → slice_get xs i ≡ Some x → i ≤ n x
+  at_least zero x e = omega arith
+  at_least (suc i) x e =
+      let within = slice_get_within xs (suc i) x e in
+      let before = slice_get-get_or xs i x (omega arith) in
+      let l : n (get_or xs i x) < n x = up i (suc i) (get_or xs i x) x (omega arith) before e in
+      let m : i ≤ n (get_or xs i x) = at_least i (get_or xs i x) before in
+      omega (arith, l, m)
+
+  at_most : (k high : ℕ) → length xs ≡ suc k → ((x : X) → Contains xs x → n x < high) → (d : X) → length xs ≤ high
+  at_most k high long below d =
+      let last = get_or xs k d in
+      let there : slice_get xs k ≡ Some last = slice_get-get_or xs k d (omega (arith, long)) in
+      let low : k ≤ n last = at_least k last there in
+      let l : n last < high = below last (k, omega (arith, long), get_or_from_slice_get xs k last last there) in
+      omega (arith, low, l, long)
+
+few_below : {X : Type 0} (n : X → ℕ) (xs : List X) (high : ℕ) → AscendBy n xs → ((x : X) → Contains xs x → n x < high) → length xs ≤ high
+few_below n [] high up below = omega arith
+few_below n (x ∷ xs) high up below = at_most n (x ∷ xs) up (length xs) high (omega arith) below x
+
+pub uses_few : (ks : List Kind) (m : Module) → Derives ks m → length (rows_of m).uses ≤ length ks
+uses_few ks m d =
+    few_below (λ (u : Used). u.number) (rows_of m).uses (length ks) (rows_in_order m).uses (λ u h. slice_get_within ks u.number kinds.Ident (used_ident ks m d u h))
 
 -- the second token of a module is its name
 name_spelled : (m : Module) → (l : Leaf) × (ls : List Leaf) × (spelling m ≡ l ∷ leafs.Name m.name ∷ ls)

@@ -10,6 +10,7 @@ pub mod NamedExpressions
 pub mod NamedStatements
 pub mod NamedTypes
 pub mod NamedModules
+pub mod NamedImports
 pub mod Derived
 pub mod Reading
 pub mod ReadingLists
@@ -27,6 +28,12 @@ pub mod ReadingTypes
 pub mod ReadingSections
 pub mod ReadingDeclarations
 pub mod ReadingModules
+pub mod Quiet
+pub mod QuietExpressions
+pub mod QuietStatements
+pub mod Formed
+pub mod FormedTypes
+pub mod FormedModules
 pub mod Lined
 pub mod LinedKinds
 pub mod LinedPieces
@@ -34,3 +41,7 @@ pub mod LinedExpressions
 pub mod LinedStatements
 pub mod LinedTypes
 pub mod LinedModules
+pub mod Nested
+pub mod NestedPieces
+pub mod NestedTypes
+pub mod NestedModules

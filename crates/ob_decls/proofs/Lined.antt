@@ -41,6 +41,10 @@ module _ {X : Type 0} (n : X → ℕ) where
   unfolding Lined
   lined_same k x xs e f = (omega (arith, e), lower n (λ i. i) (n x) k (k + 1) xs (omega (arith, e)) f)
 
+  pub lined_on : (k : ℕ) (x : X) → n x ≡ k → Lined n (λ i. i) k k (x ∷ [])
+  unfolding Lined
+  lined_on k x e = (omega (arith, e), omega (arith, e))
+
   -- strict
   above : (a b : ℕ) (xs : List X) (i : ℕ) (x : X) → Lined n suc a b xs → slice_get xs i ≡ Some x → a ≤ n x
   unfolding Lined

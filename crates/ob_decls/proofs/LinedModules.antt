@@ -1,5 +1,5 @@
 -- The rows of a module stand in order.
-use Rattle.std.proofs.Common.{◌≡◌, ℕ, ◌+◌, List, refl, sym, ap, ◌∙◌, subst}
+use Rattle.std.proofs.Common.{◌≡◌, ℕ, ◌+◌, List, refl, sym, ap, ◌∙◌}
 use Rattle.ob_tree.specs.declared.name.OneOrMore.{OneOrMore}
 use Rattle.ob_tree.specs.declared.declaration.ConstDecl.{ConstDecl}
 use Rattle.ob_tree.specs.declared.declaration.TypeDecl.{TypeDecl}
@@ -20,7 +20,8 @@ use Rattle.ob_decls.specs.Declaring.{const_piece, type_decl_piece, variable_piec
 use Rattle.ob_decls.specs.Declaring.{part as told_part}
 use Rattle.ob_decls.proofs.DeclarationLayers as told
 use Rattle.ob_decls.specs.Declaring.{module_end, rows_of, outermost}
-use Rattle.ob_rows.specs.Order.{AreRowsInOrder, AscendBy, RiseBy}
+use Rattle.ob_rows.specs.Order.{AreRowsInOrder}
+use Rattle.ob_decls.proofs.FormedModules.{forms_rise}
 use Rattle.ob_decls.proofs.Lined.{Lined, ascends, rises}
 use Rattle.ob_decls.proofs.LinedKinds.{Kind, declarers_kind, declared_kind, uses_kind, blocks_kind, imports_kind, parts_kind, records_kind, designators_kind, ends_kind, selectors_kind}
 use Rattle.ob_decls.proofs.LinedPieces.{Ordered, h-before, h-both, h-tells, l-both, l-token, l-within, n-headed, o-both, o-declaring, o-each, o-headed, o-is, o-map, o-there, o-token}
@@ -130,48 +131,19 @@ module _ {X : Type 0} (K : Kind X) where
   module_lined : (m : Module) → Lined K.number K.next 0 (0 + (module_piece m).width) (K.of (rows_of m))
   module_lined m = (o-module m).lined outermost 0
 
--- each list but the forms is in the order of the tokens
-pub record AreLined (r : Rows) : Type 0 where
-  pub declarers : AscendBy (λ (x : DeclarerRow). x.first) r.declarers
-  pub declared : AscendBy (λ (x : DeclaredRow). x.number) r.declared
-  pub uses : AscendBy (λ (x : UsedRow). x.number) r.uses
-  pub blocks : AscendBy (λ (x : BlockRow). x.first) r.blocks
-  pub imports : AscendBy (λ (x : ImportRow). x.alias) r.imports
-  pub parts : AscendBy (λ (x : FormPartRow). x.number) r.parts
-  pub records : AscendBy (λ (x : RecordRow). x.number) r.records
-  pub designators : AscendBy (λ (x : DesignatorRow). x.head) r.designators
-  pub selectors : RiseBy (λ (x : SelectorRow). x.of) r.selectors
-  pub ends : AscendBy (λ (x : EndRow). x.number) r.ends
-
-pub rows_lined : (m : Module) → AreLined (rows_of m)
+-- each list is in the order of the tokens
+pub rows_in_order : (m : Module) → AreRowsInOrder (rows_of m)
 unfolding declarers_kind declared_kind uses_kind blocks_kind imports_kind parts_kind records_kind designators_kind ends_kind selectors_kind
-rows_lined m = record {
+rows_in_order m = record {
   declarers = ascends (λ (x : DeclarerRow). x.first) 0 (0 + (module_piece m).width) (rows_of m).declarers (module_lined declarers_kind m);
   declared = ascends (λ (x : DeclaredRow). x.number) 0 (0 + (module_piece m).width) (rows_of m).declared (module_lined declared_kind m);
   uses = ascends (λ (x : UsedRow). x.number) 0 (0 + (module_piece m).width) (rows_of m).uses (module_lined uses_kind m);
   blocks = ascends (λ (x : BlockRow). x.first) 0 (0 + (module_piece m).width) (rows_of m).blocks (module_lined blocks_kind m);
   imports = ascends (λ (x : ImportRow). x.alias) 0 (0 + (module_piece m).width) (rows_of m).imports (module_lined imports_kind m);
   parts = ascends (λ (x : FormPartRow). x.number) 0 (0 + (module_piece m).width) (rows_of m).parts (module_lined parts_kind m);
+  forms = forms_rise m;
   records = ascends (λ (x : RecordRow). x.number) 0 (0 + (module_piece m).width) (rows_of m).records (module_lined records_kind m);
   designators = ascends (λ (x : DesignatorRow). x.head) 0 (0 + (module_piece m).width) (rows_of m).designators (module_lined designators_kind m);
   selectors = rises (λ (x : SelectorRow). x.of) 0 (0 + (module_piece m).width) (rows_of m).selectors (module_lined selectors_kind m);
   ends = ascends (λ (x : EndRow). x.number) 0 (0 + (module_piece m).width) (rows_of m).ends (module_lined ends_kind m);
 }
-
--- and so is a draft that has them, whose forms stand together
-pub all_in_order : (m : Module) (r : Rows) → r ≡ rows_of m → RiseBy (λ (x : FormPartRow). x.declared_by) r.parts → AreRowsInOrder r
-all_in_order m r is forms =
-    let h : AreLined r = subst AreLined (sym is) (rows_lined m) in
-    record {
-      declarers = h.declarers;
-      declared = h.declared;
-      uses = h.uses;
-      blocks = h.blocks;
-      imports = h.imports;
-      parts = h.parts;
-      forms = forms;
-      records = h.records;
-      designators = h.designators;
-      selectors = h.selectors;
-      ends = h.ends;
-    }

@@ -57,7 +57,7 @@ uses_at k (Word w ∷ ms) = uses_at (suc k) ms
 
 -- ---- outlines behind each other
 
-width_both : (a b : Out) → width_of (a ++ b) ≡ width_of a + width_of b
+pub width_both : (a b : Out) → width_of (a ++ b) ≡ width_of a + width_of b
 width_both [] b = omega arith
 width_both (Begins c n ∷ ms) b = width_both ms b
 width_both (Ends c ∷ ms) b = width_both ms b

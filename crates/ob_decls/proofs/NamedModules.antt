@@ -49,7 +49,7 @@ n-variables : (v : VarDecl) → Named (variable_piece v) (variable_outline v)
 unfolding variable_piece variable_outline
 n-variables v = n-held constructs.VariableDeclaration (n-declaring sorts.Variable (n-var v))
 
-n-import : (i : ImportItem) → Named (import_piece i) (import_outline i)
+pub n-import : (i : ImportItem) → Named (import_piece i) (import_outline i)
 unfolding import_piece import_inner import_outline
 n-import i = n-held constructs.Import (n-declaring sorts.Import (n-item i.of i.name))
 
@@ -120,7 +120,7 @@ procedure_step x y is =
     (procedure_out (roll-ProcDecl x) ∙ ap (λ (z : ProcDecl-F Declarations ProcDecl). construct constructs.ProcedureDeclaration (procedure_shown z)) (out-roll-ProcDecl x ∙ sym is))
     (n-held constructs.ProcedureDeclaration (procedure_held y))
 
-n-declarations : (d : Declarations) → Named (declarations_piece d) (declarations_outline d)
+pub n-declarations : (d : Declarations) → Named (declarations_piece d) (declarations_outline d)
 n-declarations = ind-Declarations HeldDeclarations HeldProcDecl declarations_step procedure_step
 
 n-imports : (l : OneOrMore ImportItem) → Named (imports_piece l) (word kinds.Import ++ (separated kinds.Comma import_outline l ++ word kinds.Semicolon))

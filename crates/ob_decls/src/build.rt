@@ -14,8 +14,7 @@ use std::alloc::{AllocError, Global};
 
 /// The table of a module. The walk recurses a few calls for each level of nesting: a stack of 2 MiB is enough for a tree of 200
 /// levels, and a deeper one needs more in proportion; lists are loops. AllocError is answered where a growth of memory is refused,
-/// and for a tree of 2^32 tokens or more, whose numbers no row can hold. The rows stand in the order of the tokens, by a law; that
-/// the parts of one form stand together is looked at before the table is answered, and no tree breaks it.
+/// and for a tree of 2^32 tokens or more, whose numbers no row can hold.
 pub fn table_of(alloc: Global, module: &Module) -> Result<Table, AllocError>
     ensures exact { IfOk result (λ t. rows_in t ≡ rows_of «module».now) }
 {
@@ -25,14 +24,13 @@ pub fn table_of(alloc: Global, module: &Module) -> Result<Table, AllocError>
     if draft.refused {
         return Err(AllocError);
     }
-    table_from(draft)
+    Ok(table_from(draft))
 }
 
-/// The table of a draft whose rows are those of a module. That the parts of one form stand together is looked at before it is
-/// answered, and no module breaks it.
-pub fn table_from(draft: Draft) -> Result<Table, AllocError>
+/// The table of a draft whose rows are those of a module, which stand in order.
+pub fn table_from(draft: Draft) -> Table
     requires { (m : Module) × (drafted draft ≡ rows_of m) }
-    ensures { IfOk result (λ t. rows_in t ≡ drafted draft) }
+    ensures { rows_in result ≡ drafted draft }
 {
     draft.into_table()
 }

@@ -1,5 +1,5 @@
 //! Laws of tables. Each function is a law: its body is empty, and its contract is proved.
-ghost use Rattle.std.specs.Prelude.{◌≡◌, ℕ, Contains, List, Some, map, slice_get};
+ghost use Rattle.std.specs.Prelude.{◌≡◌, ℕ, Contains, List, Some, length, map, slice_get};
 ghost use Rattle.ob_scan.specs.declared.kind.Kind.{Kind};
 ghost use Rattle.ob_scan.specs.declared.kind.Kind.TheVariants as kinds;
 ghost use Rattle.ob_tree.specs.declared.declaration.Module.{Module};
@@ -8,6 +8,7 @@ ghost use Rattle.ob_tree.specs.Derives.{Derives, declared_in, used_in};
 ghost use Rattle.ob_rows.specs.declared.rows.Declared.{Declared};
 ghost use Rattle.ob_rows.specs.declared.rows.Used.{Used};
 ghost use Rattle.ob_rows.specs.Tables.{own_name};
+ghost use Rattle.ob_rows.specs.Trees.{AreTreeRows};
 ghost use Rattle.ob_decls.specs.Declaring.{rows_of};
 ghost use Rattle.ob_decls.specs.Naming.{IsNamed};
 
@@ -25,6 +26,11 @@ pub fn identifiers()
     ensures used { (ks : List Kind) (m : Module) → Derives ks m → (u : Used) → Contains (rows_of m).uses u → slice_get ks u.number ≡ Some kinds.Ident }
     ensures own { (ks : List Kind) (m : Module) → Derives ks m → slice_get ks own_name ≡ Some kinds.Ident }
     ensures name { (ks : List Kind) (m : Module) → Derives ks m → m.name ≡ own_name }
+{}
+
+/// Where a tree derives tokens, its table keeps what the rows of a tree of them keep.
+pub fn tree_rows()
+    ensures { (ks : List Kind) (m : Module) → Derives ks m → AreTreeRows (λ k. slice_get ks k ≡ Some kinds.Ident) (length ks) (rows_of m) }
 {}
 
 /// Where a tree derives tokens, each of them that is an identifier is the module's own name, or has a row of the table.

@@ -19,7 +19,8 @@ use Rattle.ob_interface.specs.Interfaces.{declaration, declaration_of, form_by, 
 use Rattle.ob_interface.specs.Placed.{holds, is_record, owner_place}
 use Rattle.ob_owners.specs.Owners.{has_type, EndsForm, IsFieldOf, IsOfRecord}
 use Rattle.ob_owners.proofs.StandingModules.{behind_first, ends_form, has_owner, of_record}
-use Rattle.ob_scope.proofs.Elements.{ascend_one, contains_slice, slice_contains}
+use Rattle.ob_rows.proofs.Around.{ascend_one}
+use Rattle.ob_scope.proofs.Elements.{contains_slice, slice_contains}
 use Rattle.ob_types.specs.World.{World, owner_at}
 use Rattle.ob_emit.specs.Apart.{seen_tokens}
 use Rattle.ob_emit.proofs.SeenLists.{find_only, last_map, last_passed, passed, position_first, PassedAt}

@@ -9,3 +9,6 @@ pub mod ReadyLists
 pub mod SameNames
 pub mod NameOrder
 pub mod RankedEdges
+pub mod Sortings
+pub mod SomeCycle
+pub mod SomeOutcome

@@ -8,11 +8,10 @@ use Rattle.ob_scan.specs.Texts.{text_at}
 use Rattle.ob_rows.specs.declared.rows.FormPart.{FormPart}
 use Rattle.ob_rows.specs.declared.rows.Declarer.{Declarer}
 use Rattle.ob_rows.specs.declared.rows.Declared.{Declared}
-use Rattle.ob_rows.specs.declared.rows.Record.{Record as RecordRow}
 use Rattle.ob_rows.specs.Parts.{Rows as TableRows}
 use Rattle.ob_interface.specs.declared.rows.Rows.{Rows}
 use Rattle.ob_interface.specs.declared.rows.PartRow.{PartRow}
-use Rattle.ob_interface.specs.Interfaces.{Part, Declaration, Base, part_of, is_part_by, is_seen_outside, declaration_by, declaration_of, base_by, base_of, outer_by, imported_of, start_at, interface_of}
+use Rattle.ob_interface.specs.Interfaces.{Part, Declaration, part_of, is_part_by, is_seen_outside, declaration_by, declaration_of, base_of, outer_by, imported_of, start_at, interface_of}
 use Rattle.ob_interface.specs.Texts.{text_in, part_row_in, declaration_in, form_at, base_in, import_in, IsGrown, TellsOn, AllTell}
 use Rattle.ob_interface.specs.Rowed.{form_in, interface_in}
 use Rattle.ob_interface.proofs.Growing.{tells_grown, all_tell_grown, all_tell_now, grown_twice}
@@ -39,28 +38,23 @@ declared_same bytes ts ps all r (Some d) h =
       form = map (part_of bytes ts) x;
     }) else None) (h refl)
 
--- what is gathered with the constructs of the module's block
-pub record IsGathered (ds : List Declarer) (all ps : List FormPart) (outers : ℕ → Option Declarer) : Type 0 where
-  pub outer : (k : ℕ) → outers k ≡ outer_by ds k
-  pub same : (k : ℕ) → IsSome (outers k) → filter (is_part_by k) ps ≡ filter (is_part_by k) all
+-- of each construct of the module's block the parts are the same
+abbrev pub HasParts : List Declarer → List FormPart → List FormPart → Type 0
+HasParts ds all ps = (k : ℕ) → IsSome (outer_by ds k) → filter (is_part_by k) ps ≡ filter (is_part_by k) all
 
-pub declarations_same : (bytes : List ℕ) (ts : List Token) (rows : TableRows) (ps : List FormPart) (outers : ℕ → Option Declarer) → IsGathered rows.declarers rows.parts ps outers
-    → filter_map (λ r. declaration_by bytes ts ps r (outers r.declared_by)) rows.declared ≡ filter_map (declaration_of bytes ts rows) rows.declared
-declarations_same bytes ts rows ps outers g =
-    let e : (r : Declared) → declaration_by bytes ts ps r (outers r.declared_by) ≡ declaration_of bytes ts rows r =
-    λ r. declared_same bytes ts ps rows.parts r (outers r.declared_by) (g.same r.declared_by) ∙ ap (λ (o : Option Declarer). declaration_by bytes ts rows.parts r o) (g.outer r.declared_by) in
+pub declarations_same : (bytes : List ℕ) (ts : List Token) (rows : TableRows) (ps : List FormPart) → HasParts rows.declarers rows.parts ps
+    → filter_map (λ r. declaration_by bytes ts ps r (outer_by rows.declarers r.declared_by)) rows.declared ≡ filter_map (declaration_of bytes ts rows) rows.declared
+declarations_same bytes ts rows ps same =
+    let e : (r : Declared) → declaration_by bytes ts ps r (outer_by rows.declarers r.declared_by) ≡ declaration_of bytes ts rows r =
+    λ r. declared_same bytes ts ps rows.parts r (outer_by rows.declarers r.declared_by) (same r.declared_by) in
     ap (λ (h : Declared → Option Declaration). filter_map h rows.declared) (λ i r. e r i)
 
-pub bases_same : (bytes : List ℕ) (ts : List Token) (rows : TableRows) (outers : ℕ → Option Declarer) → ((k : ℕ) → outers k ≡ outer_by rows.declarers k)
-    → filter_map (λ r. base_by bytes ts r (outers r.owner)) rows.records ≡ filter_map (base_of bytes ts rows.declarers) rows.records
-bases_same bytes ts rows outers h = ap (λ (f : RecordRow → Option Base). filter_map f rows.records) (λ i r. base_by bytes ts r (h r.owner i))
-
-pub assembled : (bytes : List ℕ) (ts : List Token) (table : TableRows) (ps : List FormPart) (outers : ℕ → Option Declarer) (rows : Rows) (a b c d : List ℕ) → IsGathered table.declarers table.parts ps outers
+pub assembled : (bytes : List ℕ) (ts : List Token) (table : TableRows) (ps : List FormPart) (rows : Rows) (a b c d : List ℕ) → HasParts table.declarers table.parts ps
     → TellsOn text_in a rows.name (text_at bytes ts 1) → IsGrown a b
-    → AllTell (declaration_in (form_at bytes ts ps)) b rows.declarations.items (filter_map (λ r. declaration_by bytes ts ps r (outers r.declared_by)) table.declared) → IsGrown b c
-    → AllTell base_in c rows.bases.items (filter_map (λ r. base_by bytes ts r (outers r.owner)) table.records) → IsGrown c d → AllTell import_in d rows.imports.items (map (imported_of bytes ts) table.imports)
+    → AllTell (declaration_in (form_at bytes ts ps)) b rows.declarations.items (filter_map (λ r. declaration_by bytes ts ps r (outer_by table.declarers r.declared_by)) table.declared) → IsGrown b c
+    → AllTell base_in c rows.bases.items (filter_map (base_of bytes ts table.declarers) table.records) → IsGrown c d → AllTell import_in d rows.imports.items (map (imported_of bytes ts) table.imports)
     → IsGrown d rows.text.items → AllTell part_row_in rows.text.items rows.parts.items (map (part_of bytes ts) ps) → interface_in rows ≡ interface_of bytes ts table
-assembled bytes ts table ps outers rows a b c d gathered name ab declarations bc bases cd imports de parts =
+assembled bytes ts table ps rows a b c d same name ab declarations bc bases cd imports de parts =
     let text = rows.text.items in
     let ce = grown_twice cd de in
     let be = grown_twice bc ce in
@@ -68,8 +62,8 @@ assembled bytes ts table ps outers rows a b c d gathered name ab declarations bc
     let forms : form_in text rows.parts.items ≡ form_at bytes ts ps = forms_same bytes ts text rows.parts.items ps (all_tell_now part_row_in text rows.parts.items _ parts) in
     let declared : map (declaration_in (form_in text rows.parts.items) text) rows.declarations.items ≡ filter_map (declaration_of bytes ts table) table.declared =
     ap (λ (f : ℕ → ℕ → List Part). map (declaration_in f text) rows.declarations.items) forms ∙ all_tell_now (declaration_in (form_at bytes ts ps)) text rows.declarations.items _ (all_tell_grown (declaration_in (form_at bytes ts ps)) b text rows.declarations.items _ declarations be)
-    ∙ declarations_same bytes ts table ps outers gathered in
+    ∙ declarations_same bytes ts table ps same in
     let based : map (base_in text) rows.bases.items ≡ filter_map (base_of bytes ts table.declarers) table.records =
-    all_tell_now base_in text rows.bases.items _ (all_tell_grown base_in c text rows.bases.items _ bases ce) ∙ bases_same bytes ts table outers gathered.outer in
+    all_tell_now base_in text rows.bases.items _ (all_tell_grown base_in c text rows.bases.items _ bases ce) in
     let imported : map (import_in text) rows.imports.items ≡ map (imported_of bytes ts) table.imports = all_tell_now import_in text rows.imports.items _ (all_tell_grown import_in d text rows.imports.items _ imports de) in
     λ i. record { name = named i; declarations = declared i; bases = based i; imports = imported i }

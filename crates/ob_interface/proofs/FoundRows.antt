@@ -1,5 +1,5 @@
 -- What is found by a name in an interface, and the rows that declare it.
-use Rattle.std.proofs.Common.{◌≡◌, ℕ, zero, suc, ◌<◌, ◌≤◌, List, [], ◌∷◌, Bool, true, false, cond, Option, Some, None, refl, sym, ap, ◌∙◌, subst, arith, ◌⊎◌, inl, inr}
+use Rattle.std.proofs.Common.{◌≡◌, ℕ, zero, suc, ◌<◌, ◌≤◌, List, [], ◌∷◌, get_or, Bool, true, false, cond, Option, Some, None, refl, sym, ap, ◌∙◌, subst, arith, ◌⊎◌, inl, inr}
 use Rattle.std.specs.Prelude.{◌↔◌, Contains, find, nat_eq, slice_get, ◌==◌}
 use Rattle.std.specs.List.{cons_option, filter_map}
 use Rattle.std.specs.Option.{option_and_then, option_eq, option_map_or}
@@ -11,8 +11,9 @@ use Rattle.ob_scan.specs.declared.token.Token.{Token}
 use Rattle.ob_scan.specs.Texts.{text_at}
 use Rattle.ob_rows.specs.declared.rows.Declarer.{Declarer}
 use Rattle.ob_rows.specs.declared.rows.Declared.{Declared}
-use Rattle.ob_rows.specs.Order.{AreRowsInOrder, AscendBy}
+use Rattle.ob_rows.specs.Order.{AreRowsInOrder, AscendBy, HasNoneBy, IsPlaceBy}
 use Rattle.ob_rows.specs.Parts.{Rows}
+use Rattle.ob_rows.proofs.Searched.{none_among}
 use Rattle.ob_interface.specs.Interfaces.{declaration, declaration_by, declaration_of, interface_of, is_outer, is_seen_outside, outer_by, Declaration}
 use Rattle.ob_interface.specs.OwnTable.{Declares, IsFirstDeclared}
 use Rattle.ob_interface.specs.Placed.{declaration_at, is_member, place_of}
@@ -122,6 +123,56 @@ module _ {X Y : Type 0} (h : X → Option Y) (p : Y → Bool) where
       made None e rest = rest
       made (Some y) e rest = passed y (p y) e rest
 
+-- ---- the construct of the module's block that begins with a token
+
+module _ (ds : List Declarer) (ordered : AscendBy (λ (d : Declarer). d.first) ds) where
+  construct_is : (k : ℕ) (by : Declarer) → outer_by ds k ≡ Some by → Contains ds by × (by.block ≡ 0) × (by.first ≡ k)
+  construct_is k by at =
+      let found = is_found (λ (d : Declarer). d.first) (is_outer k) ds ordered in
+      let first = subst (IsFound (λ (d : Declarer). d.first) (is_outer k) ds) at found in
+      (first.among, eqb-true by.block 0 (left (by.block == 0) (by.first == k) first.passes), eqb-true by.first k (right (by.block == 0) (by.first == k) first.passes))
+
+  is_construct : (k : ℕ) (by : Declarer) → Contains ds by → by.block ≡ 0 → by.first ≡ k → outer_by ds k ≡ Some by
+  is_construct k by has block first = found_first (λ (d : Declarer). d.first) (is_outer k) ds by ordered (record {
+    among = has;
+    passes = both_true (by.block == 0) (by.first == k) (eq-eqb by.block 0 block) (eq-eqb by.first k first);
+    first = λ d among passes. let same : d.first ≡ k = eqb-true d.first k (right (d.block == 0) (d.first == k) passes) in omega arith;
+  })
+
+  -- there is none where the one that begins so is not in the module's block
+  no_construct : (k : ℕ) (by : Declarer) → Contains ds by → (by.block ≡ 0 → ⊥) → by.first ≡ k → outer_by ds k ≡ None
+  no_construct k by has inside first = go (outer_by ds k) refl
+    where
+      go : (o : Option Declarer) → outer_by ds k ≡ o → o ≡ None
+      go None at = refl
+      go (Some other) at =
+          let (among, block, begins) = construct_is k other at in
+          let same : by ≡ other = one_number (λ (d : Declarer). d.first) (is_outer k) ds by other ordered has among (first ∙ sym begins) in
+          absurd (inside (ap (λ (d : Declarer). d.block) same ∙ block))
+
+  -- nor where none begins so
+  pub none_begins : (k : ℕ) → HasNoneBy (λ (d : Declarer). d.first) ds k → outer_by ds k ≡ None
+  none_begins k none = go (outer_by ds k) refl
+    where
+      go : (o : Option Declarer) → outer_by ds k ≡ o → o ≡ None
+      go None at = refl
+      go (Some by) at =
+          let (among, block, begins) = construct_is k by at in
+          absurd (none_among (λ (d : Declarer). d.first) ds k none by among begins)
+
+  -- what is read at the place of the one that begins so
+  pub outer_read : (k at : ℕ) (d : Declarer) → IsPlaceBy (λ (x : Declarer). x.first) ds k at → (get_or ds at d).block ≡ 0 → Some (get_or ds at d) ≡ outer_by ds k
+  outer_read k at d found block =
+      let same : get_or ds at d ≡ found.element = get_or_from_slice_get ds at found.element d found.there in
+      let there = of_place (λ (x : Declarer). x.first) (is_outer k) ds at found.element found.there in
+      ap Some same ∙ sym (is_construct k found.element there (ap (λ (x : Declarer). x.block) (sym same) ∙ block) found.has)
+
+  pub inner_read : (k at : ℕ) (d : Declarer) → IsPlaceBy (λ (x : Declarer). x.first) ds k at → ((get_or ds at d).block ≡ 0 → ⊥) → None ≡ outer_by ds k
+  inner_read k at d found inside =
+      let same : get_or ds at d ≡ found.element = get_or_from_slice_get ds at found.element d found.there in
+      let there = of_place (λ (x : Declarer). x.first) (is_outer k) ds at found.element found.there in
+      sym (no_construct k found.element there (λ block. inside (ap (λ (x : Declarer). x.block) same ∙ block)) found.has)
+
 -- ---- the rows that declare a name
 
 module _ (bytes : List ℕ) (ts : List Token) (rows : Rows) (of_record : Option ℕ) (name : List ℕ) (ordered : AreRowsInOrder rows) where
@@ -136,19 +187,6 @@ module _ (bytes : List ℕ) (ts : List Token) (rows : Rows) (of_record : Option 
     declares : Declares bytes ts rows of_record name row by
     told : told_of row ≡ Some (declaration bytes ts rows.parts row by)
 
-  construct_is : (k : ℕ) (by : Declarer) → outer_by rows.declarers k ≡ Some by → Contains rows.declarers by × (by.block ≡ 0) × (by.first ≡ k)
-  construct_is k by at =
-      let found = is_found (λ (d : Declarer). d.first) (is_outer k) rows.declarers ordered.declarers in
-      let first = subst (IsFound (λ (d : Declarer). d.first) (is_outer k) rows.declarers) at found in
-      (first.among, eqb-true by.block 0 (left (by.block == 0) (by.first == k) first.passes), eqb-true by.first k (right (by.block == 0) (by.first == k) first.passes))
-
-  is_construct : (k : ℕ) (by : Declarer) → Contains rows.declarers by → by.block ≡ 0 → by.first ≡ k → outer_by rows.declarers k ≡ Some by
-  is_construct k by has block first = found_first (λ (d : Declarer). d.first) (is_outer k) rows.declarers by ordered.declarers (record {
-    among = has;
-    passes = both_true (by.block == 0) (by.first == k) (eq-eqb by.block 0 block) (eq-eqb by.first k first);
-    first = λ d among passes. let same : d.first ≡ k = eqb-true d.first k (right (d.block == 0) (d.first == k) passes) in omega arith;
-  })
-
   fits_told : (row : Declared) → Contains rows.declared row → fits row ≡ true → (by : Declarer) × IsToldBy row by
   fits_told row has fit = construct (outer_by rows.declarers row.declared_by) refl fit
     where
@@ -156,7 +194,7 @@ module _ (bytes : List ℕ) (ts : List Token) (rows : Rows) (of_record : Option 
           → option_map_or (is_member of_record name) (cond b (Some (declaration bytes ts rows.parts row by)) None) false ≡ true → IsToldBy row by
       seen by false at e fit = absurd cc
       seen by true at e fit =
-          let (among, block, first) = construct_is row.declared_by by at in
+          let (among, block, first) = construct_is rows.declarers ordered.declarers row.declared_by by at in
           let in_record = left (option_eq nat_eq by.of_record of_record) (bytes_eq (text_at bytes ts row.number) name) fit in
           let named = right (option_eq nat_eq by.of_record of_record) (bytes_eq (text_at bytes ts row.number) name) fit in
           record {
@@ -179,7 +217,7 @@ module _ (bytes : List ℕ) (ts : List Token) (rows : Rows) (of_record : Option 
 
   told_by : (row : Declared) (by : Declarer) → Declares bytes ts rows of_record name row by → told_of row ≡ Some (declaration bytes ts rows.parts row by)
   told_by row by is =
-      ap (declaration_by bytes ts rows.parts row) (is_construct row.declared_by by is.is_construct is.in_block is.begins)
+      ap (declaration_by bytes ts rows.parts row) (is_construct rows.declarers ordered.declarers row.declared_by by is.is_construct is.in_block is.begins)
       ∙ ap (λ (b : Bool). cond b (Some (declaration bytes ts rows.parts row by)) None) is.seen
 
   told_fits : (row : Declared) (by : Declarer) → Declares bytes ts rows of_record name row by → fits row ≡ true

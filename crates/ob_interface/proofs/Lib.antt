@@ -6,3 +6,4 @@ pub mod Ordered
 pub mod LookedUp
 pub mod Made
 pub mod FoundRows
+pub mod Counting

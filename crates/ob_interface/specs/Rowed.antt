@@ -1,5 +1,5 @@
 -- What rows and a buffer say together.
-use Rattle.std.specs.Prelude.{ℕ, List, map, slice_range}
+use Rattle.std.specs.Prelude.{ℕ, ◌≤◌, ◌^◌, List, length, map, slice_range}
 use Rattle.ob_interface.specs.declared.rows.PartRow.{PartRow}
 use Rattle.ob_interface.specs.declared.rows.Rows.{Rows}
 use Rattle.ob_interface.specs.Interfaces.{ModuleInterface, Part}
@@ -17,3 +17,9 @@ interface_in r = record {
   bases = map (base_in r.text.items) r.bases.items;
   imports = map (import_in r.text.items) r.imports.items;
 }
+
+-- the places of declarations, bases and import items are numbers of 32 bits
+pub record AreFew (r : Rows) : Type 0 where
+  pub declarations : length r.declarations.items ≤ 2 ^ 32
+  pub bases : length r.bases.items ≤ 2 ^ 32
+  pub imports : length r.imports.items ≤ 2 ^ 32

@@ -127,11 +127,11 @@ impl<'a> Form<'a> {
 }
 
 /// The parts from one place to another; what stands beyond the last is left out.
-pub(crate) fn parts_between(parts: &[PartRow], first: u32, end: u32) -> &[PartRow]
+pub(crate) fn parts_between(parts: &[PartRow], first: usize, end: usize) -> &[PartRow]
     ensures { result.now ≡ slice_range parts.now first end }
 {
-    let rest = &parts[(first as usize).min(parts.len())..];
-    let length = end.saturating_sub(first) as usize;
+    let rest = &parts[first.min(parts.len())..];
+    let length = end.saturating_sub(first);
     &rest[..length.min(rest.len())]
 }
 

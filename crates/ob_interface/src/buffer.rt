@@ -9,24 +9,14 @@ use ob_rows::{FormPart, Part};
 use ob_scan::TokenTexts;
 use std::alloc::AllocError;
 
-/// A length as a place in the buffer. AllocError is answered from 2^32 on.
-pub(crate) fn place(length: usize) -> Result<u32, AllocError>
-    ensures { IfOk result (λ n. n ≡ length) }
-{
-    match u32::try_from(length) {
-        Ok(place) => Ok(place),
-        Err(_) => Err(AllocError),
-    }
-}
-
-/// Adds a text to the buffer. AllocError is also answered where the buffer came to 2^32 bytes.
+/// Adds a text to the buffer.
 pub(crate) fn add_text(text: &mut Vec<u8>, more: &[u8]) -> Result<Span, AllocError>
     ensures grown { IfOk result (λ _. text.new.items ≡ text.old.items ++ more.now) }
     ensures tells { IfOk result (λ s. TellsOn text_in text.new.items s more.now) }
 {
-    let start = place(text.len())?;
+    let start = text.len();
     text.extend_from_slice(more)?;
-    let end = place(text.len())?;
+    let end = text.len();
     Ok(Span { start, end })
 }
 

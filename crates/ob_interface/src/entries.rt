@@ -1,81 +1,83 @@
 //! The indexes of the rows.
-ghost use Rattle.std.specs.Prelude.{◌≡◌, ◌++◌, Some, IfOk, IsPermutation};
+ghost use Rattle.std.specs.Prelude.{◌≡◌, ◌++◌, ◌<◌, ◌≤◌, ◌^◌, Some, IfOk, IsPermutation, length};
 ghost use Rattle.ob_interface.specs.Orders.{alias_entry, base_entry, last_part, member_entry, owner_by, owner_entry, record_of, AreByName, AreByRecord};
 ghost use Rattle.ob_interface.specs.Places.{entries_from};
 ghost use Rattle.std.specs.Option.{option_copied, option_to_list};
 
 use crate::answers::parts_between;
-use crate::buffer::place;
 use crate::order::{put_by_name, put_by_record};
 use crate::rows::{BaseRow, DeclarationRow, ImportRow, NamePlace, PartRow, RecordPlace, RowPart};
 use std::alloc::{AllocError, Global};
 
 /// The entry of a declaration at this place.
-fn member_entry(row: &DeclarationRow, at: usize) -> Result<NamePlace, AllocError>
-    ensures { IfOk result (λ entry. member_entry row.now at ≡ Some entry) }
+fn member_entry(row: &DeclarationRow, at: usize) -> NamePlace
+    requires { at < 2 ^ 32 }
+    ensures { member_entry row.now at ≡ Some result }
 {
-    let place = place(at)?;
-    Ok(NamePlace {
+    NamePlace {
         record: row.record,
         name: row.name,
-        place,
-    })
+        place: at as u32,
+    }
 }
 
 /// An entry for each declaration.
 fn member_entries(alloc: Global, rows: &[DeclarationRow]) -> Result<Vec<NamePlace>, AllocError>
+    requires { length rows.now ≤ 2 ^ 32 }
     ensures { IfOk result (λ entries. entries.items ≡ entries_from member_entry 0 rows.now) }
 {
     let mut entries = Vec::with_capacity(alloc, rows.len())?;
     for i in 0..rows.len() {
-        let entry = member_entry(&rows[i], i)?;
+        let entry = member_entry(&rows[i], i);
         entries.push(entry)?;
     }
     Ok(entries)
 }
 
 /// The entry of an import item at this place.
-fn alias_entry(row: &ImportRow, at: usize) -> Result<NamePlace, AllocError>
-    ensures { IfOk result (λ entry. alias_entry row.now at ≡ Some entry) }
+fn alias_entry(row: &ImportRow, at: usize) -> NamePlace
+    requires { at < 2 ^ 32 }
+    ensures { alias_entry row.now at ≡ Some result }
 {
-    let place = place(at)?;
-    Ok(NamePlace {
+    NamePlace {
         record: None,
         name: row.alias,
-        place,
-    })
+        place: at as u32,
+    }
 }
 
 /// An entry for each import item.
 fn alias_entries(alloc: Global, rows: &[ImportRow]) -> Result<Vec<NamePlace>, AllocError>
+    requires { length rows.now ≤ 2 ^ 32 }
     ensures { IfOk result (λ entries. entries.items ≡ entries_from alias_entry 0 rows.now) }
 {
     let mut entries = Vec::with_capacity(alloc, rows.len())?;
     for i in 0..rows.len() {
-        let entry = alias_entry(&rows[i], i)?;
+        let entry = alias_entry(&rows[i], i);
         entries.push(entry)?;
     }
     Ok(entries)
 }
 
 /// The entry of a base at this place.
-fn base_entry(row: &BaseRow, at: usize) -> Result<RecordPlace, AllocError>
-    ensures { IfOk result (λ entry. base_entry row.now at ≡ Some entry) }
+fn base_entry(row: &BaseRow, at: usize) -> RecordPlace
+    requires { at < 2 ^ 32 }
+    ensures { base_entry row.now at ≡ Some result }
 {
-    let place = place(at)?;
-    Ok(RecordPlace {
+    RecordPlace {
         record: row.record,
-        place,
-    })
+        place: at as u32,
+    }
 }
 
 /// An entry for each base.
 fn base_entries(alloc: Global, rows: &[BaseRow]) -> Result<Vec<RecordPlace>, AllocError>
+    requires { length rows.now ≤ 2 ^ 32 }
     ensures { IfOk result (λ entries. entries.items ≡ entries_from base_entry 0 rows.now) }
 {
     let mut entries = Vec::with_capacity(alloc, rows.len())?;
     for i in 0..rows.len() {
-        let entry = base_entry(&rows[i], i)?;
+        let entry = base_entry(&rows[i], i);
         entries.push(entry)?;
     }
     Ok(entries)
@@ -104,12 +106,13 @@ fn add_owner(
     record: Option<u32>,
     at: usize,
 ) -> Result<(), AllocError>
+    requires { at < 2 ^ 32 }
     ensures { IfOk result (λ _. owners.new.items ≡ owners.old.items ++ option_to_list (owner_by at «record»)) }
 {
     match record {
         None => Ok(()),
         Some(record) => {
-            let place = place(at)?;
+            let place = at as u32;
             owners.push(RecordPlace { record, place })?;
             Ok(())
         }
@@ -122,6 +125,7 @@ fn owner_entries(
     parts: &[PartRow],
     rows: &[DeclarationRow],
 ) -> Result<Vec<RecordPlace>, AllocError>
+    requires { length rows.now ≤ 2 ^ 32 }
     ensures { IfOk result (λ entries. entries.items ≡ entries_from (owner_entry parts.now) 0 rows.now) }
 {
     let mut entries = Vec::new(alloc);
@@ -138,6 +142,7 @@ pub(crate) fn members_of(
     text: &[u8],
     rows: &[DeclarationRow],
 ) -> Result<Vec<NamePlace>, AllocError>
+    requires { length rows.now ≤ 2 ^ 32 }
     ensures sorted { IfOk result (λ entries. AreByName text.now entries.items) }
     ensures same { IfOk result (λ entries. IsPermutation (entries_from member_entry 0 rows.now) entries.items) }
 {
@@ -152,6 +157,7 @@ pub(crate) fn aliases_of(
     text: &[u8],
     rows: &[ImportRow],
 ) -> Result<Vec<NamePlace>, AllocError>
+    requires { length rows.now ≤ 2 ^ 32 }
     ensures sorted { IfOk result (λ entries. AreByName text.now entries.items) }
     ensures same { IfOk result (λ entries. IsPermutation (entries_from alias_entry 0 rows.now) entries.items) }
 {
@@ -162,6 +168,7 @@ pub(crate) fn aliases_of(
 
 /// The bases in the order of their records and places.
 pub(crate) fn bases_of(alloc: Global, rows: &[BaseRow]) -> Result<Vec<RecordPlace>, AllocError>
+    requires { length rows.now ≤ 2 ^ 32 }
     ensures sorted { IfOk result (λ entries. AreByRecord entries.items) }
     ensures same { IfOk result (λ entries. IsPermutation (entries_from base_entry 0 rows.now) entries.items) }
 {
@@ -176,6 +183,7 @@ pub(crate) fn owners_of(
     parts: &[PartRow],
     rows: &[DeclarationRow],
 ) -> Result<Vec<RecordPlace>, AllocError>
+    requires { length rows.now ≤ 2 ^ 32 }
     ensures sorted { IfOk result (λ entries. AreByRecord entries.items) }
     ensures same { IfOk result (λ entries. IsPermutation (entries_from (owner_entry parts.now) 0 rows.now) entries.items) }
 {

@@ -1,61 +1,63 @@
 //! The parts of the forms that the module's block has.
-ghost use Rattle.std.specs.Prelude.{◌≡◌, ℕ, nat_eq, map, slice_range, IfOk, IsSome};
+ghost use Rattle.std.specs.Prelude.{◌≡◌, ℕ, map, slice_range, IfOk, IsSome};
 ghost use Rattle.std.specs.List.{filter};
 ghost use Rattle.std.specs.List.Sorted.{IsNonDecreasingBy};
-ghost use Rattle.indexmap.specs.IndexMap.{get};
 ghost use Rattle.ob_scan.specs.Spelling.{AreInText};
-ghost use Rattle.ob_interface.specs.Interfaces.{is_part_by, part_of};
+ghost use Rattle.ob_rows.specs.Order.{AscendBy};
+ghost use Rattle.ob_rows.specs.declared.rows.Declarer.{Declarer as DeclarerRow};
+ghost use Rattle.ob_interface.specs.Interfaces.{is_part_by, outer_by, part_of};
 ghost use Rattle.ob_interface.specs.Texts.{part_row_in, AllTell, IsGrown};
 
-use crate::buffer::{add_part, place};
+use crate::buffer::add_part;
+use crate::outers::outer_near;
 use crate::rows::PartRow;
-use indexmap::IndexMap;
 use ob_rows::{Declarer, FormPart};
 use ob_scan::TokenTexts;
 use std::alloc::{AllocError, Global};
 
-/// The parts that these constructs give, in their order.
+/// The parts that constructs of the module's block give, in their order.
 fn parts_by(
     alloc: Global,
-    outers: &IndexMap<u32, Declarer>,
+    declarers: &[Declarer],
     parts: &[FormPart],
 ) -> Result<Vec<FormPart>, AllocError>
-    ensures { IfOk result (λ own. (k : ℕ) → IsSome (get nat_eq outers.now k) → filter (is_part_by k) own.items ≡ filter (is_part_by k) parts.now) }
+    requires { AscendBy (λ (d : DeclarerRow). d.first) declarers.now }
+    ensures { IfOk result (λ own. (k : ℕ) → IsSome (outer_by declarers.now k) → filter (is_part_by k) own.items ≡ filter (is_part_by k) parts.now) }
 {
     let mut own = Vec::new(alloc);
+    let mut near = 0;
     for i in 0..parts.len() {
         let part = parts[i];
-        if outers.contains_key(&part.declared_by) {
+        if outer_near(declarers, &mut near, part.declared_by).is_some() {
             own.push(part)?;
         }
     }
     Ok(own)
 }
 
-/// The parts that these constructs give, those of each together.
+/// The parts that constructs of the module's block give, those of each together.
 pub(crate) fn parts_of(
     alloc: Global,
-    outers: &IndexMap<u32, Declarer>,
+    declarers: &[Declarer],
     parts: &[FormPart],
 ) -> Result<Vec<FormPart>, AllocError>
+    requires { AscendBy (λ (d : DeclarerRow). d.first) declarers.now }
     ensures together { IfOk result (λ own. IsNonDecreasingBy (λ p. p.declared_by) own.items) }
-    ensures same { IfOk result (λ own. (k : ℕ) → IsSome (get nat_eq outers.now k) → filter (is_part_by k) own.items ≡ filter (is_part_by k) parts.now) }
+    ensures same { IfOk result (λ own. (k : ℕ) → IsSome (outer_by declarers.now k) → filter (is_part_by k) own.items ≡ filter (is_part_by k) parts.now) }
 {
-    let mut own = parts_by(alloc, outers, parts)?;
+    let mut own = parts_by(alloc, declarers, parts)?;
     own.sort_by_key(|part| part.declared_by)?;
     Ok(own)
 }
 
 /// Where the parts of one construct begin, and where they end.
-pub(crate) fn places_of(parts: &[FormPart], declared_by: u32) -> Result<(u32, u32), AllocError>
+pub(crate) fn places_of(parts: &[FormPart], declared_by: u32) -> (usize, usize)
     requires { IsNonDecreasingBy (λ p. p.declared_by) parts.now }
-    ensures { IfOk result (λ r. slice_range parts.now r.0 r.1 ≡ filter (is_part_by declared_by) parts.now) }
+    ensures { slice_range parts.now result.0 result.1 ≡ filter (is_part_by declared_by) parts.now }
 {
     let first = parts.partition_point(|part| part.declared_by < declared_by);
     let end = parts.partition_point(|part| part.declared_by <= declared_by);
-    let first = place(first)?;
-    let end = place(end)?;
-    Ok((first, end))
+    (first, end)
 }
 
 /// Adds the texts of the parts.

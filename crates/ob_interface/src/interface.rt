@@ -1,11 +1,11 @@
 //! Interfaces, with their indexes.
-ghost use Rattle.std.specs.Prelude.{◌≡◌, ◌+◌, ◌<◌, ◌^◌, None, Some, IfOk, OnSome, position, slice_get};
+ghost use Rattle.std.specs.Prelude.{◌≡◌, ◌+◌, ◌<◌, ◌≤◌, ◌^◌, None, Some, IfOk, OnSome, length, position, slice_get};
 ghost use Rattle.std.specs.Option.{option_and_then, option_map};
 ghost use Rattle.ob_interface.specs.Answered.{base_told, declaration_told, part_told};
 ghost use Rattle.ob_interface.specs.Orders.{fits_alias, fits_base, fits_name, name_key, place_by_name, place_by_record, record_key, AreByName, AreByRecord};
 ghost use Rattle.ob_interface.specs.Placed.{base_named, declaration_at, form_part, holds, module_named, owner_place, place_of};
 ghost use Rattle.ob_interface.specs.Places.{Indexes};
-ghost use Rattle.ob_interface.specs.Rowed.{interface_in};
+ghost use Rattle.ob_interface.specs.Rowed.{interface_in, AreFew};
 ghost use Rattle.ob_interface.specs.Indexed.{HasIndexes};
 ghost use Rattle.ob_interface.specs.Texts.{base_in, text_in};
 ghost use Rattle.ob_interface.specs.declared.rows.ImportRow.{ImportRow as ImportItem};
@@ -33,6 +33,7 @@ struct RowIndexes {
 
 /// The indexes of these rows.
 fn indexes_of(alloc: Global, rows: &Rows) -> Result<RowIndexes, AllocError>
+    requires { AreFew rows.now }
     ensures { IfOk result (λ x. HasIndexes rows.now x.members.items x.aliases.items x.bases.items x.owners.items) }
 {
     let text = rows.text.as_slice();
@@ -125,13 +126,13 @@ fn declaration_in(rows: &Rows, place: u32) -> Option<Declaration<'_>>
 }
 
 /// The part at a place of the form of the declaration at a place.
-fn part_in(rows: &Rows, place: u32, at: u32) -> Option<Part<'_>>
+fn part_in(rows: &Rows, place: u32, at: usize) -> Option<Part<'_>>
     ensures part { option_map part_told result ≡ form_part (interface_in rows.now) place at }
-    ensures few { OnSome result (at + 1 < 2 ^ 32) }
+    ensures few { OnSome result (at + 1 < 2 ^ 64) }
 {
     let row = declaration_row(rows, place)?;
     let form = parts_between(rows.parts.as_slice(), row.first_part, row.parts_end);
-    let part = form.get(at as usize)?;
+    let part = form.get(at)?;
     Some(part_of(rows.text.as_slice(), part.part))
 }
 
@@ -172,7 +173,7 @@ fn based_in<'a>(rows: &'a Rows, bases: &[RecordPlace], record: u32) -> Option<Ba
 }
 
 impl Interface {
-    /// The same with its indexes. AllocError is answered where a growth of memory is refused, and from 2^32 rows on.
+    /// The same with its indexes. AllocError is answered where a growth of memory is refused.
     pub fn new(alloc: Global, seen: Seen) -> Result<Interface, AllocError>
         ensures { IfOk result (λ i. i ≡ seen) }
     {
@@ -186,6 +187,14 @@ impl Interface {
         ensures { result.now ≡ self.now.name }
     {
         text_of(self.rows.text.as_slice(), self.rows.name)
+    }
+
+    /// How many declarations it has: no more than places of 32 bits.
+    pub fn declaration_count(&self) -> usize
+        ensures count { result ≡ length self.now.declarations }
+        ensures few { result ≤ 2 ^ 32 }
+    {
+        self.rows.declarations.len()
     }
 
     /// The place of the declaration of a name in a record, or in the block where no record is given.
@@ -203,9 +212,9 @@ impl Interface {
     }
 
     /// The part at a place, from 0, of the form of the declaration at a place.
-    pub fn part(&self, place: u32, at: u32) -> Option<Part<'_>>
+    pub fn part(&self, place: u32, at: usize) -> Option<Part<'_>>
         ensures part { option_map part_told result ≡ form_part self.now place at }
-        ensures few { OnSome result (at + 1 < 2 ^ 32) }
+        ensures few { OnSome result (at + 1 < 2 ^ 64) }
     {
         part_in(&self.rows, place, at)
     }

@@ -1,5 +1,5 @@
 //! What other modules see of a module, as one value with its texts in one buffer.
-//! Stands on `ob_rows` and `ob_scan`, with `indexmap` for its tables.
+//! Stands on `ob_rows` and `ob_scan`.
 //! Its contract: the interface is exactly what the rows of the module's table say of its block.
 #![tactic(auto)]
 

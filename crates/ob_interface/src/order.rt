@@ -14,8 +14,8 @@ use std::cmp::Ordering;
 pub(crate) fn text_of(text: &[u8], span: Span) -> &[u8]
     ensures { result.now ≡ text_in text.now span }
 {
-    let rest = &text[(span.start as usize).min(text.len())..];
-    let length = span.end.saturating_sub(span.start) as usize;
+    let rest = &text[span.start.min(text.len())..];
+    let length = span.end.saturating_sub(span.start);
     &rest[..length.min(rest.len())]
 }
 

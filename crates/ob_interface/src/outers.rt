@@ -1,25 +1,38 @@
-//! The constructs of the module's block, by their first tokens.
-ghost use Rattle.std.specs.Prelude.{◌≡◌, ℕ, nat_eq, IfOk};
-ghost use Rattle.indexmap.specs.IndexMap.{get};
+//! The constructs of the module's block, by their first tokens: each is sought first where the last one was found, and behind it.
+ghost use Rattle.std.specs.Prelude.{◌≡◌, IfNone, IfSome};
+ghost use Rattle.ob_rows.specs.Order.{AscendBy, HasNoneBy, IsPlaceBy};
+ghost use Rattle.ob_rows.specs.declared.rows.Declarer.{Declarer as DeclarerRow};
 ghost use Rattle.ob_interface.specs.Interfaces.{outer_by};
 
-use indexmap::IndexMap;
-use ob_rows::Declarer;
-use std::alloc::{AllocError, Global};
+use ob_rows::{Declarer, place_of};
 
-/// The constructs that declare in the module's block, by their first tokens.
-pub(crate) fn outers_of(
-    alloc: Global,
-    declarers: &[Declarer],
-) -> Result<IndexMap<u32, Declarer>, AllocError>
-    ensures { IfOk result (λ outers. (k : ℕ) → get nat_eq outers k ≡ outer_by declarers.now k) }
+/// At so many places it is looked first.
+const NEAR: usize = 4;
+
+/// The place of the construct that begins with this token, looked for first at this place and behind it.
+fn place_near(declarers: &[Declarer], near: usize, first: u32) -> Option<usize>
+    requires { AscendBy (λ (d : DeclarerRow). d.first) declarers.now }
+    ensures found { IfSome result (IsPlaceBy (λ (d : DeclarerRow). d.first) declarers.now first) }
+    ensures none { IfNone result (HasNoneBy (λ (d : DeclarerRow). d.first) declarers.now first) }
 {
-    let mut outers = IndexMap::new(alloc);
-    for i in 0..declarers.len() {
-        let declarer = declarers[i];
-        if declarer.block == 0 && !outers.contains_key(&declarer.first) {
-            outers.insert(declarer.first, declarer)?;
+    for at in near..near.saturating_add(NEAR) {
+        if let Some(declarer) = declarers.get(at) {
+            if declarer.first == first {
+                return Some(at);
+            }
         }
     }
-    Ok(outers)
+    place_of(declarers, first)
+}
+
+/// The construct of the module's block that begins with this token. It is looked for near a place, and its own is near the next one.
+pub(crate) fn outer_near(declarers: &[Declarer], near: &mut usize, first: u32) -> Option<Declarer>
+    requires { AscendBy (λ (d : DeclarerRow). d.first) declarers.now }
+    ensures { result ≡ outer_by declarers.now first }
+{
+    let at = place_near(declarers, *near, first)?;
+    *near = at;
+    let declarer = declarers[at];
+    let is_outer = declarer.block == 0;
+    if is_outer { Some(declarer) } else { None }
 }

@@ -6,8 +6,8 @@ use std::alloc::Global;
 /// A part of the buffer: from one offset to another, in bytes.
 #[derive(Clone, Copy, Drop)]
 pub(crate) struct Span {
-    pub(crate) start: u32,
-    pub(crate) end: u32,
+    pub(crate) start: usize,
+    pub(crate) end: usize,
 }
 
 /// A name of one identifier, or of two with a dot between them.
@@ -45,8 +45,8 @@ pub(crate) struct DeclarationRow {
     pub(crate) exported: bool,
     pub(crate) record: Option<u32>,
     pub(crate) declared_by: u32,
-    pub(crate) first_part: u32,
-    pub(crate) parts_end: u32,
+    pub(crate) first_part: usize,
+    pub(crate) parts_end: usize,
 }
 
 /// The base of a record.

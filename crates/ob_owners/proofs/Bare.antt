@@ -1,11 +1,12 @@
 -- Parts of a tree in which no record stands.
-use Rattle.std.proofs.Common.{◌≡◌, ℕ, ◌+◌, Bool, true, false, List, [], ◌∷◌, ◌++◌, map, Option, Some, None, refl, sym, ap₂, subst}
+use Rattle.std.proofs.Common.{◌≡◌, ℕ, ◌+◌, Bool, true, false, List, [], ◌∷◌, ◌++◌, map, Option, Some, None, refl, sym, ap, ap₂, subst}
 use Rattle.ob_tree.specs.declared.name.OneOrMore.{OneOrMore}
 use Rattle.ob_rows.specs.declared.rows.Record.{Record}
 use Rattle.ob_rows.specs.declared.rows.Sort.{Sort}
 use Rattle.ob_rows.specs.Parts.{Piece, Rows, no_rows, joined, nothing, token, both, tells, within, if_there, if_so, each, declaring, opens_block}
 use Rattle.ob_decls.specs.Expressions.{each_after, used}
 use Rattle.ob_decls.specs.Types.{declared_row}
+use Rattle.ob_decls.proofs.Quiet.{Quiet, Told}
 
 abbrev domain : {A B : Type 0} → (A → B) → Type 0
 domain {A} f = A
@@ -75,3 +76,7 @@ b-declared starred = b-tells _ (λ c k. refl) b-token
 -- a first token with rows of its own
 pub b-first : (own : Context → ℕ → Rows) {p : Piece} → ((c : Context) (k : ℕ) → (own c k).records ≡ []) → Bare p → Bare (tells own (both token p))
 b-first own n f = b-tells own n (b-both b-token f)
+
+-- no record stands where names are only used
+pub bare : {p : Piece} → Quiet p → Bare p
+bare f = record { none = λ c k. ap (λ (t : Told). t.records) (f.none c k) }

@@ -1,5 +1,4 @@
 pub mod Bare
-pub mod Quiet
 pub mod Plain
 pub mod BareExpressions
 pub mod BareStatements

@@ -17,7 +17,7 @@ use Rattle.ob_rows.specs.Parts.{Piece, Rows, joined, no_rows, one_block, one_dec
 use Rattle.ob_decls.specs.Declaring.{import_inner, import_piece, import_row, module_end, procedure_end}
 use Rattle.ob_decls.specs.Types.{declared_row, identdef_piece, record_row, in_record}
 use Rattle.ob_owners.proofs.Bare.{Context}
-use Rattle.ob_owners.proofs.Quiet.{Quiet, Told, q-both, q-nothing, q-so, q-there, q-token}
+use Rattle.ob_decls.proofs.Quiet.{Quiet, Told, q-both, q-nothing, q-so, q-there, q-token}
 
 -- anything but an import item
 unfoldable pub IsNoImport : Sort → Type 0

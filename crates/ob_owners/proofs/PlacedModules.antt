@@ -23,12 +23,12 @@ use Rattle.std.proofs.Common.{ℕ}
 use Rattle.ob_decls.specs.Declaring.{outermost, rows_of}
 use Rattle.ob_rows.specs.Parts.{Rows}
 use Rattle.ob_owners.proofs.Bare.{Context}
-use Rattle.ob_owners.proofs.BareExpressions.{q-expr}
-use Rattle.ob_owners.proofs.BareStatements.{q-block}
+use Rattle.ob_decls.proofs.QuietExpressions.{q-expr}
+use Rattle.ob_decls.proofs.QuietStatements.{q-block}
 use Rattle.ob_owners.proofs.OwnedTypes.{identdef_some}
 use Rattle.ob_owners.proofs.Placed.{Free, Good, Holds, ended_later, free, free_later, g-both, g-constant, g-each, g-ends, g-finishes, g-free, g-import, g-is, g-map, g-owner, g-procedure, g-quiet, g-there, g-type, g-variable, typed_later}
 use Rattle.ob_owners.proofs.PlacedTypes.{g-form, g-parameters, g-variables}
-use Rattle.ob_owners.proofs.Quiet.{q-both, q-there, q-token}
+use Rattle.ob_decls.proofs.Quiet.{q-both, q-there, q-token}
 
 module _ (R : Rows) where
   g-token : {Pre : Context → ℕ → Type 0} → Good R Pre token

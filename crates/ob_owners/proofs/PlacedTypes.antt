@@ -23,11 +23,11 @@ use Rattle.ob_decls.specs.Types.{part_here, record_row, in_record, open_arrays, 
 use Rattle.ob_decls.proofs.TypeLayers as told
 use Rattle.ob_rows.specs.Parts.{Rows}
 use Rattle.ob_owners.proofs.Bare.{Context}
-use Rattle.ob_owners.proofs.BareExpressions.{q-expr}
-use Rattle.ob_owners.proofs.BareStatements.{q-qualident}
+use Rattle.ob_decls.proofs.QuietExpressions.{q-expr}
+use Rattle.ob_decls.proofs.QuietStatements.{q-qualident}
 use Rattle.ob_owners.proofs.OwnedTypes.{identdef_some}
 use Rattle.ob_owners.proofs.Placed.{Free, Named, Begun, Typed, Recorded, Good, free, free_later, named_later, typed_later, recorded_later, g-is, g-quiet, g-weak, g-both, g-silent, g-within, g-there, g-each, g-map, g-name, g-identdef, g-owner, g-parameter, g-field, g-record, typed_named}
-use Rattle.ob_owners.proofs.Quiet.{Quiet, q-nothing, q-token, q-both, q-so, q-there}
+use Rattle.ob_decls.proofs.Quiet.{Quiet, q-nothing, q-token, q-both, q-so, q-there}
 
 module _ (R : Rows) where
   -- ---- names and parameters

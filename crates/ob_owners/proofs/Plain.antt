@@ -7,8 +7,8 @@ use Rattle.ob_rows.specs.declared.rows.Declarer.{Declarer}
 use Rattle.ob_rows.specs.Parts.{Piece, Rows, no_rows, joined, nothing, token, both, tells, if_there, if_so, each}
 use Rattle.ob_decls.specs.Expressions.{used}
 use Rattle.ob_owners.proofs.Bare.{Context}
-use Rattle.ob_owners.proofs.Quiet as quiet
-use Rattle.ob_owners.proofs.Quiet.{Quiet}
+use Rattle.ob_decls.proofs.Quiet as quiet
+use Rattle.ob_decls.proofs.Quiet.{Quiet}
 
 -- the records, the parts of forms, the constructs that declare and what they declare
 pub record Told : Type 0 where

@@ -2,7 +2,7 @@
 use Rattle.ob_tree.specs.declared.name.Qualident.{Qualident}
 use Rattle.ob_tree.specs.declared.statement.StatementSequence.{StatementSequence}
 use Rattle.ob_decls.specs.Statements.{block_piece, qualident_piece}
-use Rattle.ob_owners.proofs.BareStatements.{q-block, q-qualident}
+use Rattle.ob_decls.proofs.QuietStatements.{q-block, q-qualident}
 use Rattle.ob_owners.proofs.Plain.{plain, Plain}
 
 pub b-qualident : (q : Qualident) → Plain (qualident_piece q)

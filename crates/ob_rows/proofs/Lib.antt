@@ -1,5 +1,6 @@
 pub mod Groups
-pub mod Orders
 pub mod Searched
 pub mod Steps
 pub mod TableRows
+pub mod Around
+pub mod Counted

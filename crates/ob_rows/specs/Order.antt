@@ -1,5 +1,5 @@
 -- What every table keeps: its rows stand in the order of their numbers.
-use Rattle.std.specs.Prelude.{◌≡◌, ℕ, ◌<◌, ◌≤◌, List, slice_get, Some}
+use Rattle.std.specs.Prelude.{◌≡◌, ℕ, ◌<◌, ◌≤◌, ◌^◌, List, length, slice_get, Some}
 use Rattle.ob_rows.specs.declared.rows.Declarer.{Declarer}
 use Rattle.ob_rows.specs.declared.rows.Declared.{Declared}
 use Rattle.ob_rows.specs.declared.rows.Used.{Used}
@@ -43,3 +43,9 @@ pub record AreRowsInOrder (r : Rows) : Type 0 where
   pub designators : AscendBy (λ (x : Designator). x.head) r.designators
   pub selectors : RiseBy (λ (x : Selector). x.of) r.selectors
   pub ends : AscendBy (λ (x : End). x.number) r.ends
+
+-- there are no more declared identifiers, import items and records than numbers of 32 bits
+pub record AreFewRows (r : Rows) : Type 0 where
+  pub declared : length r.declared ≤ 2 ^ 32
+  pub imports : length r.imports ≤ 2 ^ 32
+  pub records : length r.records ≤ 2 ^ 32

@@ -1,13 +1,11 @@
 //! A table that is being made.
 
 ghost use Rattle.std.specs.Prelude.{◌≡◌, ◌+◌, ◌++◌, ◌∷◌, [], false, length, IfOk};
-ghost use Rattle.ob_rows.specs.declared.rows.FormPart.{FormPart};
-ghost use Rattle.ob_rows.specs.Order.{AreRowsInOrder, RiseBy};
+ghost use Rattle.ob_rows.specs.Order.{AreRowsInOrder};
 ghost use Rattle.ob_rows.specs.Tables.{rows_in};
 ghost use Rattle.ob_rows.specs.Parts.{declarer, declaring_at, in_block, one_block, one_declarer, one_declared, one_designator, one_end, one_import, one_part, one_record, one_used, these_selectors};
 ghost use Rattle.ob_rows.specs.Drafts.{added, closed, drafted, passed, settled, stage_of, start, ComesTo};
 
-use crate::order::rise;
 use crate::rows::{
     Block, Declared, Declarer, Designator, End, FormPart, Import, Record, Selector, Sort, Used,
 };
@@ -304,15 +302,12 @@ impl Draft {
 }
 
 impl Draft {
-    /// The table of these rows, which are in order once the parts of each form stand together. That is looked at, and AllocError is
-    /// answered where they don't.
-    pub fn into_table(self) -> Result<Table, AllocError>
-        // Where the parts of each form stand together, all rows are in order.
-        requires { RiseBy (λ (p : FormPart). p.declared_by) (drafted self).parts → AreRowsInOrder (drafted self) }
-        ensures { IfOk result (λ t. rows_in t ≡ drafted self) }
+    /// The table of these rows.
+    pub fn into_table(self) -> Table
+        requires { AreRowsInOrder (drafted self) }
+        ensures { rows_in result ≡ drafted self }
     {
-        rise(self.parts.as_slice())?;
-        Ok(Table {
+        Table {
             declarers: self.declarers,
             declared: self.declared,
             uses: self.uses,
@@ -323,7 +318,7 @@ impl Draft {
             designators: self.designators,
             selectors: self.selectors,
             ends: self.ends,
-        })
+        }
     }
 }
 

@@ -1,11 +1,10 @@
 //! Rows in the order of their numbers.
 
-ghost use Rattle.std.specs.Prelude.{◌≡◌, ℕ, Contains, IfOk, IfSome, IfNone, nat_eq};
+ghost use Rattle.std.specs.Prelude.{◌≡◌, ℕ, ◌<◌, ◌≤◌, ◌^◌, Contains, IfSome, IfNone, length, nat_eq};
 ghost use Rattle.std.specs.List.{filter};
 ghost use Rattle.ob_rows.specs.Order.{AscendBy, HasNoneBy, IsPlaceBy, RiseBy};
 
-use crate::rows::{Block, Declared, Declarer, FormPart, Record, Selector};
-use std::alloc::AllocError;
+use crate::rows::{Block, Declared, Declarer, FormPart, Import, Record, Selector};
 
 /// A row with the number by which it stands in its list.
 pub trait Keyed {
@@ -56,6 +55,14 @@ impl Keyed for Block {
     }
 }
 
+impl Keyed for Import {
+    ghost number_in = { λ row. row.alias };
+
+    fn key(&self) -> u32 {
+        self.alias
+    }
+}
+
 impl Grouped for FormPart {
     ghost group_in = { λ row. row.declared_by };
 
@@ -70,18 +77,6 @@ impl Grouped for Selector {
     fn group(&self) -> u32 {
         self.of
     }
-}
-
-/// Answers AllocError where the rows of one number do not stand together.
-pub(crate) fn rise<T: Grouped>(rows: &[T]) -> Result<(), AllocError>
-    ensures { IfOk result (λ _. RiseBy T.group_in rows.now) }
-{
-    for at in 1..rows.len() {
-        if rows[at].group() < rows[at - 1].group() {
-            return Err(AllocError);
-        }
-    }
-    Ok(())
 }
 
 /// The place of the row that has this number, or none where no row has it.
@@ -103,6 +98,21 @@ pub(crate) fn row_of<T: Keyed>(rows: &[T], number: u32) -> Option<&T>
 {
     let at = place_of(rows, number)?;
     Some(&rows[at])
+}
+
+fn has_32_bits(number: u32)
+    ensures { number < 2 ^ 32 }
+{}
+
+/// Rows in the order of their numbers are no more than there are numbers.
+pub(crate) fn has_few<T: Keyed>(rows: &[T])
+    requires { AscendBy T.number_in rows.now }
+    ensures { length rows.now ≤ 2 ^ 32 }
+{
+    match rows.last() {
+        Some(last) => has_32_bits(last.key()),
+        None => {}
+    }
 }
 
 /// The rows of this group, which stand together.

@@ -2,14 +2,14 @@
 
 ghost use Rattle.std.specs.Prelude.{◌≡◌, Contains, IfSome, IfNone, nat_eq};
 ghost use Rattle.std.specs.List.{filter};
-ghost use Rattle.ob_rows.specs.Order.{AreRowsInOrder};
+ghost use Rattle.ob_rows.specs.Order.{AreFewRows, AreRowsInOrder};
 ghost use Rattle.ob_rows.specs.declared.rows.Declared.{Declared};
 ghost use Rattle.ob_rows.specs.declared.rows.Declarer.{Declarer};
 ghost use Rattle.ob_rows.specs.declared.rows.FormPart.{FormPart};
 ghost use Rattle.ob_rows.specs.declared.rows.Record.{Record};
 ghost use Rattle.ob_rows.specs.declared.rows.Selector.{Selector};
 
-use crate::order::{group_of, row_of};
+use crate::order::{group_of, has_few, row_of};
 use crate::rows::{
     Block, Declared, Declarer, Designator, End, FormPart, Import, Record, Selector, Used,
 };
@@ -40,6 +40,16 @@ impl Table {
     {
         // Using a field makes the facts of the type known here.
         let _ = &self.ends;
+    }
+
+    /// How many rows there are: no more than numbers of tokens, which have 32 bits.
+    pub fn has_few(&self)
+        ensures { AreFewRows (rows_in self.now) }
+    {
+        self.keeps();
+        has_few(self.declared.as_slice());
+        has_few(self.imports.as_slice());
+        has_few(self.records.as_slice());
     }
 
     /// The constructs that declare.

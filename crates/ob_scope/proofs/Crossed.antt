@@ -16,7 +16,8 @@ use Rattle.ob_scope.specs.Crossings.{no_use, crossing, other_use, AreCrossings, 
 use Rattle.ob_scope.specs.Members.{members_of}
 use Rattle.ob_scope.specs.Scope.{ResolvesTo}
 use Rattle.ob_scope.specs.Scoped.{AliasUses, IsAlias, ModuleScopes}
-use Rattle.ob_scope.proofs.Elements.{ascend_one, contains_slice, slice_contains, slice_there}
+use Rattle.ob_rows.proofs.Around.{ascend_one}
+use Rattle.ob_scope.proofs.Elements.{contains_slice, slice_contains, slice_there}
 use Rattle.ob_scope.proofs.Meanings.{means-member, means_once}
 use Rattle.ob_scope.proofs.Placing.{members_ascend}
 

@@ -1,7 +1,6 @@
 -- Elements of lists by their places, and of lists of what others stand for.
-use Rattle.std.proofs.Common.{◌≡◌, ℕ, ◌<◌, ◌≤◌, List, [], ◌∷◌, length, get_or, map, Some, None, Option, refl, sym, ap, ◌∙◌, arith, ⊎_elim}
+use Rattle.std.proofs.Common.{◌≡◌, ℕ, ◌<◌, List, [], ◌∷◌, length, get_or, map, Some, None, Option, refl, sym, ap, ◌∙◌, arith}
 use Rattle.std.specs.Prelude.{slice_get, option_map, Contains}
-use Rattle.std.proofs.lemmas.Bool.{cases_lt}
 use Rattle.std.proofs.lemmas.Option.{slice_get_within, slice_get-get_or, slice_get-map, get_or_from_slice_get}
 use Rattle.ob_rows.specs.Order.{AscendBy, HasNoneBy}
 
@@ -23,20 +22,6 @@ module _ {X : Type 0} where
       first : (xs : List X) (k : ℕ) → k < length xs → X
       first [] k l = absurd (omega (arith, l))
       first (x ∷ xs) k l = x
-
-  -- elements of one number are one, where the numbers ascend
-  pub ascend_one : (n : X → ℕ) (xs : List X) (x y : X) → AscendBy n xs → Contains xs x → Contains xs y → n x ≡ n y → x ≡ y
-  ascend_one n xs x y a p q e =
-      let i = slice_contains xs x p in
-      let j = slice_contains xs y q in
-      ⊎_elim
-      (λ (below : i.0 < j.0). absurd (let l : n x < n y = a i.0 j.0 x y below i.1 j.1 in omega arith))
-      (λ (above : j.0 ≤ i.0).
-      ⊎_elim
-      (λ (below : j.0 < i.0). absurd (let l : n y < n x = a j.0 i.0 y x below j.1 i.1 in omega arith))
-      (λ (other : i.0 ≤ j.0). (let same : i.0 ≡ j.0 = omega arith in some_one x y (sym i.1 ∙ ap (slice_get xs) same ∙ j.1)))
-      (cases_lt j.0 i.0))
-      (cases_lt i.0 j.0)
 
 module _ {X Y : Type 0} (f : X → Y) where
   -- what an element stands for

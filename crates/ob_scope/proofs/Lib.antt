@@ -21,3 +21,6 @@ pub mod SightSteps
 pub mod OneScopes
 pub mod Forwards
 pub mod Aparts
+pub mod OnWay
+pub mod Together
+pub mod Twice

@@ -7,7 +7,7 @@ use Rattle.ob_rows.specs.declared.rows.Used.{Used}
 use Rattle.ob_scope.specs.declared.members.Member.{Member}
 use Rattle.ob_scope.specs.declared.members.Scope.TheVariants.{Block}
 use Rattle.ob_scope.specs.Scope.{ResolvesTo, by_scope, as_target, AreTwice, IsFirstTwice, NoneTwice}
-use Rattle.ob_scope.proofs.Blocks.{around-both}
+use Rattle.ob_rows.proofs.Around.{around-both}
 
 -- a member has a place in its list
 pub record IsAt {X : Type 0} (xs : List X) (x : X) : Type 0 where

@@ -1,5 +1,5 @@
 -- Identifiers are names, and names are texts.
-use Rattle.std.proofs.Common.{◌≡◌, ℕ, inl, inr, true, List, [], ◌∷◌, length, refl, sym, ap, ◌∙◌, subst}
+use Rattle.std.proofs.Common.{◌≡◌, ℕ, zero, suc, inl, inr, true, List, [], ◌∷◌, length, Some, None, refl, sym, ap, ◌∙◌, subst}
 use Rattle.std.specs.List.{All}
 use Rattle.std.specs.Str.{IsUtf8}
 use Rattle.std.proofs.lemmas.Bool.{cases_lt}
@@ -14,12 +14,13 @@ use Rattle.ob_scan.specs.Spelling.{Spells}
 use Rattle.ob_scan.specs.Tokens.{is_name}
 use Rattle.ob_scan.proofs.NameTokens.{spelled_names}
 use Rattle.ob_scan.specs.Texts.{no_token, text_at, token_at}
-use Rattle.ob_rows.specs.declared.rows.Import.{Import}
 use Rattle.ob_rows.specs.Parts.{Rows}
-use Rattle.ob_scope.specs.declared.members.Member.{Member}
+use Rattle.ob_rows.specs.Trees.{AreTreeRows}
 use Rattle.ob_scope.specs.Found.{AreTexts}
-use Rattle.ob_scope.specs.Identified.{AreIdentifiers, AreNames}
+use Rattle.ob_scope.specs.Identified.{AreNames, IsIdentifier}
 use Rattle.ob_scope.specs.Members.{members_of}
+use Rattle.ob_scope.proofs.Together.{declares}
+use Rattle.ob_scope.proofs.Elements.{some_one}
 
 -- the scanner's names are names of texts
 pub same_test : (bytes : List ℕ) → is_name bytes ≡ fields.is_name bytes
@@ -46,15 +47,17 @@ ident_named bytes ts k named e = elim (cases_lt k (length ts)) [
   | inr past ↦ let none : kinds.Dot ≡ kinds.Ident = sym (ap (λ (t : Token). t.kind) (get_or_past ts k no_token past)) ∙ e in absurd cc
 ]
 
-are_names : (bytes : List ℕ) (ts : List Token) (r : Rows) → AreNamed bytes ts → AreIdentifiers ts (members_of r) r.imports → AreNames (text_at bytes ts) r
-are_names bytes ts r named all = record {
-  own = ident_named bytes ts 1 named all.own;
-  members = λ d h. ident_named bytes ts d.number named (all.members d h);
-  imports = λ i h. ident_named bytes ts i.imported named (all.imports i h);
-}
+kind_at : (ts : List Token) (k : ℕ) → IsIdentifier ts k → (token_at ts k).kind ≡ kinds.Ident
+kind_at [] k e = absurd (let f : None ≡ Some kinds.Ident = e in cc)
+kind_at (t ∷ ts) zero e = some_one t.kind kinds.Ident e
+kind_at (t ∷ ts) (suc k) e = kind_at ts k e
 
--- what the test of the tokens says of the rows
-pub named_by : (bytes : List ℕ) (ts : List Token) (r : Rows) (ms : List Member) (items : List Import) → Spells bytes ts → ms ≡ members_of r → items ≡ r.imports →
-    AreIdentifiers ts ms items → AreNames (text_at bytes ts) r
-named_by bytes ts r ms items spells e f are =
-    are_names bytes ts r (spelled_names bytes ts spells) (subst (λ (xs : List Member). AreIdentifiers ts xs r.imports) e (subst (λ (ys : List Import). AreIdentifiers ts ms ys) f are))
+-- identifiers are names
+pub named_by : (bytes : List ℕ) (ts : List Token) (r : Rows) → Spells bytes ts → AreTreeRows (IsIdentifier ts) (length ts) r → AreNames (text_at bytes ts) r
+named_by bytes ts r spells all =
+    let named = spelled_names bytes ts spells in
+    record {
+      own = ident_named bytes ts 1 named (kind_at ts 1 all.own);
+      members = λ m h. (let d = declares r.declarers r.declared m h in ident_named bytes ts m.number named (kind_at ts m.number (subst (IsIdentifier ts) d.number (all.declared d.row d.among))));
+      imports = λ i h. ident_named bytes ts i.imported named (kind_at ts i.imported (all.imported i h));
+    }

@@ -5,9 +5,12 @@ use Rattle.std.proofs.lemmas.List.Elements.{Contains-append_cases, Contains-appe
 use Rattle.std.proofs.lemmas.Option.{slice_get_within}
 use Rattle.ob_rows.specs.declared.rows.Block.{Block}
 use Rattle.ob_rows.specs.Order.{AscendBy}
-use Rattle.ob_scope.specs.Scope.{IsAround, IsDirectlyIn, itself, further}
+use Rattle.ob_rows.specs.Blocks.{IsAround, IsDirectlyIn, itself, further}
 use Rattle.ob_scope.specs.Sights.{AreOpen, Enters, IsInnermost, IsOpen}
-use Rattle.ob_scope.proofs.Blocks.{around-le, one_outer}
+use Rattle.ob_scope.specs.Ways.{MayEnter}
+use Rattle.std.proofs.Common.{⊎_elim}
+use Rattle.std.proofs.lemmas.Bool.{cases_lt}
+use Rattle.ob_rows.proofs.Around.{around-le, one_outer}
 use Rattle.ob_scope.proofs.Elements.{contains_slice, slice_contains, slice_there, some_one}
 use Rattle.ob_scope.proofs.Finding.{get_last, get_left, get_push}
 
@@ -106,6 +109,7 @@ enter_same blocks block fresh xs ys all e h last = record {
   innermost = last;
   kept = λ b has. inl (rw e (Contains-append_left xs ys b has));
   later = omega arith;
+  last = inl refl;
 }
 
 innermost_push : (stack : List ℕ) (block : ℕ) → IsInnermost (stack ++ block ∷ []) block
@@ -133,6 +137,7 @@ enter_inner blocks outer block since fresh later all xs ys stack new front e inn
     | inr fresh_one ↦ (let same : b ≡ block = contains_one block b fresh_one in let l = e.later in inr (omega arith))
   ];
   later = (let l = e.later in omega arith);
+  last = inr now;
 })
 
 -- an outermost block is opened
@@ -143,4 +148,33 @@ enter_outermost blocks block since later all new none le is now = rw is (record 
   innermost = refl;
   kept = λ b has. (let same : b ≡ block = contains_one block b has in inr (omega arith));
   later = omega arith;
+  last = inr now;
 })
+
+-- ---- a block that may be entered
+
+module _ (blocks : List Block) (block since : ℕ) (all : List ℕ) (may : MayEnter blocks all since block) (xs : List ℕ) (kept : (b : ℕ) → Contains all b → b ≤ block → Contains xs b) where
+  -- so may the one around it
+  pub may_outer : (outer : ℕ) → IsDirectlyIn blocks block outer → MayEnter blocks xs since outer
+  may_outer outer dir b a = elim (may b (further outer dir a)) [
+    | inl has ↦ inl (kept b has (let l : b ≤ outer = around-le blocks b outer a in let h : outer < block = dir.behind in omega arith))
+    | inr above ↦ inr above
+  ]
+
+  top_of : AscendBy (λ (b : ℕ). b) xs → ((b : ℕ) → Contains xs b → b ≤ block) → Contains xs block → IsInnermost xs block
+  top_of up left has =
+      let p = slice_contains xs block has in
+      let within = slice_get_within xs p.0 block p.1 in
+      let d = slice_there xs (length xs - 1) (omega arith) in
+      let le : d.0 ≤ block = left d.0 (contains_slice xs (length xs - 1) d.0 d.1) in
+      ⊎_elim
+      (λ (below : p.0 < length xs - 1). absurd (let l : block < d.0 = up p.0 (length xs - 1) block d.0 below p.1 d.1 in omega arith))
+      (λ (above : length xs - 1 ≤ p.0). ap (slice_get xs) (let e : length xs - 1 ≡ p.0 = omega arith in e) ∙ p.1)
+      (cases_lt p.0 (length xs - 1))
+
+  -- if it isn't the innermost, it was never opened
+  pub never_opened : AscendBy (λ (b : ℕ). b) xs → ((b : ℕ) → Contains xs b → b ≤ block) → (IsInnermost xs block → ⊥) → since ≤ block
+  never_opened up left other = elim (may block (itself refl)) [
+    | inl has ↦ absurd (other (top_of up left (kept block has (omega arith))))
+    | inr above ↦ above
+  ]

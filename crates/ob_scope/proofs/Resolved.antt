@@ -6,7 +6,8 @@ use Rattle.ob_rows.specs.Order.{AscendBy, HasNoneBy, IsPlaceBy}
 use Rattle.ob_scope.specs.declared.meaning.Resolution.{Resolution}
 use Rattle.ob_scope.specs.Kept.{meaning_of}
 use Rattle.ob_scope.specs.Scoped.{Meaning}
-use Rattle.ob_scope.proofs.Elements.{ascend_one, contains_of, none_of, slice_contains}
+use Rattle.ob_rows.proofs.Around.{ascend_one}
+use Rattle.ob_scope.proofs.Elements.{contains_of, none_of, slice_contains}
 
 -- rows, what each of them says, and their numbers
 module _ {X Y : Type 0} (f : X → Y) (n : Y → ℕ) (rows : List X) (values : List Y) (are : map f rows ≡ values) (k : ℕ) where

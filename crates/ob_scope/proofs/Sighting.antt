@@ -13,7 +13,8 @@ use Rattle.text_hash.specs.declared.name.Name.{Name}
 use Rattle.ob_scope.specs.declared.members.Scope.{Scope}
 use Rattle.ob_scope.specs.declared.members.Scope.TheVariants as places
 use Rattle.ob_scope.specs.Looked.{use_in, IsResolved}
-use Rattle.ob_scope.specs.Scope.{IsAround, IsSeen, ResolvesToNothing, itself}
+use Rattle.ob_rows.specs.Blocks.{IsAround, itself}
+use Rattle.ob_scope.specs.Scope.{IsSeen, ResolvesToNothing}
 use Rattle.ob_scope.specs.Sighted.{IsFrontBefore}
 use Rattle.ob_scope.specs.Sights.{name_number, AreNumbered, AreSeen, IsIn, IsInnermost, IsLimit, IsNamedAt, IsOpen, IsOpenScope, IsSeenAt, IsStart}
 use Rattle.ob_scope.proofs.Elements.{contains_slice, slice_contains, slice_there, some_one}

@@ -1,9 +1,8 @@
 -- The identifiers of a module are names.
-use Rattle.std.specs.Prelude.{◌≡◌, ℕ, List, true, Contains}
+use Rattle.std.specs.Prelude.{◌≡◌, ℕ, List, Some, true, Contains, map, slice_get}
 use Rattle.ob_scan.specs.declared.kind.Kind.TheVariants as kinds
 use Rattle.ob_scan.specs.declared.token.Token.{Token}
 use Rattle.ob_scan.specs.Tokens.{is_name}
-use Rattle.ob_scan.specs.Texts.{token_at}
 use Rattle.ob_rows.specs.declared.rows.Import.{Import}
 use Rattle.ob_rows.specs.Parts.{Rows}
 use Rattle.ob_scope.specs.declared.members.Member.{Member}
@@ -17,10 +16,4 @@ pub record AreNames (name : ℕ → List ℕ) (rows : Rows) : Type 0 where
 
 -- a token is an identifier
 abbrev pub IsIdentifier : List Token → ℕ → Type 0
-IsIdentifier ts k = (token_at ts k).kind ≡ kinds.Ident
-
--- the same of the tokens
-pub record AreIdentifiers (ts : List Token) (ds : List Member) (items : List Import) : Type 0 where
-  pub own : IsIdentifier ts 1
-  pub members : (d : Member) → Contains ds d → IsIdentifier ts d.number
-  pub imports : (i : Import) → Contains items i → IsIdentifier ts i.imported
+IsIdentifier ts k = slice_get (map (λ (t : Token). t.kind) ts) k ≡ Some kinds.Ident

@@ -13,3 +13,4 @@ pub mod Sights
 pub mod Sighted
 pub mod Apart
 pub mod Forward
+pub mod Ways

@@ -1,25 +1,11 @@
--- Blocks, declarations and what a use means (Oberon-07 report, section 4).
+-- Declarations and what a use means (Oberon-07 report, section 4).
 use Rattle.std.specs.Prelude.{◌≡◌, ℕ, ◌<◌, List, slice_get, Some, IsTrue, Contains}
 use Rattle.ob_rows.specs.declared.rows.Block.{Block as BlockRow}
 use Rattle.ob_rows.specs.declared.rows.Used.{Used}
+use Rattle.ob_rows.specs.Blocks.{IsAround}
 use Rattle.ob_rows.specs.declared.rows.Sort.TheVariants as sorts
 use Rattle.ob_scope.specs.declared.members.Member.{Member}
 use Rattle.ob_scope.specs.declared.members.Scope.TheVariants.{Block}
-
--- A block is told by its first token, and the module's by 0.
-
--- a block stands in another, with none between them; it begins behind the other
-pub record IsDirectlyIn (blocks : List BlockRow) (b around : ℕ) : Type 0 where
-  pub row : BlockRow
-  pub is_row : Contains blocks row
-  pub first : row.first ≡ b
-  pub outer : row.outer ≡ around
-  pub behind : around < b
-
--- the first block is the second or one of those around it
-pub data IsAround (blocks : List BlockRow) (outer : ℕ) : ℕ → Type 0 where
-  itself : {b : ℕ} → outer ≡ b → IsAround blocks outer b
-  further : {b : ℕ} (c : ℕ) → IsDirectlyIn blocks b c → IsAround blocks outer c → IsAround blocks outer b
 
 -- Below, a name is the text of a token by the token's number.
 

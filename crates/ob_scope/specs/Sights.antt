@@ -7,7 +7,7 @@ use Rattle.ob_scope.specs.declared.members.Member.{Member}
 use Rattle.text_hash.specs.declared.name.Name.{Name}
 use Rattle.ob_scope.specs.declared.members.Scope.{Scope}
 use Rattle.ob_scope.specs.declared.members.Scope.TheVariants.{Block, Record}
-use Rattle.ob_scope.specs.Scope.{IsAround, IsDirectlyIn}
+use Rattle.ob_rows.specs.Blocks.{IsAround, IsDirectlyIn}
 
 -- ---- names
 
@@ -37,12 +37,13 @@ pub record IsOpen (blocks : List BlockRow) (stack : List ℕ) (fresh : ℕ) : Ty
 abbrev pub IsInnermost : List ℕ → ℕ → Type 0
 IsInnermost stack block = slice_get stack (length stack - 1) ≡ Some block
 
--- a block becomes the innermost: what is open then was so before, or is opened for the first time
+-- a block becomes the innermost: what is open then was so before, or is opened for the first time, the block last
 pub record Enters (blocks : List BlockRow) (block : ℕ) (old : List ℕ) (since : ℕ) (new : List ℕ) (fresh : ℕ) : Type 0 where
   pub opened : IsOpen blocks new fresh
   pub innermost : IsInnermost new block
   pub kept : (b : ℕ) → Contains new b → Contains old b ⊎ (since ≤ b)
   pub later : since ≤ fresh
+  pub last : (fresh ≡ since) ⊎ (fresh ≡ block + 1)
 
 -- ---- members
 

@@ -1,21 +1,22 @@
 //! Scopes from a table.
-ghost use Rattle.std.specs.Prelude.{◌≡◌, ◌≤◌, [], length, take, IfOk, IfErr, OnOk};
-ghost use Rattle.ob_scan.specs.Spelling.{AreInText, Spells};
+ghost use Rattle.std.specs.Prelude.{◌≡◌, ◌≤◌, [], length, take, Ok, IfOk, IfErr, OnOk};
+ghost use Rattle.ob_scan.specs.Spelling.{AreInText, IsOutcome};
 ghost use Rattle.ob_scan.specs.Texts.{text_at};
 ghost use Rattle.ob_rows.specs.Tables.{rows_in};
 ghost use Rattle.ob_rows.specs.Parts.{Rows};
 ghost use Rattle.ob_scope.specs.Found.{AreAliasesOf, AreCounted, AreMeant, IsCountOf};
-ghost use Rattle.ob_scope.specs.Identified.{AreNames};
+ghost use Rattle.ob_rows.specs.Trees.{AreTreeRows};
+ghost use Rattle.ob_scope.specs.Identified.{AreNames, IsIdentifier};
 ghost use Rattle.ob_rows.specs.Order.{AreRowsInOrder, AscendBy};
 ghost use Rattle.ob_scope.specs.Members.{members_of};
 ghost use Rattle.ob_scope.specs.Places.{TellsTwice};
 ghost use Rattle.ob_scope.specs.Scope.{NoneTwice};
 ghost use Rattle.ob_scope.specs.Scoped.{AreScopes, IsScopeFault};
 ghost use Rattle.ob_scope.specs.Sights.{AreNumbered};
+ghost use Rattle.ob_scope.specs.Ways.{AreTogether};
 ghost use Rattle.ob_scope.specs.declared.members.Member.{Member};
 
 use crate::apart::are_apart;
-use crate::identified::are_identifiers;
 use crate::members::{Member, Scope, members_by};
 use crate::numbering::{Numbered, no_names, number_rest};
 use crate::places::{IndexFault, index_of};
@@ -24,9 +25,6 @@ use crate::{Alias, ScopeFault, Scopes};
 use ob_rows::{Import, Table, place_of};
 use ob_scan::{Token, TokenTexts};
 use std::alloc::{AllocError, Global};
-
-/// No text has more uses.
-const MOST_USES: usize = 16_777_216;
 
 /// How many uses the alias of this token qualifies, by how many each member does.
 fn uses_of(members: &[Member], counts: &[u64], alias: u32) -> u64
@@ -168,6 +166,7 @@ fn scopes_with<'a>(
     requires in_text { AreInText text.now.bytes.now text.now.tokens.now }
     requires ordered { AreRowsInOrder (rows_in table.now) }
     requires few { length (rows_in table.now).uses ≤ 16777216 }
+    requires together { AreTogether (rows_in table.now).blocks members.now (rows_in table.now).uses }
     requires members { members.now ≡ members_of (rows_in table.now) }
     requires named { AreNames (text_at text.now.bytes.now text.now.tokens.now) (rows_in table.now) }
     requires once { NoneTwice (text_at text.now.bytes.now text.now.tokens.now) members.now }
@@ -189,6 +188,7 @@ fn scopes_by(
     requires in_text { AreInText text.now.bytes.now text.now.tokens.now }
     requires ordered { AreRowsInOrder (rows_in table.now) }
     requires few { length (rows_in table.now).uses ≤ 16777216 }
+    requires together { AreTogether (rows_in table.now).blocks members.now (rows_in table.now).uses }
     requires members { members.now ≡ members_of (rows_in table.now) }
     requires named { AreNames (text_at text.now.bytes.now text.now.tokens.now) (rows_in table.now) }
     ensures scoped { IfOk result (AreScopes text.now.bytes.now text.now.tokens.now (rows_in table.now)) }
@@ -203,9 +203,7 @@ fn scopes_by(
 
 /// The scopes of a module with this table, of these tokens: what each used name means by the scope rule, and how many uses each of
 /// its aliases qualifies (Oberon-07 report, sections 4 and 11). Of two identifiers of one name in one block or record the pair whose
-/// second one stands first is told: Twice in a block, TwiceField in a record. Memory is answered where a growth of memory is refused,
-/// and where what the table names are no identifiers, or where it has more uses than a text has bytes; the table of a tree of tokens
-/// is never so.
+/// second one stands first is told: Twice in a block, TwiceField in a record. Memory is answered where a growth of memory is refused.
 pub fn scopes_from(
     alloc: Global,
     table: &Table,
@@ -214,8 +212,10 @@ pub fn scopes_from(
 ) -> Result<Scopes, ScopeFault>
     // The tokens lie in the bytes.
     requires in_text { AreInText bytes.now tokens.now }
-    // The bytes spell them.
-    requires spelled { Spells bytes.now tokens.now }
+    // They are those of the bytes.
+    requires spelled { IsOutcome bytes.now (Ok tokens.now) }
+    // The table has rows of a tree of these tokens.
+    requires rows { AreTreeRows (IsIdentifier tokens.now) (length tokens.now) (rows_in table.now) }
     // The scopes are the table's, in which no name is declared twice.
     ensures scoped { IfOk result (AreScopes bytes.now tokens.now (rows_in table.now)) }
     // The fault is so.
@@ -224,9 +224,5 @@ pub fn scopes_from(
     table.keeps();
     let text = TokenTexts { bytes, tokens };
     let members = members_by(alloc, table.declarers(), table.declared())?;
-    let members = members.as_slice();
-    if table.uses().len() > MOST_USES || !are_identifiers(tokens, members, table.imports()) {
-        return Err(ScopeFault::Memory);
-    }
-    scopes_by(alloc, &text, table, members)
+    scopes_by(alloc, &text, table, members.as_slice())
 }

@@ -1,5 +1,5 @@
 //! Laws of scopes. Each function is a law: its body is empty, and its contract is proved.
-ghost use Rattle.std.specs.Prelude.{◌≡◌, ◌≤◌, ℕ, List, Contains, length};
+ghost use Rattle.std.specs.Prelude.{◌≡◌, ◌≤◌, ◌⊎◌, ℕ, List, Contains, length};
 ghost use Rattle.ob_scan.specs.declared.token.Token.{Token};
 ghost use Rattle.ob_scan.specs.Texts.{text_at};
 ghost use Rattle.ob_rows.specs.declared.rows.Block.{Block};
@@ -27,6 +27,11 @@ pub fn one_fault()
     ensures no_pair { (name : ℕ → List ℕ) (ds : List Member) (d e : Member) → NoneTwice name ds → IsFirstTwice name ds d e → ⊥ }
     ensures one_pair { (name : ℕ → List ℕ) (ds : List Member) (d e f g : Member) →
         IsFirstTwice name ds d e → IsFirstTwice name ds f g → (d ≡ f) × (e ≡ g) }
+{}
+
+/// Nothing is declared twice, or there is a first pair that is.
+pub fn some_fault()
+    ensures { (name : ℕ → List ℕ) (ds : List Member) → NoneTwice name ds ⊎ ((d e : Member) × IsFirstTwice name ds d e) }
 {}
 
 /// What is declared stands in the order of its tokens where the identifiers do, and a token then declares one thing.

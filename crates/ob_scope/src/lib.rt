@@ -8,7 +8,6 @@ mod apart;
 mod build;
 mod fault;
 mod forward;
-mod identified;
 pub mod laws;
 mod meaning;
 mod members;

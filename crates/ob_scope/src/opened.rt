@@ -3,6 +3,7 @@ ghost use Rattle.std.specs.Prelude.{◌≡◌, ◌++◌, ◌∷◌, ◌+◌, ◌
 ghost use Rattle.ob_rows.specs.declared.rows.Block.{Block};
 ghost use Rattle.ob_rows.specs.Order.{AscendBy, HasNoneBy, IsPlaceBy};
 ghost use Rattle.ob_scope.specs.Sights.{Enters, IsInnermost, IsOpen, IsOpenScope};
+ghost use Rattle.ob_scope.specs.Ways.{MayEnter};
 
 use crate::members::Scope;
 use crate::resolve::outer_of;
@@ -13,13 +14,16 @@ use std::alloc::AllocError;
 #[derive(Drop)]
 pub(crate) struct Open {
     pub(crate) stack: Vec<u32>,
-    /// No block was opened that begins with this token or behind it.
+    /// One more than the first token of the block that was opened last, or 0. Clauses alone speak of it.
     pub(crate) fresh: u64,
 }
 
 /// Closes the blocks that begin behind this one.
 fn close_behind(stack: &mut Vec<u32>, block: u32)
-    ensures { (rest : List ℕ) × (stack.old.items ≡ stack.new.items ++ rest) }
+    requires { AscendBy (λ (b : ℕ). b) stack.old.items }
+    ensures front { (rest : List ℕ) × (stack.old.items ≡ stack.new.items ++ rest) }
+    ensures kept { (b : ℕ) → Contains stack.old.items b → b ≤ block → Contains stack.new.items b }
+    ensures left { (b : ℕ) → Contains stack.new.items b → b ≤ block }
 {
     let left = stack.as_slice().partition_point(|first| *first <= block);
     stack.truncate(left);
@@ -27,7 +31,8 @@ fn close_behind(stack: &mut Vec<u32>, block: u32)
 
 /// Whether this block is the innermost.
 fn is_innermost(stack: &[u32], block: u32) -> bool
-    ensures { result ≡ true → IsInnermost stack.now block }
+    ensures yes { result ≡ true → IsInnermost stack.now block }
+    ensures no { IsInnermost stack.now block → result ≡ true }
 {
     match stack.last() {
         Some(last) => *last == block,
@@ -35,18 +40,13 @@ fn is_innermost(stack: &[u32], block: u32) -> bool
     }
 }
 
-/// Opens a block. AllocError is answered also for one that was open before; no tree has such.
+/// Opens a block.
 fn begin(opened: &mut Open, block: u32) -> Result<(), AllocError>
-    ensures fresh { OnOk result (opened.old.fresh ≤ block) }
     ensures stack { OnOk result (opened.new.stack.items ≡ opened.old.stack.items ++ block ∷ []) }
     ensures later { OnOk result (opened.new.fresh ≡ block + 1) }
 {
-    let first = u64::from(block);
-    if first < opened.fresh {
-        return Err(AllocError);
-    }
     opened.stack.push(block)?;
-    opened.fresh = first + 1;
+    opened.fresh = u64::from(block) + 1;
     Ok(())
 }
 
@@ -54,6 +54,7 @@ fn begin(opened: &mut Open, block: u32) -> Result<(), AllocError>
 fn reach(opened: &mut Open, blocks: &[Block], block: u32) -> Result<(), AllocError>
     requires ascend { AscendBy (λ (b : Block). b.first) blocks.now }
     requires chain { IsOpen blocks.now opened.old.stack.items opened.old.fresh }
+    requires may { MayEnter blocks.now opened.old.stack.items opened.old.fresh block }
     ensures { OnOk result (Enters blocks.now block opened.old.stack.items opened.old.fresh opened.new.stack.items opened.new.fresh) }
 {
     close_behind(&mut opened.stack, block);
@@ -71,6 +72,7 @@ fn reach(opened: &mut Open, blocks: &[Block], block: u32) -> Result<(), AllocErr
 pub(crate) fn enter(opened: &mut Open, blocks: &[Block], block: u32) -> Result<(), AllocError>
     requires ascend { AscendBy (λ (b : Block). b.first) blocks.now }
     requires chain { IsOpen blocks.now opened.old.stack.items opened.old.fresh }
+    requires may { MayEnter blocks.now opened.old.stack.items opened.old.fresh block }
     ensures { OnOk result (Enters blocks.now block opened.old.stack.items opened.old.fresh opened.new.stack.items opened.new.fresh) }
 {
     if is_innermost(opened.stack.as_slice(), block) {

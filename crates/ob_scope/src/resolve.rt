@@ -1,5 +1,5 @@
 //! What a use means: what it resolves to, or for a target the type that is declared later.
-ghost use Rattle.std.specs.Prelude.{◌≡◌, ◌≤◌, ◌<◌, ℕ, Some, length, slice_get, IfOk, IfSome, IfNone, OnOk};
+ghost use Rattle.std.specs.Prelude.{◌≡◌, ◌≤◌, ◌<◌, ℕ, List, Some, length, slice_get, IfOk, IfSome, IfNone, OnOk};
 ghost use Rattle.ob_scan.specs.Spelling.{AreInText};
 ghost use Rattle.ob_scan.specs.Texts.{text_at};
 ghost use Rattle.ob_rows.specs.declared.rows.Block.{Block};
@@ -8,9 +8,12 @@ ghost use Rattle.indexmap.specs.IndexMap.{get};
 ghost use Rattle.ob_scope.specs.Forward.{same_type, AreTypes};
 ghost use Rattle.ob_scope.specs.Looked.{IsMeant, IsTypeAfter, MeansNothing};
 ghost use Rattle.ob_scope.specs.declared.members.Member.{Member};
-ghost use Rattle.ob_scope.specs.Scope.{IsDirectlyIn, NoneTwice};
+ghost use Rattle.ob_rows.specs.Blocks.{IsDirectlyIn};
+ghost use Rattle.ob_scope.specs.Scope.{NoneTwice};
 ghost use Rattle.ob_scope.specs.Sighted.{IsFrontBefore, IsSight};
 ghost use Rattle.ob_scope.specs.Sights.{name_number, AreNumbered};
+ghost use Rattle.ob_scope.specs.Ways.{IsNameIn, IsOnWay};
+ghost use Rattle.ob_rows.specs.declared.rows.Used.{Used};
 
 use crate::members::Member;
 use crate::numbering::{Numbered, name_number};
@@ -89,6 +92,8 @@ pub(crate) fn meaning(
     requires numbered { AreNumbered (text_at text.now.bytes.now text.now.tokens.now) members.now named.now.names.keys named.now.numbers.items }
     requires sight { IsSight blocks.now members.now named.now.numbers.items (length named.now.names.keys) sight.old }
     requires before { (k : ℕ) (m : Member) → k < sight.old.next → slice_get members.now k ≡ Some m → m.number < used.number }
+    requires way { (uses : List Used) × IsOnWay blocks.now members.now uses sight.old used.number × IsNameIn members.now uses used.number used.block }
+    ensures way { OnOk result ((uses : List Used) (later : ℕ) → used.number ≤ later → IsNameIn members.now uses used.number used.block → IsOnWay blocks.now members.now uses sight.old used.number → IsOnWay blocks.now members.now uses sight.new later) }
     ensures sight { OnOk result (IsSight blocks.now members.now named.now.numbers.items (length named.now.names.keys) sight.new) }
     ensures front { OnOk result (IsFrontBefore members.now sight.new.next used.number) }
     ensures found { IfOk result (λ at. IfSome at (IsMeant (text_at text.now.bytes.now text.now.tokens.now) blocks.now members.now used)) }

@@ -10,6 +10,8 @@ ghost use Rattle.ob_scope.specs.Looked.{use_in, IsResolved};
 ghost use Rattle.ob_scope.specs.Scope.{ResolvesToNothing};
 ghost use Rattle.ob_scope.specs.Sighted.{IsFrontBefore, IsSight};
 ghost use Rattle.ob_scope.specs.Sights.{name_number, AreNumbered, AreSeen, IsOpenScope, IsStart};
+ghost use Rattle.ob_scope.specs.Ways.{IsNameIn, IsOnWay};
+ghost use Rattle.ob_rows.specs.declared.rows.Used.{Used};
 ghost use Rattle.ob_scan.specs.Texts.{text_at};
 
 use crate::members::{Member, Scope};
@@ -46,6 +48,7 @@ fn nowhere(alloc: Global, count: usize) -> Result<Vec<Option<usize>>, AllocError
 /// No block is open.
 pub(crate) fn no_sight(alloc: Global, names: usize, members: usize) -> Result<Sight, AllocError>
     ensures next { IfOk result (λ s. s.next ≡ 0) }
+    ensures fresh { IfOk result (λ s. s.open.fresh ≡ 0) }
     ensures sight { IfOk result (λ s. (blocks : List Block) (ds : List Member) (numbers : List ℕ) → length ds ≡ members → IsSight blocks ds numbers names s) }
 {
     let latest = nowhere(alloc, names)?;
@@ -108,8 +111,11 @@ fn declare_next(
     requires more { sight.old.next < length members.now }
     requires numbers { length numbers.now ≡ length members.now }
     requires within { (k : ℕ) → k < length members.now → slice_index numbers.now k < length sight.old.latest.items }
+    requires members { AscendBy (λ (m : Member). m.number) members.now }
     requires sight { IsSight blocks.now members.now numbers.now (length sight.old.latest.items) sight.old }
+    requires way { (uses : List Used) × (token : ℕ) × IsOnWay blocks.now members.now uses sight.old token }
     ensures next { OnOk result (sight.new.next ≡ sight.old.next + 1) }
+    ensures way { OnOk result ((uses : List Used) (token : ℕ) → ((m : Member) → slice_get members.now sight.old.next ≡ Some m → m.number ≤ token) → IsOnWay blocks.now members.now uses sight.old token → IsOnWay blocks.now members.now uses sight.new token) }
     ensures sight { OnOk result (IsSight blocks.now members.now numbers.now (length sight.old.latest.items) sight.new) }
 {
     let at = sight.next;
@@ -146,7 +152,9 @@ fn declare_before(
     requires within { (k : ℕ) → k < length members.now → slice_index numbers.now k < length sight.old.latest.items }
     requires sight { IsSight blocks.now members.now numbers.now (length sight.old.latest.items) sight.old }
     requires before { (k : ℕ) (m : Member) → k < sight.old.next → slice_get members.now k ≡ Some m → m.number < token }
+    requires way { (uses : List Used) × IsOnWay blocks.now members.now uses sight.old token }
     ensures sight { OnOk result (IsSight blocks.now members.now numbers.now (length sight.old.latest.items) sight.new) }
+    ensures way { OnOk result ((uses : List Used) → IsOnWay blocks.now members.now uses sight.old token → IsOnWay blocks.now members.now uses sight.new token) }
     ensures front { OnOk result (IsFrontBefore members.now sight.new.next token) }
 {
     while stands_before(members, sight.next, token) {
@@ -174,6 +182,8 @@ pub(crate) fn resolved(
     requires numbered { AreNumbered (text_at text.now.bytes.now text.now.tokens.now) members.now named.now.names.keys named.now.numbers.items }
     requires sight { IsSight blocks.now members.now named.now.numbers.items (length named.now.names.keys) sight.old }
     requires before { (k : ℕ) (m : Member) → k < sight.old.next → slice_get members.now k ≡ Some m → m.number < token }
+    requires way { (uses : List Used) × IsOnWay blocks.now members.now uses sight.old token × IsNameIn members.now uses token block }
+    ensures way { OnOk result ((uses : List Used) (later : ℕ) → token ≤ later → IsNameIn members.now uses token block → IsOnWay blocks.now members.now uses sight.old token → IsOnWay blocks.now members.now uses sight.new later) }
     ensures sight { OnOk result (IsSight blocks.now members.now named.now.numbers.items (length named.now.names.keys) sight.new) }
     ensures front { OnOk result (IsFrontBefore members.now sight.new.next token) }
     ensures found { IfOk result (λ at. IfSome at (IsResolved (text_at text.now.bytes.now text.now.tokens.now) blocks.now members.now block token)) }

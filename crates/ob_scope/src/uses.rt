@@ -10,6 +10,7 @@ ghost use Rattle.ob_scope.specs.Forward.{AreTypes};
 ghost use Rattle.ob_scope.specs.Scope.{NoneTwice};
 ghost use Rattle.ob_scope.specs.Sighted.{IsSight};
 ghost use Rattle.ob_scope.specs.Sights.{AreNumbered};
+ghost use Rattle.ob_scope.specs.Ways.{AreTogether};
 ghost use Rattle.ob_scope.specs.declared.members.Member.{Member};
 
 use crate::forward::types_of;
@@ -69,6 +70,7 @@ fn find_each(
     counts: &mut [u64],
 ) -> Result<(), AllocError>
     requires in_text { AreInText text.now.bytes.now text.now.tokens.now }
+    requires together { AreTogether blocks.now members.now uses.now }
     requires blocks { AscendBy (λ (b : Block). b.first) blocks.now }
     requires uses { AscendBy (λ (u : Used). u.number) uses.now }
     requires members { AscendBy (λ (m : Member). m.number) members.now }
@@ -77,6 +79,7 @@ fn find_each(
     requires numbered { AreNumbered (text_at text.now.bytes.now text.now.tokens.now) members.now named.now.names.keys named.now.numbers.items }
     requires sight { IsSight blocks.now members.now named.now.numbers.items (length named.now.names.keys) sight.old }
     requires none_yet { sight.old.next ≡ 0 }
+    requires none_open { sight.old.open.fresh ≡ 0 }
     requires empty { meanings.old.items ≡ [] }
     requires as_many { length counts.old ≡ length members.now }
     requires zero { (i : ℕ) → slice_index counts.old i ≡ 0 }
@@ -109,6 +112,7 @@ fn found_with(
     uses: &[Used],
 ) -> Result<Resolved, AllocError>
     requires in_text { AreInText text.now.bytes.now text.now.tokens.now }
+    requires together { AreTogether blocks.now members.now uses.now }
     requires blocks { AscendBy (λ (b : Block). b.first) blocks.now }
     requires uses { AscendBy (λ (u : Used). u.number) uses.now }
     requires members { AscendBy (λ (m : Member). m.number) members.now }
@@ -145,6 +149,7 @@ pub(crate) fn found_by(
     uses: &[Used],
 ) -> Result<Resolved, AllocError>
     requires in_text { AreInText text.now.bytes.now text.now.tokens.now }
+    requires together { AreTogether blocks.now members.now uses.now }
     requires blocks { AscendBy (λ (b : Block). b.first) blocks.now }
     requires uses { AscendBy (λ (u : Used). u.number) uses.now }
     requires members { AscendBy (λ (m : Member). m.number) members.now }

@@ -1,7 +1,9 @@
 //! The table of a text.
 
-ghost use Rattle.std.specs.Prelude.{◌≡◌, ◌<◌, ◌^◌, length, ℕ, List, Ok, IfOk, IfErr};
+ghost use Rattle.std.specs.Prelude.{◌≡◌, ◌<◌, ◌^◌, length, slice_get, ℕ, List, Some, Ok, IfOk, IfErr};
 ghost use Rattle.ob_rows.specs.Tables.{rows_in};
+ghost use Rattle.ob_rows.specs.Trees.{AreTreeRows};
+ghost use Rattle.ob_scan.specs.declared.kind.Kind.TheVariants.{Ident};
 ghost use Rattle.ob_decls.specs.Declaring.{rows_of, module_piece, outermost};
 ghost use Rattle.ob_rows.specs.Drafts.{after};
 ghost use Rattle.ob_scan.specs.Spelling.{IsOutcome};
@@ -15,6 +17,7 @@ ghost use Rattle.ob_table.specs.Ended.{EndedModule, TabulatesWhole};
 
 use crate::modules::whole;
 use crate::source::{Source, brackets_of};
+use ob_decls::laws::tree_rows;
 use ob_decls::{table_from, table_of};
 use ob_parse::cursor::Cursor;
 use ob_parse::parser::{DEEPEST, fault_of};
@@ -82,9 +85,12 @@ pub fn read_table(alloc: Global, bytes: &[u8], tokens: &Tokens) -> Result<Table,
     requires { IsOutcome bytes.now (Ok tokens.now) }
     // The rows are those of the one tree that derives them.
     ensures table { IfOk result (λ t. (m : Module) × IsTheTree bytes.now tokens.now m × (rows_in t ≡ rows_of m)) }
+    // They are rows of a tree of these tokens.
+    ensures rows { IfOk result (λ t. AreTreeRows (λ k. slice_get (kinds_of tokens.now) k ≡ Some Ident) (length tokens.now) (rows_in t)) }
     // The fault is so.
     ensures fault { IfErr result (IsFaultOf bytes.now tokens.now) }
 {
+    tree_rows();
     let list = tokens.as_slice();
     let mut draft = Draft::new(alloc, list.len() as u32);
     match pass_all(alloc, &mut draft, bytes, list) {
@@ -98,5 +104,5 @@ pub fn read_table(alloc: Global, bytes: &[u8], tokens: &Tokens) -> Result<Table,
         drop(draft);
         return table_by_tree(alloc, bytes, tokens);
     }
-    Ok(table_from(draft)?)
+    Ok(table_from(draft))
 }

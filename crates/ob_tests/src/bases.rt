@@ -320,7 +320,7 @@ fn compare_own<R: Abort + AllocGlobal>(rt: &R, shape: Shape, state: u64) -> Resu
     let places = drawn.iter().map(|it| it.at).collect::<Vec<u32>>(alloc)?;
     tokens_in_text();
     let tokens = scan(alloc, text.as_bytes())?;
-    let table = table_in(alloc, text.as_bytes())?;
+    let table = table_in(alloc, text.as_bytes(), &tokens)?;
     let scopes = scopes_from(alloc, &table, tokens.as_slice(), text.as_bytes())?;
     let types = Types::new(
         alloc,
@@ -334,10 +334,10 @@ fn compare_own<R: Abort + AllocGlobal>(rt: &R, shape: Shape, state: u64) -> Resu
 }
 
 /// What other modules see of a text.
-fn seen(alloc: Global, text: &[u8]) -> Result<Arc<Interface>, Fail> {
+pub(crate) fn seen(alloc: Global, text: &[u8]) -> Result<Arc<Interface>, Fail> {
     tokens_in_text();
     let tokens = scan(alloc, text)?;
-    let table = table_in(alloc, text)?;
+    let table = table_in(alloc, text, &tokens)?;
     let seen = seen_of(alloc, &table, tokens.as_slice(), text)?;
     Ok(Arc::new(alloc, Interface::new(alloc, seen)?)?)
 }
@@ -351,7 +351,7 @@ fn compare_reached<R: Abort + AllocGlobal>(rt: &R, shape: Shape, state: u64) -> 
     let reached = vec![in alloc; seen(alloc, other.as_bytes())?]?;
     tokens_in_text();
     let tokens = scan(alloc, text.as_bytes())?;
-    let table = table_in(alloc, text.as_bytes())?;
+    let table = table_in(alloc, text.as_bytes(), &tokens)?;
     let scopes = scopes_from(alloc, &table, tokens.as_slice(), text.as_bytes())?;
     let types = Types::new(
         alloc,

@@ -31,7 +31,7 @@ pub(crate) fn told_document(
     tokens_in_text();
     names_of_scopes();
     let tokens = scan(alloc, text)?;
-    let table = table_in(alloc, text)?;
+    let table = table_in(alloc, text, &tokens)?;
     let scopes = scopes_from(alloc, &table, tokens.as_slice(), text)?;
     let types = Types::new(alloc, text, tokens.as_slice(), &table, &scopes, &[])?;
     match document(alloc, "M.Mod", &types, &[], package_name) {

@@ -2,7 +2,7 @@
 use crate::asked::Asked::{Found, Seen};
 use crate::asked::{Row, are_told};
 use crate::readings::table_in;
-use ob_interface::{Interface, Part, TypeName, seen_of};
+use ob_interface::{Form, Interface, Part, TypeName, seen_of};
 use ob_scan::laws::tokens_in_text;
 use ob_scan::scan;
 use std::alloc::{AllocError, Global};
@@ -60,7 +60,7 @@ const ROWS: &[Row] = &[
 fn interface_of(alloc: Global, text: &[u8]) -> Result<Interface, Fail> {
     let tokens = scan(alloc, text)?;
     tokens_in_text();
-    let table = table_in(alloc, text)?;
+    let table = table_in(alloc, text, &tokens)?;
     let seen = seen_of(alloc, &table, tokens.as_slice(), text)?;
     Ok(Interface::new(alloc, seen)?)
 }
@@ -94,19 +94,28 @@ fn tell_part(alloc: Global, told: &mut String, part: Part<'_>) -> Result<(), All
     }
 }
 
-/// Tells the form of the declaration at a place.
-fn tell_form(
-    alloc: Global,
-    told: &mut String,
-    interface: &Interface,
-    place: u32,
-) -> Result<(), AllocError> {
+/// The form of the declaration at a place, part by part.
+fn told_parts(alloc: Global, interface: &Interface, place: u32) -> Result<String, AllocError> {
+    let mut told = String::new(alloc);
     for at in 0..4 {
         if let Some(part) = interface.part(place, at) {
-            tell_part(alloc, told, part)?;
+            tell_part(alloc, &mut told, part)?;
         }
     }
-    Ok(())
+    Ok(told)
+}
+
+/// The same of a form, from the outermost part inwards.
+fn told_form(alloc: Global, form: Form<'_>) -> Result<String, AllocError> {
+    let mut told = String::new(alloc);
+    let mut rest = form;
+    for _ in 0..4 {
+        if let Some(part) = rest.first() {
+            tell_part(alloc, &mut told, part)?;
+        }
+        rest = rest.rest();
+    }
+    Ok(told)
 }
 
 fn tell_declaration(
@@ -121,8 +130,14 @@ fn tell_declaration(
     write!(told, "{:?} ", it.sort)?;
     tell_bytes(alloc, told, it.name)?;
     write!(told, " {} {} {:?}", it.exported, it.start, it.record)?;
-    tell_form(alloc, told, interface, place)?;
-    told.push_str("; ")
+    let parts = told_parts(alloc, interface, place)?;
+    let form = told_form(alloc, it.form)?;
+    told.push_str(parts.as_str())?;
+    told.push_str(if form == parts {
+        "; "
+    } else {
+        " by place alone; "
+    })
 }
 
 fn told_declarations(alloc: Global, interface: &Interface) -> Result<String, AllocError> {

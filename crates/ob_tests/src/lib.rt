@@ -17,4 +17,6 @@ mod graphs;
 #[cfg(test)]
 mod interfaces;
 #[cfg(test)]
+mod known;
+#[cfg(test)]
 mod readings;

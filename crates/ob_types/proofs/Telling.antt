@@ -96,7 +96,7 @@ declaration_more i m count d before after at told tells k other r below is marke
         subst (λ (x : Declaration). IsToldField after (records.Other i r) x.name) one
         (tells.told r (subst (λ (x : Declaration). x.exported ≡ true) (sym one) marked) (subst (λ (x : Declaration). x.of_record ≡ Some r) (sym one) of))
 
-past : {X : Type 0} (xs : List X) (k : ℕ) → slice_get xs k ≡ None → length xs ≤ k
+pub past : {X : Type 0} (xs : List X) (k : ℕ) → slice_get xs k ≡ None → length xs ≤ k
 past [] k e = omega arith
 past (x ∷ xs) zero e = absurd (let f : Some x ≡ None = e in cc)
 past (x ∷ xs) (suc k) e = let rest = past xs k e in omega (arith, rest)
@@ -105,9 +105,9 @@ same_record : (o : Option ℕ) (r : ℕ) → option_eq nat_eq o (Some r) ≡ tru
 same_record None r e = absurd (let f : false ≡ true = e in cc)
 same_record (Some k) r e = ap (λ (n : ℕ). Some n) (eqb-true k r e)
 
-pub module_told : (i : ℕ) (m : ModuleInterface) (count : ℕ) (before after : Fields) → StayTold before after → DeclarationsTold i m count after → slice_get m.declarations count ≡ None → TellsModule i m before after
+pub module_told : (i : ℕ) (m : ModuleInterface) (count : ℕ) (before after : Fields) → StayTold before after → DeclarationsTold i m count after → length m.declarations ≤ count → TellsModule i m before after
 unfolding exported_at
-module_told i m count before after stay told none = record {
+module_told i m count before after stay told all = record {
   stay = stay;
   told = λ r name d e.
       option_and_then_some (λ (p : ℕ). option_and_then (if_exported p) (declaration_at m p)) (place_of m (Some r) name) d e (λ p place is.
@@ -117,9 +117,8 @@ module_told i m count before after stay told none = record {
       let here : get_or m.declarations p it ≡ it = get_or_from_slice_get m.declarations p it it at in
       let member : is_member (Some r) name it ≡ true = ap (is_member (Some r) name) (sym here) ∙ first.1 in
       let both = both_true (option_eq nat_eq it.of_record (Some r)) (bytes_eq it.name name) member in
-      let behind = past m.declarations count none in
       let within = slice_get_within m.declarations p it at in
-      subst (λ (n : List ℕ). IsToldField after (records.Other i r) n) ((bytes_eq-Decides it.name name).0 both.1) (told p it r (omega (arith, behind, within)) at exported (same_record it.of_record r both.0))));
+      subst (λ (n : List ℕ). IsToldField after (records.Other i r) n) ((bytes_eq-Decides it.name name).0 both.1) (told p it r (omega (arith, within, all)) at exported (same_record it.of_record r both.0))));
 }
 
 -- ---- all modules that are reached

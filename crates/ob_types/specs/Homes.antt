@@ -1,5 +1,5 @@
 -- The places of modules by their names.
-use Rattle.std.specs.Prelude.{◌≡◌, ◌<◌, ◌^◌, ℕ, List, length, Bool, Box, Option, Some, None, position}
+use Rattle.std.specs.Prelude.{◌≡◌, ◌≤◌, ◌^◌, ℕ, List, length, Bool, Box, Option, Some, None, position}
 use Rattle.std.specs.Borrow.{Bor}
 use Rattle.std.specs.List.{AllAdjacentBelow}
 use Rattle.std.specs.Cmp.Lexicographic.{slice_cmp}
@@ -24,5 +24,5 @@ AreByName modules = AllAdjacentBelow (λ (a b : ModuleInterface). slice_cmp nat_
 
 -- a table has the places of all, or there is none and the names ascend
 abbrev pub AreHomes : {S : Type 0} → List ModuleInterface → Option (Box (IndexMap (Bor (List ℕ)) ℕ S) Global) → Type 0
-AreHomes modules None = AreByName modules × (length modules < 2 ^ 32)
+AreHomes modules None = AreByName modules × (length modules ≤ 2 ^ 32)
 AreHomes modules (Some table) = (name : Bor (List ℕ)) → get same_name table.value name ≡ home_in modules name.now

@@ -1,5 +1,5 @@
 -- What a module is known by, as a world, and its indexes.
-use Rattle.std.specs.Prelude.{◌≡◌, ℕ, ◌+◌, ◌<◌, ◌^◌, nat_eq, List, Option, map, length, Bool, ◌&&◌}
+use Rattle.std.specs.Prelude.{◌≡◌, ℕ, ◌≤◌, ◌^◌, nat_eq, List, Option, map, length, Bool, ◌&&◌}
 use Rattle.std.specs.Arc.{arc_value}
 use Rattle.std.specs.Str.{bytes_eq}
 use Rattle.indexmap.specs.IndexMap.{get, IndexMap}
@@ -30,7 +30,7 @@ same_field a b = nat_eq a.0 b.0 && bytes_eq a.1.bytes.now b.1.bytes.now
 abbrev pub AreFields : {S : Type 0} → World → IndexMap FieldKey ℕ S → Type 0
 AreFields w fields = (key : FieldKey) → get same_field fields key ≡ field_at w key.0 key.1.bytes.now
 
--- the places of all parts of forms, and the one behind them, and those of all import items are numbers of 32 bits
+-- the places of all import items, and of all modules that are reached, are numbers of 32 bits
 pub record IsFew (p : Parts) : Type 0 where
-  pub parts : length p.table.now.parts.items + 1 < 2 ^ 32
-  pub imports : length p.table.now.imports.items < 2 ^ 32
+  pub imports : length p.table.now.imports.items ≤ 2 ^ 32
+  pub reached : length p.reached.now ≤ 2 ^ 32

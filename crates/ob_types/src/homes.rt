@@ -1,5 +1,5 @@
 //! The places of modules by their names.
-ghost use Rattle.std.specs.Prelude.{◌≡◌, ◌↔◌, ℕ, List, Some, IfOk, IsTrue, OnOk, if◌then◌else◌, map};
+ghost use Rattle.std.specs.Prelude.{◌≡◌, ◌<◌, ◌≤◌, ◌^◌, ◌↔◌, ℕ, List, Some, IfOk, IsTrue, OnOk, if◌then◌else◌, length, map};
 ghost use Rattle.std.specs.Str.{bytes_eq};
 ghost use Rattle.std.specs.Bool.{OnTrue};
 ghost use Rattle.std.specs.Cmp.Lexicographic.{slice_cmp};
@@ -38,34 +38,25 @@ impl<'a> Model for Homes<'a> {
     ghost invariant = { λ h. AreHomes (map arc_value h.reached.now) h.table };
 }
 
-/// The place of a module as a number of 32 bits.
-pub(crate) fn module_place(at: usize) -> Result<u32, AllocError>
-    ensures { IfOk result (λ n. n ≡ at) }
-{
-    match u32::try_from(at) {
-        Ok(place) => Ok(place),
-        Err(_) => Err(AllocError),
-    }
-}
-
-/// Puts a module at a place before the others. AllocError is also answered where the place has more than 32 bits.
+/// Puts a module at a place before the others.
 fn add_home<'a>(
     homes: &mut IndexMap<&'a [u8], u32>,
     module: &'a Interface,
     at: usize,
 ) -> Result<(), AllocError>
+    requires { at < 2 ^ 32 }
     ensures { OnOk result ((name : Bor (List ℕ)) → get same_name homes.new name ≡ (if bytes_eq module.now.name name.now then Some at else get same_name homes.old name)) }
 {
-    let place = module_place(at)?;
-    homes.insert(module.name(), place)?;
+    homes.insert(module.name(), at as u32)?;
     Ok(())
 }
 
-/// The places of modules by their names, as a table. AllocError is also answered where a place has more than 32 bits.
+/// The places of modules by their names, as a table.
 fn table_of<'a>(
     alloc: Global,
     reached: &'a [Arc<Interface>],
 ) -> Result<Box<IndexMap<&'a [u8], u32>>, AllocError>
+    requires { length reached.now ≤ 2 ^ 32 }
     ensures { IfOk result (λ homes. (name : Bor (List ℕ)) → get same_name homes.value name ≡ home_in (map arc_value reached.now) name.now) }
 {
     let table = IndexMap::with_capacity(alloc, reached.len())?;
@@ -108,17 +99,17 @@ fn place_in_order(reached: &[Arc<Interface>], name: &[u8]) -> Option<usize>
 }
 
 impl<'a> Homes<'a> {
-    /// The places of these modules, whose names are compared where it isn't known that they ascend. AllocError is also
-    /// answered where a place has more than 32 bits.
+    /// The places of these modules, whose names are compared where it isn't known that they ascend.
     pub(crate) fn new(
         alloc: Global,
         reached: &'a [Arc<Interface>],
         by_name: bool,
     ) -> Result<Homes<'a>, AllocError>
-        requires { OnTrue by_name (AreByName (map arc_value reached.now)) }
+        requires few { length reached.now ≤ 2 ^ 32 }
+        requires by_name { OnTrue by_name (AreByName (map arc_value reached.now)) }
         ensures { IfOk result (λ h. h ≡ map arc_value reached.now) }
     {
-        if reached.len() <= u32::MAX as usize && (by_name || ascend(reached)) {
+        if by_name || ascend(reached) {
             return Ok(Homes {
                 reached,
                 table: None,

@@ -1,7 +1,7 @@
 //! A module's parts with their indexes.
 #![tactic(auto, unfolding(crate::specs::World::home, crate::specs::World::home_of, crate::specs::World::form_of, crate::specs::World::declarer_of, crate::specs::World::sort_of, crate::specs::World::form_at, crate::specs::Shapes::type_there, crate::specs::Shapes::exported_type, crate::specs::Shapes::own_type, crate::specs::Shapes::home_meant, crate::specs::Shapes::named_here))]
 
-ghost use Rattle.std.specs.Prelude.{◌≡◌, Some, None, IfOk, OnOk, if◌then◌else◌, map};
+ghost use Rattle.std.specs.Prelude.{◌≡◌, ◌≤◌, ◌^◌, Some, None, IfOk, if◌then◌else◌, length, map};
 ghost use Rattle.std.specs.Arc.{arc_value};
 ghost use Rattle.std.specs.Bool.{OnTrue};
 ghost use Rattle.std.specs.Option.{option_and_then};
@@ -89,17 +89,6 @@ pub(crate) fn known(shape: Option<Shape<Node, Named, Record>>) -> Shape<Node, Na
     }
 }
 
-/// Answers AllocError where the places of parts or of import items aren't numbers of 32 bits.
-fn count(parts: &Parts<'_>) -> Result<(), AllocError>
-    ensures { OnOk result (IsFew parts.now) }
-{
-    let most = u32::MAX as usize;
-    if parts.table.parts().len() >= most || parts.table.imports().len() >= most {
-        return Err(AllocError);
-    }
-    Ok(())
-}
-
 impl<'a> Indexed<'a> {
     /// The same with its indexes, told whether it is known that the names of the modules that are reached ascend.
     pub(crate) fn new(
@@ -108,10 +97,11 @@ impl<'a> Indexed<'a> {
         by_name: bool,
     ) -> Result<Indexed<'a>, AllocError>
         requires in_text { AreInText parts.bytes.now parts.tokens.now }
+        requires few { length parts.reached.now ≤ 2 ^ 32 }
         requires by_name { OnTrue by_name (AreByName (map arc_value parts.reached.now)) }
         ensures { IfOk result (λ i. i.parts ≡ parts.entry) }
     {
-        count(&parts)?;
+        parts.table.has_few();
         let homes = Homes::new(alloc, parts.reached, by_name)?;
         let item_homes = item_homes(alloc, &parts, &homes)?;
         let fields = fields_of(alloc, &parts)?;

@@ -4,7 +4,7 @@
 #[derive(Clone, Copy, Drop)]
 pub enum Node {
     /// The part of a form at this place of the module's own.
-    Own(u32),
+    Own(usize),
     /// A name of a type in the module, by its tokens: a record's base, or a guard.
     Name {
         head: u32,
@@ -14,7 +14,7 @@ pub enum Node {
     Other {
         reached: u32,
         declaration: u32,
-        part: u32,
+        part: usize,
     },
     /// Of that module the base of the record of this RECORD.
     OtherBase {

@@ -1,7 +1,7 @@
 //! What a module is known by, and what its own rows say.
 #![tactic(auto, unfolding(crate::specs::World::text, crate::specs::World::meaning, crate::specs::World::declared_at, crate::specs::World::declarer_from, crate::specs::World::declarer_of, crate::specs::World::sort_of, crate::specs::World::form_from, crate::specs::World::form_at, crate::specs::World::item_of, crate::specs::World::record_at, crate::specs::World::owner_at))]
 
-ghost use Rattle.std.specs.Prelude.{◌≡◌, slice_get};
+ghost use Rattle.std.specs.Prelude.{◌≡◌, ◌+◌, ◌<◌, ◌^◌, OnSome, slice_get};
 ghost use Rattle.ob_scan.specs.Spelling.{AreInText};
 ghost use Rattle.ob_types.specs.Parted.{world_of, IsFew};
 ghost use Rattle.ob_types.specs.World.{declared_at, declarer_from, declarer_of, form_at, form_from, item_of, meaning, owner_at, record_at, sort_of, text};
@@ -93,8 +93,7 @@ impl<'a> Parts<'a> {
     }
 
     /// The place of the first part of the form that a construct gives, which is likely to declare the identifier at this place.
-    pub(crate) fn form_from(&self, place: usize, first: u32) -> Option<u32>
-        requires { IsFew self.now }
+    pub(crate) fn form_from(&self, place: usize, first: u32) -> Option<usize>
         ensures { result ≡ form_from (world_of self.now) first }
     {
         self.table.keeps();
@@ -106,8 +105,7 @@ impl<'a> Parts<'a> {
     }
 
     /// The place of the first part of the form of the type of what a token declares.
-    pub(crate) fn form_at(&self, number: u32) -> Option<u32>
-        requires { IsFew self.now }
+    pub(crate) fn form_at(&self, number: u32) -> Option<usize>
         ensures { result ≡ form_at (world_of self.now) number }
     {
         let row = self.declared(number)?;
@@ -139,9 +137,10 @@ impl<'a> Parts<'a> {
     }
 
     /// The part at a place.
-    pub(crate) fn part(&self, place: u32) -> Option<FormPart>
-        ensures { result ≡ slice_get (world_of self.now).rows.parts place }
+    pub(crate) fn part(&self, place: usize) -> Option<FormPart>
+        ensures part { result ≡ slice_get (world_of self.now).rows.parts place }
+        ensures few { OnSome result (place + 1 < 2 ^ 64) }
     {
-        self.table.parts().get(place as usize).copied()
+        self.table.parts().get(place).copied()
     }
 }

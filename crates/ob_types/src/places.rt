@@ -1,5 +1,5 @@
 //! Rows of a number, where they are likely to stand, and the first of them among rows whose numbers don't fall.
-ghost use Rattle.std.specs.Prelude.{◌≡◌, ◌<◌, ◌^◌, ◌==◌, ℕ, IfSome, None, Some, find, true, length, position, slice_get};
+ghost use Rattle.std.specs.Prelude.{◌≡◌, ◌<◌, ◌≤◌, ◌^◌, ◌==◌, ℕ, IfSome, None, Some, find, true, length, position, slice_get};
 ghost use Rattle.ob_rows.specs.Order.{AscendBy, RiseBy};
 ghost use Rattle.ob_rows.specs.declared.rows.Declared.{Declared as DeclaredRow};
 ghost use Rattle.ob_rows.specs.declared.rows.Declarer.{Declarer as DeclarerRow};
@@ -45,23 +45,21 @@ fn is_first(parts: &[FormPart], at: usize, first: u32) -> bool
 }
 
 /// The place itself, if the form of this construct begins there.
-pub(crate) fn form_here(parts: &[FormPart], at: usize, first: u32) -> Option<u32>
-    requires rise { RiseBy (λ (p : PartRow). p.declared_by) parts.now }
-    requires few { length parts.now < 2 ^ 32 }
+pub(crate) fn form_here(parts: &[FormPart], at: usize, first: u32) -> Option<usize>
+    requires { RiseBy (λ (p : PartRow). p.declared_by) parts.now }
     ensures { IfSome result (λ place. position (λ (p : PartRow). p.declared_by == first) parts.now ≡ Some place) }
 {
     let part = parts.get(at)?;
     if part.declared_by == first && is_first(parts, at, first) {
-        Some(at as u32)
+        Some(at)
     } else {
         None
     }
 }
 
 /// The place of the first part of the form that a construct gives.
-pub(crate) fn place_of_form(parts: &[FormPart], first: u32) -> Option<u32>
-    requires rise { RiseBy (λ (p : PartRow). p.declared_by) parts.now }
-    requires few { length parts.now < 2 ^ 32 }
+pub(crate) fn place_of_form(parts: &[FormPart], first: u32) -> Option<usize>
+    requires { RiseBy (λ (p : PartRow). p.declared_by) parts.now }
     ensures { result ≡ position (λ (p : PartRow). p.declared_by == first) parts.now }
 {
     let at = parts.partition_point(|part| part.declared_by < first);
@@ -69,7 +67,7 @@ pub(crate) fn place_of_form(parts: &[FormPart], first: u32) -> Option<u32>
         return None;
     }
     if parts[at].declared_by == first {
-        Some(at as u32)
+        Some(at)
     } else {
         None
     }
@@ -89,7 +87,7 @@ fn are_before(imports: &[Import], alias: u32) -> bool
 /// The place of the import item of an alias.
 pub(crate) fn place_of_alias(imports: &[Import], alias: u32) -> Option<u32>
     requires rise { RiseBy (λ (i : ImportItem). i.alias) imports.now }
-    requires few { length imports.now < 2 ^ 32 }
+    requires few { length imports.now ≤ 2 ^ 32 }
     ensures { result ≡ position (λ (i : ImportItem). i.alias == alias) imports.now }
 {
     if are_before(imports, alias) {

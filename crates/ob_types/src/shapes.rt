@@ -89,8 +89,8 @@ impl<'a> Indexed<'a> {
     }
 
     /// A part of the module's own, at its place.
-    fn own_shape(&self, place: u32, row: FormPart) -> Shape<Node, Named, Record>
-        requires { place + 1 < 2 ^ 32 }
+    fn own_shape(&self, place: usize, row: FormPart) -> Shape<Node, Named, Record>
+        requires { place + 1 < 2 ^ 64 }
         ensures { result ≡ own_shape (world_of self.now.parts) place row }
     {
         match row.part {
@@ -103,7 +103,7 @@ impl<'a> Indexed<'a> {
     }
 
     /// Whether a part of a declaration of another module stands right behind POINTER.
-    fn behind_pointer(&self, reached: u32, declaration: u32, at: u32) -> bool
+    fn behind_pointer(&self, reached: u32, declaration: u32, at: usize) -> bool
         ensures { result ≡ behind_pointer (world_of self.now.parts) reached declaration at }
     {
         if at == 0 {
@@ -118,10 +118,10 @@ impl<'a> Indexed<'a> {
         &self,
         reached: u32,
         declaration: u32,
-        at: u32,
+        at: usize,
         part: Part<'_>,
     ) -> Shape<Node, Named, Record>
-        requires { at + 1 < 2 ^ 32 }
+        requires { at + 1 < 2 ^ 64 }
         ensures { result ≡ part_there (world_of self.now.parts) reached declaration at (part_told part.entry) }
     {
         let next = Node::Other {
@@ -142,7 +142,7 @@ impl<'a> Indexed<'a> {
     }
 
     /// What stands at a place of the module's own forms.
-    fn shape_here(&self, place: u32) -> Shape<Node, Named, Record>
+    fn shape_here(&self, place: usize) -> Shape<Node, Named, Record>
         ensures { result ≡ shape (world_of self.now.parts) (nodes.Own place) }
     {
         match self.parts.part(place) {
@@ -152,7 +152,7 @@ impl<'a> Indexed<'a> {
     }
 
     /// What stands at a place of a form of another module.
-    fn shape_there(&self, reached: u32, declaration: u32, at: u32) -> Shape<Node, Named, Record>
+    fn shape_there(&self, reached: u32, declaration: u32, at: usize) -> Shape<Node, Named, Record>
         ensures { result ≡ shape (world_of self.now.parts) (nodes.Other reached declaration at) }
     {
         match self.parts.part_there(reached, declaration, at) {

@@ -66,9 +66,9 @@ impl<'a> Parts<'a> {
     }
 
     /// A part of a declaration's form.
-    pub(crate) fn part_there(&self, reached: u32, declaration: u32, at: u32) -> Option<Part<'a>>
+    pub(crate) fn part_there(&self, reached: u32, declaration: u32, at: usize) -> Option<Part<'a>>
         ensures part { option_map part_told result ≡ part_there (world_of self.now) reached declaration at }
-        ensures few { OnSome result (at + 1 < 2 ^ 32) }
+        ensures few { OnSome result (at + 1 < 2 ^ 64) }
     {
         self.module(reached)?.part(declaration, at)
     }

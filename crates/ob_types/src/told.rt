@@ -1,14 +1,13 @@
 //! The records and the fields of a module and of those that it reaches.
-ghost use Rattle.std.specs.Prelude.{◌≡◌, ◌+◌, ◌<◌, ◌^◌, IfOk, OnOk, map};
+ghost use Rattle.std.specs.Prelude.{IfOk, OnOk, map};
 ghost use Rattle.std.specs.Arc.{arc_value};
 ghost use Rattle.ob_interface.specs.Answered.{declaration_told};
 ghost use Rattle.ob_scan.specs.Spelling.{AreInText};
 ghost use Rattle.type_search.specs.ToldFields.{AreAllFields};
-ghost use Rattle.ob_types.specs.Parted.{world_of};
+ghost use Rattle.ob_types.specs.Parted.{world_of, IsFew};
 ghost use Rattle.ob_types.specs.Shapes.{field_of};
 ghost use Rattle.ob_types.specs.Told.{TellsDeclaration, TellsModule, TellsOwn, TellsReached, TellsRow};
 
-use crate::homes::module_place;
 use crate::names::record_of;
 use crate::nodes::Record;
 use crate::parts::Parts;
@@ -71,16 +70,6 @@ fn add_declaration<'a>(
     }
 }
 
-/// The place behind this one.
-fn behind(place: u32) -> Result<u32, AllocError>
-    ensures { IfOk result (λ n. (n ≡ place + 1) × (n < 2 ^ 32)) }
-{
-    match place.checked_add(1) {
-        None => Err(AllocError),
-        Some(next) => Ok(next),
-    }
-}
-
 /// Adds the fields that a module exports which is reached.
 fn add_module<'a>(
     module: &'a Interface,
@@ -89,14 +78,13 @@ fn add_module<'a>(
 ) -> Result<(), AllocError>
     ensures { OnOk result (TellsModule reached module.now fields.old.items fields.new.items) }
 {
-    let mut place = 0;
-    'places: loop {
-        match module.declaration_at(place) {
+    for place in 0..module.declaration_count() {
+        match module.declaration_at(place as u32) {
             None => return Ok(()),
             Some(declaration) => add_declaration(fields, reached, &declaration)?,
         }
-        place = behind(place)?;
     }
+    Ok(())
 }
 
 /// Adds the fields that the modules export which are reached.
@@ -104,12 +92,12 @@ fn add_reached<'a>(
     parts: &Parts<'a>,
     fields: &mut Vec<OwnField<'a, Record>>,
 ) -> Result<(), AllocError>
+    requires { IsFew parts.now }
     ensures { OnOk result (TellsReached (map arc_value parts.now.reached.now) fields.old.items fields.new.items) }
 {
     let reached = parts.reached;
     for at in 0..reached.len() {
-        let place = module_place(at)?;
-        add_module(&reached[at], fields, place)?;
+        add_module(&reached[at], fields, at as u32)?;
     }
     Ok(())
 }
@@ -119,7 +107,8 @@ pub(crate) fn fields_told<'a>(
     alloc: Global,
     parts: &Parts<'a>,
 ) -> Result<Vec<OwnField<'a, Record>>, AllocError>
-    requires { AreInText parts.now.bytes.now parts.now.tokens.now }
+    requires in_text { AreInText parts.now.bytes.now parts.now.tokens.now }
+    requires few { IsFew parts.now }
     ensures { IfOk result (λ fields. AreAllFields (field_of (world_of parts.now)) fields.items) }
 {
     let mut fields = Vec::new(alloc);
@@ -129,8 +118,8 @@ pub(crate) fn fields_told<'a>(
 }
 
 /// A place behind the last part of the form of a declaration, at most twice as far.
-fn behind_parts(module: &Interface, place: u32) -> u32 {
-    let mut behind = 1_u32;
+fn behind_parts(module: &Interface, place: u32) -> usize {
+    let mut behind = 1_usize;
     for _ in 0..32 {
         if module.part(place, behind).is_none() {
             return behind;
@@ -142,7 +131,7 @@ fn behind_parts(module: &Interface, place: u32) -> u32 {
 
 /// The last part of the form of a declaration, which is the record if there is one: it is sought by halving, as forms may be long.
 fn last_part<'a>(module: &'a Interface, place: u32) -> Option<Part<'a>> {
-    let mut low = 0_u32;
+    let mut low = 0_usize;
     let mut high = behind_parts(module, place);
     for _ in 0..32 {
         let half = high.saturating_sub(low) / 2;
@@ -165,12 +154,10 @@ fn add_records(
     records: &mut Vec<Record>,
     reached: u32,
 ) -> Result<(), AllocError> {
-    let mut place = 0;
-    'places: while module.declaration_at(place).is_some() {
-        if let Some(Part::Record(record)) = last_part(module, place) {
+    for place in 0..module.declaration_count() {
+        if let Some(Part::Record(record)) = last_part(module, place as u32) {
             records.push(Record::Other { reached, record })?;
         }
-        place = behind(place)?;
     }
     Ok(())
 }
@@ -185,12 +172,13 @@ fn own_records(alloc: Global, parts: &Parts<'_>) -> Result<Vec<Record>, AllocErr
 }
 
 /// The records of the module and of those that it reaches.
-pub(crate) fn records_told(alloc: Global, parts: &Parts<'_>) -> Result<Vec<Record>, AllocError> {
+pub(crate) fn records_told(alloc: Global, parts: &Parts<'_>) -> Result<Vec<Record>, AllocError>
+    requires { IsFew parts.now }
+{
     let mut records = own_records(alloc, parts)?;
     let reached = parts.reached;
     for at in 0..reached.len() {
-        let place = module_place(at)?;
-        add_records(&reached[at], &mut records, place)?;
+        add_records(&reached[at], &mut records, at as u32)?;
     }
     Ok(records)
 }

@@ -1,7 +1,7 @@
 //! The types of a module and of those that it reaches.
 #![tactic(auto)]
 
-ghost use Rattle.std.specs.Prelude.{◌≡◌, IfOk, map, slice_get};
+ghost use Rattle.std.specs.Prelude.{◌≡◌, ◌≤◌, ◌^◌, IfOk, length, map, slice_get};
 ghost use Rattle.std.specs.Option.{option_map};
 ghost use Rattle.std.specs.Arc.{arc_value};
 ghost use Rattle.std.specs.Bool.{OnTrue};
@@ -48,7 +48,7 @@ impl<'a> Model for Types<'a> {
 
 impl<'a> Types<'a> {
     /// The types of the module of these tokens in these bytes, this table and these scopes, which reaches these modules. AllocError is
-    /// answered where a growth of memory is refused, and where there are 2^32 - 1 rows or modules.
+    /// answered where a growth of memory is refused.
     pub fn new(
         alloc: Global,
         bytes: &'a [u8],
@@ -58,6 +58,7 @@ impl<'a> Types<'a> {
         reached: &'a [Arc<Interface>],
     ) -> Result<Types<'a>, AllocError>
         requires in_text { AreInText bytes.now tokens.now }
+        requires few { length reached.now ≤ 2 ^ 32 }
         ensures { IfOk result (λ t. t ≡ world bytes.now tokens.now (rows_in table.now) scopes.now (map arc_value reached.now)) }
     {
         Types::with_order(alloc, bytes, tokens, table, scopes, reached, false)
@@ -74,6 +75,7 @@ impl<'a> Types<'a> {
         by_name: bool,
     ) -> Result<Types<'a>, AllocError>
         requires in_text { AreInText bytes.now tokens.now }
+        requires few { length reached.now ≤ 2 ^ 32 }
         requires by_name { OnTrue by_name (AreByName (map arc_value reached.now)) }
         ensures { IfOk result (λ t. t ≡ world bytes.now tokens.now (rows_in table.now) scopes.now (map arc_value reached.now)) }
     {

@@ -42,7 +42,7 @@ impl Items {
         self.count = self.count.saturating_add(1);
     }
 
-    /// How many items were put; the greatest number stands for more than there is a number of.
+    /// How many items were put; the greatest number stands for more than there is a number of, and so many places are more than memory has.
     pub(crate) fn count(&self) -> usize
         ensures { result ≡ self.now.1 }
     {

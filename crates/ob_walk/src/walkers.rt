@@ -23,11 +23,7 @@ fn items(alloc: Global, module: &Module) -> Result<Vec<Item>, AllocError>
 {
     let mut counted = Items::over(Vec::new(alloc));
     walk_module(&mut counted, module);
-    let count = counted.count();
-    if count == usize::MAX {
-        return Err(AllocError);
-    }
-    let mut filled = Items::over(vec![in alloc; Item::Word; count]?);
+    let mut filled = Items::over(vec![in alloc; Item::Word; counted.count()]?);
     walk_module(&mut filled, module);
     Ok(filled.places())
 }

@@ -73,10 +73,10 @@ fn no_such_module(alloc: Global, name: &str) -> RunFault
 }
 
 /// Reads the files of a tree and puts a line for each place where the module of the first name uses that of the second, as
-/// `PATH:LINE:COL-LINE:COL`: from the first byte of the alias to behind the name that follows the dot, lines and columns from
-/// 0, columns in bytes, in the order of the file. There are as many as the import weighs, and none where there is no import.
-/// Refuses with `Tree` where the tree is refused, then with `Solve` for the first name that no module has, where the first has
-/// to be that of a module of the tree, and with `Device` or `Memory`.
+/// `PATH:LINE:COL-LINE:COL`: from the first byte of the alias to behind the name that follows the dot, lines and columns from 0,
+/// columns in bytes, in the order of the file. Control characters of a path are written out. There are as many as the import
+/// weighs, and none where there is no import. Refuses with `Tree` where the tree is refused, then with `Solve` for the first name
+/// that no module has, where the first has to be that of a module of the tree, and with `Device` or `Memory`.
 pub fn crossings_tree<R: Threads + Sync, S: Sink>(
     rt: &R,
     alloc: Global,

@@ -2,6 +2,7 @@
 ghost use Rattle.std.specs.Prelude.{◌≡◌, ◌++◌, IfOk, codes};
 ghost use Rattle.std.specs.String.{string_bytes};
 ghost use Rattle.oscip_run.specs.Faults.{fault_text, net_status, net_fault_text, price_fault_text, price_status, report_status, report_fault_text, solve_fault_text, solve_status, status_number, tree_status};
+ghost use Rattle.text_escape.specs.Escapes.{escaped, IsOneLine};
 
 use byte_sink::SinkFault;
 use cut_net::{NetFault, PriceFault};
@@ -10,6 +11,8 @@ use cut_solve::SolveFault;
 use index_store::{QueryFault, query_fault_text, query_status};
 use oscip_tree::{TreeFault, after_spaces, tree_fault_text, wants_memory};
 use std::alloc::{AllocError, Global};
+use text_escape::escaped;
+use text_escape::laws::no_control;
 use thiserror::Error;
 
 /// Why a run ends without an answer. As `From` makes them, `Tree`, `Net`, `Price`, `Report`, `Solve` and
@@ -228,13 +231,17 @@ fn text_of(alloc: Global, fault: &RunFault) -> Result<String, AllocError>
     }
 }
 
-/// The line that tells of a fault: `oscip: `, the fault with names and paths as they were given, and an LF.
+/// The line that tells of a fault: `oscip: `, the fault with the control characters of names and paths written out, and an LF.
 /// Fails where memory is refused.
 pub fn fault_line(alloc: Global, fault: &RunFault) -> Result<String, AllocError>
-    ensures { IfOk result (λ t. string_bytes t ≡ codes "oscip: " ++ fault_text fault.now ++ codes "\n") }
+    ensures text { IfOk result (λ t. string_bytes t ≡ codes "oscip: " ++ escaped (fault_text fault.now) ++ codes "\n") }
+    // It ends with its LF, and has no other control character.
+    ensures one_line { IfOk result (λ t. IsOneLine (string_bytes t)) }
 {
+    no_control();
     let text = text_of(alloc, fault)?;
-    format!(in alloc; "oscip: {text}\n")
+    let shown = escaped(alloc, text.as_str())?;
+    format!(in alloc; "oscip: {shown}\n")
 }
 
 fn net_status(fault: &NetFault) -> u8

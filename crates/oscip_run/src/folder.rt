@@ -16,7 +16,7 @@ use std::{fs, io};
 /// The most folders that a folder may lie in, below the one that is walked.
 const LEVELS: u32 = 32;
 
-/// The most names that a walk looks at, each once for every path that leads to it.
+/// The most names that a walk lists, each once for every path that leads to it.
 const NAMES: u64 = 1 << 20;
 
 /// The most bytes that a module may have.
@@ -31,11 +31,12 @@ struct PendingPath {
     level: u32,
 }
 
-/// What a walk has yet to look at, the next place last, and the files that it found.
+/// What a walk has yet to look at, the next place last, the files that it found, and how many more names it may list.
 #[derive(Drop)]
 struct Walk {
     pending: Vec<PendingPath>,
     files: Vec<String>,
+    left: u64,
 }
 
 /// The path of a name in a folder, with a `/` between them where the folder's path doesn't end in one.
@@ -73,35 +74,50 @@ fn add_name(alloc: Global, names: &mut Vec<String>, name: &str) -> Result<(), Al
     Ok(())
 }
 
-/// The names that are listed of the folder at this path.
+/// The names that are listed of the folder at this path, or none where more are left than may be listed.
 fn names_of<R: Files + AllocGlobal + Clone + Drop>(
     alloc: Global,
     listing: ReadDir<R>,
     path: &str,
-) -> Result<Vec<String>, ReadFault> {
+    left: u64,
+) -> Result<Option<Vec<String>>, ReadFault> {
     let mut names = Vec::new(alloc);
     for entry in listing {
         match entry {
+            Ok(_) if names.len() as u64 >= left => return Ok(None),
             Ok(entry) => add_name(alloc, &mut names, entry.file_name())?,
             Err(error) => return Err(file_fault(alloc, path, &error)),
         }
     }
-    Ok(names)
+    Ok(Some(names))
 }
 
-/// The names in the folder at this path, in descending order.
+/// The names in the folder at this path, in no order, or none where there are more than may be listed.
 fn names_in<R: Files + AllocGlobal + Clone + Drop>(
     rt: &R,
     path: &str,
-) -> Result<Vec<String>, ReadFault> {
+    left: u64,
+) -> Result<Option<Vec<String>>, ReadFault> {
     match fs::read_dir(rt, path) {
-        Ok(listing) => {
-            let mut names = names_of(rt.alloc(), listing, path)?;
-            names.sort_unstable_by(|first, second| second.cmp(first));
-            Ok(names)
-        }
+        Ok(listing) => names_of(rt.alloc(), listing, path, left),
         Err(error) => Err(file_fault(rt.alloc(), path, &error)),
     }
+}
+
+/// The names in the folder at this path, in descending order. They are counted as they are listed, so that none is held beyond the most
+/// that a walk lists; that is told of the folder that is walked.
+fn listed<R: Files + AllocGlobal + Clone + Drop>(
+    rt: &R,
+    folder: &str,
+    path: &str,
+    left: &mut u64,
+) -> Result<Vec<String>, ReadFault> {
+    let Some(mut names) = names_in(rt, path, *left)? else {
+        return Err(cannot_read(rt.alloc(), folder));
+    };
+    *left = left.saturating_sub(names.len() as u64);
+    names.sort_unstable_by(|first, second| second.cmp(first));
+    Ok(names)
 }
 
 /// Puts the names of a folder among the places that are looked at next.
@@ -124,15 +140,16 @@ fn add_names(
 /// Has the names of a folder, which lies at this path, looked at next.
 fn enter<R: Files + AllocGlobal + Clone + Drop>(
     rt: &R,
+    folder: &str,
     opened: &str,
     place: &PendingPath,
-    pending: &mut Vec<PendingPath>,
+    walk: &mut Walk,
 ) -> Result<(), ReadFault> {
     if place.level > LEVELS {
         return Err(cannot_read(rt.alloc(), opened));
     }
-    let names = names_in(rt, opened)?;
-    add_names(rt.alloc(), place, names.as_slice(), pending)?;
+    let names = listed(rt, folder, opened, &mut walk.left)?;
+    add_names(rt.alloc(), place, names.as_slice(), &mut walk.pending)?;
     Ok(())
 }
 
@@ -145,7 +162,7 @@ fn visit<R: Files + AllocGlobal + Clone + Drop>(
 ) -> Result<(), ReadFault> {
     let opened = joined(rt.alloc(), folder, place.path.as_str())?;
     if is_folder(rt, opened.as_str())? {
-        return enter(rt, opened.as_str(), &place, &mut walk.pending);
+        return enter(rt, folder, opened.as_str(), &place, walk);
     }
     if is_module(opened.as_str()) {
         walk.files.push(place.path)?;
@@ -153,7 +170,7 @@ fn visit<R: Files + AllocGlobal + Clone + Drop>(
     Ok(())
 }
 
-/// Looks at all places that are left, and at those that come of them.
+/// Looks at all places that are left, and at those that come of them; there are no more of them than names may be listed.
 fn finish<R: Files + AllocGlobal + Clone + Drop>(
     rt: &R,
     folder: &str,
@@ -176,13 +193,13 @@ fn paths_below<R: Files + AllocGlobal + Clone + Drop>(
     let mut walk = Walk {
         pending: Vec::new(rt.alloc()),
         files: Vec::new(rt.alloc()),
+        left: NAMES,
     };
-    let names = names_in(rt, folder)?;
     let top = PendingPath {
         path: String::new(rt.alloc()),
         level: 0,
     };
-    add_names(rt.alloc(), &top, names.as_slice(), &mut walk.pending)?;
+    enter(rt, folder, folder, &top, &mut walk)?;
     finish(rt, folder, &mut walk)?;
     Ok(walk.files)
 }

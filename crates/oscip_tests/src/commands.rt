@@ -5,8 +5,8 @@ ghost use Rattle.oscip_tree.specs.Sources.{ArePathsInOrder};
 
 use crate::faults::fault_told;
 use crate::inputs::{
-    FOUR, FOUR_BLOCKED, FOUR_CROSSINGS, FOUR_CUT, FOUR_DOT, FOUR_PINS, ONE, ONE_HEX, ONE_INDEX,
-    SIX, SIX_BLOCKED, SIX_CUT, SIX_DOT, SIX_PINS, WRONG, WRONG_LINE, sources,
+    FOUR, FOUR_BLOCKED, FOUR_CROSSINGS, FOUR_CUT, FOUR_DOT, FOUR_PINS, NONE_INDEX, ONE, ONE_HEX,
+    ONE_INDEX, SIX, SIX_BLOCKED, SIX_CUT, SIX_DOT, SIX_PINS, WRONG, WRONG_LINE, sources,
 };
 use index_run::{OpenBoard, answer_index, unresolved_to};
 use oscip_job::{Job, JobFault, job_of};
@@ -71,7 +71,14 @@ const PUTS: &[Command] = &[
         None,
         ONE_HEX,
     ),
+    (
+        &["index", "none", "none.scip", "--workers", "1"],
+        &[],
+        None,
+        NONE_INDEX,
+    ),
     (&["unresolved", "wrong"], WRONG, None, WRONG_LINE),
+    (&["unresolved", "one"], ONE, None, b""),
 ];
 
 /// The words of cuts, each with the number of workers and what is put. Zeros and a plus may stand before it.
@@ -231,8 +238,31 @@ fn has_fronts<R: Abort + Threads + Wait + AllocGlobal + Clock + Sync>(
             "3 oscip: cannot write\n",
         )?;
         assert_eq!(rt; (sink.taken.len(), sink.failures), (puts, 1));
+        assert_eq!(rt; sink.empty, 0);
         assert!(rt; text.starts_with(sink.taken.as_slice()));
     }
+    Ok(())
+}
+
+/// Checks that a sink that takes one byte a put has the whole text, and is never asked to take none.
+fn has_whole<R: Abort + Threads + Wait + AllocGlobal + Clock + Sync>(
+    rt: &R,
+    job: &Job,
+    sources: &[Source],
+    prices: Option<&[u8]>,
+    text: &[u8],
+) -> Result<(), AllocError>
+    requires workers { HasWorkers job.now }
+    requires package { HasPackage job.now }
+{
+    assert!(rt; in_order(sources));
+    let mut sink = ByOne::new(rt.alloc(), u64::MAX);
+    let gate = AllCome::new(rt, 0);
+    let told = told(rt, job, sources, prices, &gate, &mut sink)?;
+    let want = if told.as_str() == "put" { "put" } else { "yes" };
+    assert_eq!(rt; told.as_str(), want);
+    assert_eq!(rt; (sink.failures, sink.empty), (0, 0));
+    assert_eq!(rt; sink.taken.as_slice(), text);
     Ok(())
 }
 
@@ -262,6 +292,17 @@ fn a_sink_that_fails_has_the_front(rt: HostRuntime) -> Result<(), Fail> {
         let sources = sources(rt.alloc(), files)?;
         let job = job_in(rt.alloc(), line.as_slice())?;
         has_fronts(&rt, &job, sources.as_slice(), *prices, text)?;
+    }
+    Ok(())
+}
+
+#[test]
+fn a_sink_of_one_byte_a_put_has_the_whole(rt: HostRuntime) -> Result<(), Fail> {
+    for (words, files, prices, text) in PUTS {
+        let line = line_of(rt.alloc(), words)?;
+        let sources = sources(rt.alloc(), files)?;
+        let job = job_in(rt.alloc(), line.as_slice())?;
+        has_whole(&rt, &job, sources.as_slice(), *prices, text)?;
     }
     Ok(())
 }

@@ -55,6 +55,9 @@ pub const ONE_INDEX: &[u8] =
 pub const ONE_HEX: &[u8] =
     b"0a0e120a0a056f736369701201312001126d0a054d2e4d6f6412220a030007081214736369702d6f6265726f6e202e202e202e204d2f18013a03000010121b0a03000e0f1214736369702d6f6265726f6e202e202e202e204d2f1a190a14736369702d6f6265726f6e202e202e202e204d2f32014d22064f6265726f6e3001\n";
 
+/// The index of no file, without package and root.
+pub const NONE_INDEX: &[u8] = b"\x0a\x0e\x12\x0a\x0a\x05oscip\x12\x011 \x01";
+
 /// A file with a name that stands for nothing, and the line of it.
 pub const WRONG: &[(&str, &str)] = &[("A.Mod", "MODULE A; BEGIN x := 1 END A.")];
 

@@ -1,5 +1,6 @@
-//! Tests of the program's libraries, of what no command shows: sinks that fail at each put, gates at which workers meet, and fault
-//! lines that the program can't be brought to. What a command prints, tells and ends with stands in `rows/`.
+//! Tests of the program's libraries, of what no command shows: sinks that fail at each put, gates at which workers meet, a board at which
+//! the test's own threads work, trees that are read whole, and fault lines that the program can't be brought to. What a command prints,
+//! tells and ends with stands in `rows/`.
 //! Stands on `oscip_job`, `oscip_tree`, `ob_board`, `oscip_run` and `index_run`, with the doubles that tests share.
 //! Its contract: none, since it has no function but tests.
 #![tactic(auto)]
@@ -14,3 +15,7 @@ mod faults;
 mod inputs;
 #[cfg(test)]
 mod models;
+#[cfg(test)]
+mod trees;
+#[cfg(test)]
+mod workers;

@@ -37,7 +37,7 @@ const SIZES: &[(usize, usize)] = &[
 const TREES: &[&[(&str, &str)]] = &[ONE, TWO, THREE, FOUR, WRONG];
 
 /// Whether no symbol's text can hold this package.
-fn is_wrong(part: &str) -> bool
+pub(crate) fn is_wrong(part: &str) -> bool
     ensures { result ≡ is_wrong_part part.now }
 {
     part == "." || part.starts_with(' ')
@@ -51,7 +51,7 @@ fn package_of(alloc: Global, letters: usize) -> Result<String, AllocError> {
     Ok(name)
 }
 
-fn options_of(alloc: Global, letters: usize) -> Result<IndexOptions, AllocError> {
+pub(crate) fn options_of(alloc: Global, letters: usize) -> Result<IndexOptions, AllocError> {
     let package = package_of(alloc, letters)?;
     let root = String::from_str(alloc, "file:///tree")?;
     Ok(IndexOptions { package, root })
@@ -78,7 +78,7 @@ fn tree_of(alloc: Global, rounds: usize) -> Result<Vec<Source>, AllocError> {
 }
 
 /// The bytes of a message.
-fn put_message(alloc: Global, index: Index) -> Result<Vec<u8>, Fail> {
+pub(crate) fn put_message(alloc: Global, index: Index) -> Result<Vec<u8>, Fail> {
     if index.metadata.is_none() {
         return Err(Fail::new("an index says nothing of itself"));
     }
@@ -88,7 +88,7 @@ fn put_message(alloc: Global, index: Index) -> Result<Vec<u8>, Fail> {
 }
 
 /// The index as a message, and then its bytes.
-fn put_whole<R: AllocGlobal + Threads + Wait + Sync>(
+pub(crate) fn put_whole<R: AllocGlobal + Threads + Wait + Sync>(
     rt: &R,
     sources: &[Source],
     options: &IndexOptions,

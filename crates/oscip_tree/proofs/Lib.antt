@@ -12,3 +12,5 @@ pub mod NoTreeFault
 pub mod OneTreeFault
 pub mod CrossedTrees
 pub mod PartsOfFiles
+pub mod TreeRows
+pub mod FilesRead

@@ -6,3 +6,4 @@ pub mod TreeReading
 pub mod TreeFaults
 pub mod Crossings
 pub mod Parts
+pub mod Readings

@@ -15,7 +15,7 @@ ghost use Rattle.oscip_tree.specs.TreeReading.{AreScopesOf, IsTreeOf};
 ghost use Rattle.oscip_tree.specs.Trees.{files_of, names, IsAccepted, IsFileFault, IsTreeFault, ModuleFile};
 
 use crate::front_end::{scan_fault, table_after};
-use crate::tree_reading::{Tree, read_tree};
+use crate::tree_reading::{Tree, scoped_tree};
 use crate::{Source, TreeFault};
 use ob_imports::Graph;
 use ob_rows::Table;
@@ -195,6 +195,6 @@ pub fn uses_across<R: Threads + Sync>(
     // The fault is the tree's.
     ensures fault { IfErr result (IsTreeFault sources.now) }
 {
-    let tree = read_tree(rt, alloc, sources, workers)?;
+    let tree = scoped_tree(rt, alloc, sources, workers)?;
     uses_in(alloc, &tree, sources, from, to)
 }

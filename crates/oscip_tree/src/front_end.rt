@@ -10,6 +10,7 @@ ghost use Rattle.oscip_tree.specs.TreeReading.{HasScopes};
 
 use crate::files::OfFile;
 use crate::{Source, TreeFault};
+use ob_decls::laws::tree_rows;
 use ob_parse::ParseFault;
 use ob_rows::Table;
 use ob_scan::laws::tokens_in_text;
@@ -126,6 +127,7 @@ fn scopes_in(
     ensures fault { IfErr result (IsFileFault source.now) }
 {
     tokens_in_text();
+    tree_rows();
     match scopes_from(alloc, table, tokens.as_slice(), source.bytes.as_slice()) {
         Ok(scopes) => Ok(scopes),
         Err(fault) => Err(scope_fault(alloc, source, fault)),

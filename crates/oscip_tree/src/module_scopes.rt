@@ -5,6 +5,7 @@ ghost use Rattle.ob_tree.specs.Derives.{Derives};
 ghost use Rattle.ob_decls.specs.Declaring.{rows_of};
 ghost use Rattle.ob_scope.specs.Scoped.{AreScopes, IsScopeFault};
 
+use ob_decls::laws::tree_rows;
 use ob_decls::table_of;
 use ob_scan::Tokens;
 use ob_scope::{ScopeFault, Scopes, scopes_from};
@@ -33,6 +34,7 @@ pub fn scopes(
     // The fault is so.
     ensures fault { IfErr result (IsScopeFault bytes.now tokens.now (rows_of «module».now)) }
 {
+    tree_rows();
     let table = table_of(alloc, module)?;
     scopes_from(alloc, &table, tokens.as_slice(), bytes)
 }

@@ -16,6 +16,7 @@ use crate::files::{OfFile, read_files};
 use crate::front_end::{scan_fault, scope_fault, table_after};
 use crate::tree_reading::parsed_of;
 use crate::{Source, TreeFault};
+use ob_decls::laws::tree_rows;
 use ob_imports::{Graph, Parsed, graph};
 use ob_interface::{Interface, seen_of};
 use ob_rows::Table;
@@ -97,6 +98,7 @@ fn parts_in(
     ensures fault { IfErr result (IsFileFault source.now) }
 {
     tokens_in_text();
+    tree_rows();
     match scopes_from(alloc, &table, tokens.as_slice(), source.bytes.as_slice()) {
         Ok(scopes) => Ok(parts_with(alloc, source, tokens, table, scopes)?),
         Err(fault) => Err(scope_fault(alloc, source, fault)),

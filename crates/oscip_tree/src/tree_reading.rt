@@ -66,8 +66,8 @@ fn all_parsed(
     Ok(all)
 }
 
-/// The tree of the files: of the first file that has a fault its fault, or else that of the imports.
-pub(crate) fn read_tree<R: Threads + Sync>(
+/// The graph of the files with the scopes of each: of the first file that has a fault its fault, or else that of the imports.
+pub(crate) fn scoped_tree<R: Threads + Sync>(
     rt: &R,
     alloc: Global,
     sources: &[Source],
@@ -104,6 +104,6 @@ pub fn net_of<R: Threads + Sync>(
     ensures net { IfOk result (IsNetOfTree sources.now) }
     ensures fault { IfErr result (IsTreeFault sources.now) }
 {
-    let tree = read_tree(rt, alloc, sources, workers)?;
+    let tree = scoped_tree(rt, alloc, sources, workers)?;
     Ok(net_in(alloc, &tree)?)
 }

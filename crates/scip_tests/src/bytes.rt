@@ -29,7 +29,7 @@ pub(crate) enum As {
 }
 
 /// An index of another producer: a document with an unpacked range and an unknown field 99, and then metadata.
-const FOREIGN: &[u8] =
+pub(crate) const FOREIGN: &[u8] =
     b"\x12\x19\x0a\x01a\x12\x11\x08\x00\x08\x07\x08\x08\x12\x07local 0\x18\x01\x98\x06\x01\x0a\x02\x20\x01";
 
 /// The index of `MODULE M; END M.`.
@@ -125,10 +125,13 @@ pub(crate) const ROWS: &[(As, &[u8], &str)] = &[
         b"\x08\x00\x08\x07\x08\x08\x12\x07local 0\x18\x01",
         "1 varint 0 at 0, 1; 1 varint 7 at 2, 3; 1 varint 8 at 4, 5; 2 bytes 7 at 6, 8; 3 varint 1 at 15, 16; ",
     ),
+    // A document whose path is no UTF-8 is a record as any other.
+    (As::Records, b"\x12\x03\x0a\x01\xff", "2 bytes 3 at 0, 2; "),
     // The first record that is wrong.
     (As::Records, b"\x00", "the record at 0 has no field number"),
     (As::Records, b"\x03", "the record at 0 has no field number"),
     (As::Records, b"\x0b", "the record at 0 is a group"),
+    (As::Records, b"\x0e", "the record at 0 is a group"),
     (As::Records, b"\x0f", "the record at 0 is a group"),
     (
         As::Records,
@@ -327,8 +330,8 @@ fn told_written(alloc: Global, index: &Index) -> Result<String, AllocError> {
     }
 }
 
-fn told_rest(alloc: Global, bytes: &[u8]) -> Result<String, AllocError> {
-    match &IndexReader::new(alloc, bytes).rest() {
+pub(crate) fn told_rest(alloc: Global, reader: IndexReader) -> Result<String, AllocError> {
+    match &reader.rest() {
         Ok((metadata, externals)) => {
             let word = if metadata.is_some() { "some" } else { "none" };
             format!(in alloc; "{word}, {}", externals.len())
@@ -377,7 +380,7 @@ fn told(alloc: Global, way: As, bytes: &[u8]) -> Result<String, AllocError> {
             Err(fault) => told_fault(alloc, fault),
         },
         As::Packed => told_packed(alloc, bytes),
-        As::Rest => told_rest(alloc, bytes),
+        As::Rest => told_rest(alloc, IndexReader::new(alloc, bytes)),
         As::Index => match from_bytes(alloc, bytes) {
             Ok(index) => told_written(alloc, &index),
             Err(fault) => told_fault(alloc, fault),

@@ -3,3 +3,4 @@ pub mod Leading
 pub mod Extending
 pub mod ToldFields
 pub mod Lines
+pub mod Progress

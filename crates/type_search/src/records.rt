@@ -4,6 +4,7 @@ ghost use Rattle.std.specs.List.{All};
 ghost use Rattle.type_search.specs.Extending.{shape_record, AreAbove, AreFieldsOf, AreFound, IsAbove, IsFieldIn, IsNextAbove, IsRecordOf};
 ghost use Rattle.type_search.specs.Leading.{AreTypeEnds};
 ghost use Rattle.type_search.specs.Lines.{IsHop, IsLine};
+ghost use Rattle.type_search.specs.Progress.{progress};
 ghost use Rattle.type_search.specs.Searches.{Finds};
 
 use crate::ends::end_of;
@@ -144,7 +145,7 @@ fn climb<'a, G: TypeGraph>(
     ensures kept { AreTypeEnds (G.shape graph.now) true G.Declaration.eq kept.new }
     ensures aboves { AreAbove (G.shape graph.now) (G.base_of graph.now) G.Record.eq aboves.new }
     ensures next { IfOk result (IsNextAbove (G.shape graph.now) (G.base_of graph.now) (λ r. G.field_of graph.now r name.now) G.Record.eq «record» way.old.marks.items way.new.marks.items) }
-    ensures passed { IfOk result (λ o. IfSome o (λ _. (way.old.passed < way.new.passed) × (way.new.passed < 2 ^ 64))) }
+    ensures passed { IfOk result (λ o. IfSome o (λ _. (progress way.old < progress way.new) × (progress way.new < 2 ^ 65))) }
 {
     if comes_back(way, record) {
         return Ok(None);

@@ -2,6 +2,7 @@
 ghost use Rattle.std.specs.Prelude.{◌≡◌, ◌<◌, ◌^◌, [], true, OnOk};
 ghost use Rattle.std.specs.List.{list_any};
 ghost use Rattle.type_search.specs.Extending.{IsPassed};
+ghost use Rattle.type_search.specs.Progress.{progress};
 
 use std::alloc::{AllocError, Global};
 
@@ -10,7 +11,7 @@ use std::alloc::{AllocError, Global};
 #[derive(Drop)]
 pub(crate) struct Way<R: Copy + Drop> {
     pub(crate) marks: Vec<R>,
-    /// How many records were passed.
+    /// How many records were passed, or 2^64 - 1.
     pub(crate) passed: u64,
     /// How many are passed before the next mark.
     pub(crate) due: u64,
@@ -37,19 +38,16 @@ pub(crate) fn comes_back<R: Copy + Eq + Drop>(way: &Way<R>, record: R) -> bool
     }
 }
 
-/// Passes a record.
+/// Passes a record. At 2^64 - 1 the count stays, and each record is marked from then on.
 pub(crate) fn pass<R: Copy + Drop>(way: &mut Way<R>, record: R) -> Result<(), AllocError>
     ensures marks { OnOk result (IsPassed «record» way.old.marks.items way.new.marks.items) }
-    ensures passed { OnOk result (way.old.passed < way.new.passed) }
-    ensures few { OnOk result (way.new.passed < 2 ^ 64) }
+    ensures goes_on { OnOk result (progress way.old < progress way.new) }
+    ensures few { OnOk result (progress way.new < 2 ^ 65) }
 {
-    let Some(passed) = way.passed.checked_add(1) else {
-        return Err(AllocError);
-    };
     if way.passed >= way.due {
         way.marks.push(record)?;
         way.due = way.due.saturating_mul(2).saturating_add(1);
     }
-    way.passed = passed;
+    way.passed = way.passed.saturating_add(1);
     Ok(())
 }

@@ -3,4 +3,4 @@ use Rattle.ob_board.specs.Seen.{all_seen}
 use Rattle.ob_board.proofs.indexing.entries.Given as goal
 
 abbrev pub ghosts-entries_in : goal.ghosts-entries_in
-ghosts-entries_in g a = record { files = all_seen a.sources.now a.tree.now.modules.items; package_name = string_bytes a.options.now.package }
+ghosts-entries_in g a = record { files = all_seen a.sources.now a.tree.now.modules.items; graph = a.tree.now.graph; package_name = string_bytes a.options.now.package }

@@ -3,4 +3,4 @@ use Rattle.ob_board.specs.Seen.{all_seen}
 use Rattle.ob_board.proofs.writing.tree_records.Given as goal
 
 abbrev pub ghosts-records_in : goal.ghosts-records_in
-ghosts-records_in g a = record { files = all_seen a.sources.now a.tree.now.modules.items; package_name = string_bytes a.options.now.package }
+ghosts-records_in g a = record { files = all_seen a.sources.now a.tree.now.modules.items; graph = a.tree.now.graph; package_name = string_bytes a.options.now.package }

@@ -5,7 +5,7 @@ use Rattle.ob_interface.proofs.Ranks.{entries_step}
 use Rattle.ob_interface.proofs.entries.base_entries.Goals as goal
 
 pub loop-i-preserved : goal.loop-i-preserved
-loop-i-preserved c = entries_step base_entry _ _ _ _ _ _ c.loop-i.invariant c.loop-i-test.true c.in_ok-entry.ensures c.in_ok-push.ensures.items
+loop-i-preserved c = entries_step base_entry _ _ _ _ _ _ c.loop-i.invariant c.loop-i-test.true c.base_entry-entry.ensures c.in_ok-push.ensures.items
 
 pub returns : goal.returns
 returns c = c.loop-i.invariant ∙ ap (entries_from base_entry 0) (take_all c.loop-i.i c.args.rows.now c.loop-i-test.false)

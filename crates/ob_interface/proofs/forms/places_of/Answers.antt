@@ -11,4 +11,4 @@ returns c =
     let n : FormPart → ℕ = λ p. p.declared_by in
     let low = IsPartitionPoint-from_clause (λ (p : FormPart). ltb p.declared_by k) xs _ c.partition_point-first.ensures.partitioned (IsPartitionedBy-ltb n xs k c.requires) (λ a r q h. search rules) in
     let high = IsPartitionPoint-from_clause (λ (p : FormPart). leb p.declared_by k) xs _ c.partition_point-end.ensures.partitioned (IsPartitionedBy-leb n xs k c.requires) (λ a r q h. search rules) in
-    rw (c.in_ok-first.ensures, c.in_ok-end.ensures) (filter_between xs k _ _ low high)
+    filter_between xs k _ _ low high

@@ -8,6 +8,7 @@ returns c =
     let members = members_indexed rows _ _ c.in_ok-members.members.items c.as_slice-text.ensures.value c.as_slice-declarations.ensures.value c.in_ok-members.ensures.sorted c.in_ok-members.ensures.same in
     let aliases = aliases_indexed rows _ _ c.in_ok-aliases.aliases.items c.as_slice-text.ensures.value c.as_slice.ensures.value c.in_ok-aliases.ensures.sorted c.in_ok-aliases.ensures.same in
     record {
+      few = c.requires;
       by_name = members.0;
       declared = members.1;
       by_alias = aliases.0;

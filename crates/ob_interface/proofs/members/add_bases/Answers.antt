@@ -1,9 +1,8 @@
-use Rattle.std.proofs.Common.{sym, ◌∙◌, ap, nat_eq, refl}
+use Rattle.std.proofs.Common.{sym, ◌∙◌, ap, refl}
 use Rattle.std.specs.List.{filter_map}
 use Rattle.std.specs.Option.{option_map}
-use Rattle.indexmap.specs.IndexMap.{get}
 use Rattle.ob_rows.specs.declared.rows.Record.{Record}
-use Rattle.ob_interface.specs.Interfaces.{base, base_by}
+use Rattle.ob_interface.specs.Interfaces.{base, base_by, outer_by}
 use Rattle.ob_interface.specs.Texts.{base_in}
 use Rattle.ob_interface.proofs.Growing.{all_told, grown_none, grown_twice, more_told, none_told}
 use Rattle.ob_interface.proofs.members.add_bases.Goals as goal
@@ -13,7 +12,7 @@ pub loop-i-preserved : goal.loop-i-preserved
 loop-i-preserved c =
     let bytes = c.args.source.now.bytes.now in
     let ts = c.args.source.now.tokens.now in
-    let h = λ (r : Record). base_by bytes ts r (get nat_eq c.args.outers.now r.owner) in
+    let h = λ (r : Record). base_by bytes ts r (outer_by c.args.declarers.now r.owner) in
     let found = c.base_of.ensures bytes ts in
     elim c.match-base_of.branch [
       | in-Some+in_ok-row-in-Some+in_ok-push-in-Some w ↦ rw (w.text-is, w.rows-is) (record {
@@ -37,4 +36,4 @@ pub returns-clause-tell : goal.returns-clause-tell
 returns-clause-tell c =
     let bytes = c.args.source.now.bytes.now in
     let ts = c.args.source.now.tokens.now in
-    all_told base_in _ _ (filter_map (λ (r : Record). base_by bytes ts r (get nat_eq c.args.outers.now r.owner))) c.args.records.now c.loop-i.i c.loop-i.invariant.tell c.loop-i-test.false
+    all_told base_in _ _ (filter_map (λ (r : Record). base_by bytes ts r (outer_by c.args.declarers.now r.owner))) c.args.records.now c.loop-i.i c.loop-i.invariant.tell c.loop-i-test.false

@@ -1,9 +1,8 @@
-use Rattle.std.proofs.Common.{sym, ◌∙◌, ap, nat_eq, refl}
+use Rattle.std.proofs.Common.{sym, ◌∙◌, ap, refl}
 use Rattle.std.specs.List.{filter_map}
 use Rattle.std.specs.Option.{option_map}
-use Rattle.indexmap.specs.IndexMap.{get}
 use Rattle.ob_rows.specs.declared.rows.Declared.{Declared}
-use Rattle.ob_interface.specs.Interfaces.{declaration, declaration_by}
+use Rattle.ob_interface.specs.Interfaces.{declaration, declaration_by, outer_by}
 use Rattle.ob_interface.specs.Texts.{declaration_in, form_at}
 use Rattle.ob_interface.proofs.Growing.{all_told, grown_none, grown_twice, more_told, none_told}
 use Rattle.ob_interface.proofs.members.add_declarations.Goals as goal
@@ -15,7 +14,7 @@ loop-i-preserved c =
     let ts = c.args.source.now.tokens.now in
     let ps = c.args.parts.now in
     let tell = declaration_in (form_at bytes ts ps) in
-    let h = λ (r : Declared). declaration_by bytes ts ps r (get nat_eq c.args.outers.now r.declared_by) in
+    let h = λ (r : Declared). declaration_by bytes ts ps r (outer_by c.args.declarers.now r.declared_by) in
     let found = c.declarer_of.ensures bytes ts ps in
     elim c.match-declarer_of.branch [
       | in-Some+in_ok-row-in-Some+in_ok-push-in-Some w ↦ rw (w.text-is, w.rows-is) (record {
@@ -40,4 +39,4 @@ returns-clause-tell c =
     let bytes = c.args.source.now.bytes.now in
     let ts = c.args.source.now.tokens.now in
     let ps = c.args.parts.now in
-    all_told (declaration_in (form_at bytes ts ps)) _ _ (filter_map (λ (r : Declared). declaration_by bytes ts ps r (get nat_eq c.args.outers.now r.declared_by))) c.args.declared.now c.loop-i.i c.loop-i.invariant.tell c.loop-i-test.false
+    all_told (declaration_in (form_at bytes ts ps)) _ _ (filter_map (λ (r : Declared). declaration_by bytes ts ps r (outer_by c.args.declarers.now r.declared_by))) c.args.declared.now c.loop-i.i c.loop-i.invariant.tell c.loop-i-test.false

@@ -1,15 +1,14 @@
 -- Each list is told by one call, in a buffer that goes on growing.
-use Rattle.std.proofs.Common.{ℕ, List, Option, nat_eq, ap, ◌∙◌}
+use Rattle.std.proofs.Common.{List, ap, ◌∙◌}
 use Rattle.std.specs.List.{filter_map}
 use Rattle.std.specs.Prelude.{map}
-use Rattle.indexmap.specs.IndexMap.{get}
 use Rattle.ob_rows.specs.Tables.{rows_in}
 use Rattle.ob_rows.specs.declared.rows.Declarer.{Declarer}
 use Rattle.ob_rows.specs.declared.rows.Declared.{Declared}
 use Rattle.ob_rows.specs.declared.rows.Record.{Record}
 use Rattle.ob_rows.specs.declared.rows.Import.{Import}
 use Rattle.ob_interface.specs.declared.rows.Rows.{Rows}
-use Rattle.ob_interface.specs.Interfaces.{declaration_by, base_by, imported_of}
+use Rattle.ob_interface.specs.Interfaces.{declaration_by, base_of, imported_of, outer_by}
 use Rattle.ob_interface.proofs.Assembled.{assembled}
 use Rattle.ob_interface.proofs.seeing.fill_rows.Goals as goal
 
@@ -18,7 +17,6 @@ returns c =
     let bytes = c.args.source.now.bytes.now in
     let ts = c.args.source.now.tokens.now in
     let ps = c.args.own.now in
-    let outers : ℕ → Option Declarer = get nat_eq c.args.outers.now in
     let rows : Rows = record {
       text = c.add_parts.new.text;
       name = c.in_ok-rows.field-0;
@@ -27,10 +25,9 @@ returns c =
       bases = c.in_ok-rows-3.field-0;
       imports = c.in_ok-rows-4.field-0;
     } in
-    assembled bytes ts (rows_in c.args.table.now) ps outers rows c.add_text.new.text.items c.add_declarations.new.text.items c.add_bases.new.text.items c.add_imports.new.text.items (record {
-      outer = c.requires.outer;
-      same = c.requires.same;
-    }) (λ more. c.in_ok-rows.ensures.tells more ∙ c.of.ensures) c.in_ok-rows-2.ensures.grown
-    (λ more. c.in_ok-rows-2.ensures.tell more ∙ ap (λ (xs : List Declared). filter_map (λ r. declaration_by bytes ts ps r (outers r.declared_by)) xs) c.declared-declared.ensures) c.in_ok-rows-3.ensures.grown
-    (λ more. c.in_ok-rows-3.ensures.tell more ∙ ap (λ (xs : List Record). filter_map (λ r. base_by bytes ts r (outers r.owner)) xs) c.records.ensures) c.in_ok-rows-4.ensures.grown
+    assembled bytes ts (rows_in c.args.table.now) ps rows c.add_text.new.text.items c.add_declarations.new.text.items c.add_bases.new.text.items c.add_imports.new.text.items c.requires.same (λ more. c.in_ok-rows.ensures.tells more ∙ c.of.ensures) c.in_ok-rows-2.ensures.grown
+    (λ more. c.in_ok-rows-2.ensures.tell more ∙ ap (λ (xs : List Declared). filter_map (λ r. declaration_by bytes ts ps r (outer_by c.declarers-declarers.result.now r.declared_by)) xs) c.declared-declared.ensures
+    ∙ ap (λ (ds : List Declarer). filter_map (λ r. declaration_by bytes ts ps r (outer_by ds r.declared_by)) (rows_in c.args.table.now).declared) c.declarers-declarers.ensures) c.in_ok-rows-3.ensures.grown
+    (λ more. c.in_ok-rows-3.ensures.tell more ∙ ap (λ (xs : List Record). filter_map (base_of bytes ts c.declarers-declarers.result.now) xs) c.records.ensures
+    ∙ ap (λ (ds : List Declarer). filter_map (base_of bytes ts ds) (rows_in c.args.table.now).records) c.declarers-declarers.ensures) c.in_ok-rows-4.ensures.grown
     (λ more. c.in_ok-rows-4.ensures.tell more ∙ ap (λ (xs : List Import). map (imported_of bytes ts) xs) c.imports.ensures) c.in_ok-rows-5.ensures.grown c.in_ok-rows-5.ensures.tell

@@ -1,6 +1,6 @@
 use Rattle.ob_scope.specs.declared.members.Member.{Member}
 use Rattle.ob_scope.specs.Members.{members_of}
-use Rattle.ob_scope.proofs.Elements.{ascend_one}
+use Rattle.ob_rows.proofs.Around.{ascend_one}
 use Rattle.ob_scope.proofs.Placing.{members_ascend}
 use Rattle.ob_scope.proofs.laws.one_declared.Goals as goal
 

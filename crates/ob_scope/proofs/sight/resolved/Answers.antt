@@ -5,6 +5,7 @@ use Rattle.ob_scope.specs.declared.members.Member.{Member}
 use Rattle.ob_scope.specs.Sights.{IsOpenScope}
 use Rattle.ob_scan.specs.Texts.{text_at}
 use Rattle.ob_scope.proofs.Elements.{slice_there}
+use Rattle.ob_scope.proofs.OnWay.{may_use, way_used}
 use Rattle.ob_scope.proofs.SightSteps.{look_ascend, look_falls, look_found, look_none, look_same, look_sight, look_start, look_unnamed, look_within, sight_as, IsLookUp}
 use Rattle.ob_scope.proofs.sight.resolved.Goals as goal
 use Rattle.ob_scope.proofs.sight.resolved.Goals.{In_ok-enter}
@@ -26,10 +27,17 @@ look_up c = record {
   entered = c.in_ok-enter.ensures;
 }
 
+pub enter-requires-clause-may : goal.enter-requires-clause-may
+enter-requires-clause-may c =
+    let (uses, way, here) = c.requires.way in
+    let s = c.declare_before.new.sight in
+    may_use c.args.blocks.now c.args.members.now uses s c.args.token (c.in_ok-declare_before.ensures.way uses way) c.args.block here c.requires.blocks c.in_ok-declare_before.ensures.sight.opened
+
 pub returns-in_default : goal.returns-in_default
 returns-in_default c =
     let look = look_up (goal.at.returns-in_default c).In_ok-enter in
     record {
+      way = λ uses later le here way. way_used c.args.blocks.now c.args.members.now uses c.declare_before.new.sight c.args.token (c.in_ok-declare_before.ensures.way uses way) c.args.block here _ c.enter.new.opened later le look.front.behind look.entered refl refl;
       sight = look_same look _ refl refl refl refl;
       front = look.front;
       found = tt;
@@ -56,6 +64,7 @@ returns c =
     let start = look_start look c.as_slice-2.result.now c.as_slice-3.result.now n c.index.result.now at c.as_slice-2.ensures.value c.as_slice-3.ensures.value within c.index.ensures c.last_open-at.ensures.start in
     let shown = subst (λ (stack : List ℕ). IfSome at (λ i. (m : Member) × (slice_get c.args.members.now i ≡ Some m) × IsOpenScope stack m.place)) c.as_slice-2.ensures.value c.last_open-at.ensures.«open» in
     record {
+      way = λ uses later le here way. way_used c.args.blocks.now c.args.members.now uses c.declare_before.new.sight c.args.token (c.in_ok-declare_before.ensures.way uses way) c.args.block here _ c.enter.new.opened later le look.front.behind look.entered refl refl;
       sight = look_sight look _ n at within start refl refl refl refl;
       front = look.front;
       found = look_found look n at named start shown;

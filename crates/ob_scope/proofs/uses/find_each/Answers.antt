@@ -3,7 +3,10 @@ use Rattle.std.proofs.Common.{◌<◌, length, sym, ◌∙◌, arith}
 use Rattle.std.proofs.lemmas.Option.{slice_get_within, slice_get-get_or}
 use Rattle.ob_scope.specs.Scope.{NoneTwice}
 use Rattle.ob_scan.specs.Texts.{text_at}
-use Rattle.ob_scope.proofs.Elements.{some_one}
+use Rattle.std.proofs.Common.{refl}
+use Rattle.ob_scope.specs.Ways.{use_there}
+use Rattle.ob_scope.proofs.OnWay.{way_begun}
+use Rattle.ob_scope.proofs.Elements.{contains_slice, some_one}
 use Rattle.ob_scope.proofs.Meanings.{means_as}
 use Rattle.ob_scope.proofs.Finding.{meant_none, meant_other, meant_more, counted_none, counted_other, counted_more}
 use Rattle.std.proofs.lemmas.Grind.{elements}
@@ -17,12 +20,19 @@ loop-k-init c =
       meant = rw c.requires.empty (meant_none name c.args.blocks.now c.args.members.now c.args.uses.now);
       sight = c.requires.sight;
       before = λ i p u m le at below there. (let e = c.requires.none_yet in absurd (omega arith));
+      way = λ i u le at. way_begun c.args.blocks.now c.args.members.now c.args.uses.now c.args.sight.now u.number c.requires.together c.requires.none_open;
       counted = counted_none name c.args.blocks.now c.args.members.now c.args.uses.now c.args.counts.now c.requires.as_many c.requires.zero;
     }
 
 pub meaning-requires-clause-before : goal.meaning-requires-clause-before
 meaning-requires-clause-before c = λ p m below there.
     c.loop-k.invariant.before c.loop-k.k p _ m (omega arith) (slice_get-get_or c.args.uses.now c.loop-k.k _ c.loop-k-test.true) below there
+
+pub meaning-requires-clause-way : goal.meaning-requires-clause-way
+meaning-requires-clause-way c =
+    let uses = c.args.uses.now in
+    let at = slice_get-get_or uses c.loop-k.k _ c.loop-k-test.true in
+    (uses, c.loop-k.invariant.way c.loop-k.k _ (omega arith) at, use_there _ (contains_slice uses c.loop-k.k _ at) refl refl)
 
 pub bounds-members-at : goal.bounds-members-at
 bounds-members-at c =
@@ -63,6 +73,7 @@ loop-k-preserved c =
             meant = meant_more name blocks members uses k c.loop-k.meanings.items _ _ c.requires.uses once c.loop-k.invariant.meant at means;
             sight = c.in_ok-at.ensures.sight;
             before = λ j p u m le at_use below there. (let l = c.in_ok-at.ensures.front.before p m below there in let next = c.requires.uses k j _ u (omega arith) at at_use in omega arith);
+            way = λ j u le at_use. c.in_ok-at.ensures.way uses u.number (let next = c.requires.uses k j _ u (omega arith) at at_use in omega arith) (use_there _ (contains_slice uses k _ at) refl refl) (c.loop-k.invariant.way k _ (omega arith) at);
             counted = counted_more name blocks members uses k i c.loop-k.counts _ _ c.requires.members once c.loop-k.invariant.counted at there means;
           }))
       | in_default w ↦ (
@@ -72,6 +83,7 @@ loop-k-preserved c =
             meant = meant_other name blocks members uses k c.loop-k.meanings.items _ c.loop-k.invariant.meant at nothing;
             sight = c.in_ok-at.ensures.sight;
             before = λ j p u m le at_use below there. (let l = c.in_ok-at.ensures.front.before p m below there in let next = c.requires.uses k j _ u (omega arith) at at_use in omega arith);
+            way = λ j u le at_use. c.in_ok-at.ensures.way uses u.number (let next = c.requires.uses k j _ u (omega arith) at at_use in omega arith) (use_there _ (contains_slice uses k _ at) refl refl) (c.loop-k.invariant.way k _ (omega arith) at);
             counted = counted_other name blocks members uses k c.loop-k.counts _ c.loop-k.invariant.counted at nothing;
           }))
     ]

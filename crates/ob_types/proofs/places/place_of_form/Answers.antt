@@ -9,17 +9,17 @@ use Rattle.ob_types.proofs.places.place_of_form.Goals as goal
 pub returns-then-at-parts : goal.returns-then-at-parts
 returns-then-at-parts c =
     let n = λ (x : FormPart). x.declared_by in
-    let point = IsPartitionPoint-from_clause (λ (x : FormPart). nat_lt x.declared_by c.args.first) c.args.parts.now _ c.partition_point-at.ensures.partitioned (IsPartitionedBy-ltb n c.args.parts.now c.args.first (rising n c.args.parts.now c.requires.rise)) (λ a r q h. search rules) in
-    sym (placed_beyond n c.args.parts.now c.args.first _ c.requires.rise point c.if-at-parts.true)
+    let point = IsPartitionPoint-from_clause (λ (x : FormPart). nat_lt x.declared_by c.args.first) c.args.parts.now _ c.partition_point-at.ensures.partitioned (IsPartitionedBy-ltb n c.args.parts.now c.args.first (rising n c.args.parts.now c.requires)) (λ a r q h. search rules) in
+    sym (placed_beyond n c.args.parts.now c.args.first _ c.requires point c.if-at-parts.true)
 
 pub returns-then-parts-at : goal.returns-then-parts-at
 returns-then-parts-at c =
     let n = λ (x : FormPart). x.declared_by in
-    let point = IsPartitionPoint-from_clause (λ (x : FormPart). nat_lt x.declared_by c.args.first) c.args.parts.now _ c.partition_point-at.ensures.partitioned (IsPartitionedBy-ltb n c.args.parts.now c.args.first (rising n c.args.parts.now c.requires.rise)) (λ a r q h. search rules) in
-    sym (placed n c.args.parts.now c.args.first _ c.requires.rise point _ c.if-at-parts.false (equal _ _ c.if-parts-at.true))
+    let point = IsPartitionPoint-from_clause (λ (x : FormPart). nat_lt x.declared_by c.args.first) c.args.parts.now _ c.partition_point-at.ensures.partitioned (IsPartitionedBy-ltb n c.args.parts.now c.args.first (rising n c.args.parts.now c.requires)) (λ a r q h. search rules) in
+    sym (placed n c.args.parts.now c.args.first _ c.requires point _ c.if-at-parts.false (equal _ _ c.if-parts-at.true))
 
 pub returns-else-parts-at : goal.returns-else-parts-at
 returns-else-parts-at c =
     let n = λ (x : FormPart). x.declared_by in
-    let point = IsPartitionPoint-from_clause (λ (x : FormPart). nat_lt x.declared_by c.args.first) c.args.parts.now _ c.partition_point-at.ensures.partitioned (IsPartitionedBy-ltb n c.args.parts.now c.args.first (rising n c.args.parts.now c.requires.rise)) (λ a r q h. search rules) in
-    sym (placed_nowhere n c.args.parts.now c.args.first _ c.requires.rise point _ c.if-at-parts.false (unequal _ _ c.if-parts-at.false))
+    let point = IsPartitionPoint-from_clause (λ (x : FormPart). nat_lt x.declared_by c.args.first) c.args.parts.now _ c.partition_point-at.ensures.partitioned (IsPartitionedBy-ltb n c.args.parts.now c.args.first (rising n c.args.parts.now c.requires)) (λ a r q h. search rules) in
+    sym (placed_nowhere n c.args.parts.now c.args.first _ c.requires point _ c.if-at-parts.false (unequal _ _ c.if-parts-at.false))

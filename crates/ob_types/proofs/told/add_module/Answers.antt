@@ -1,18 +1,24 @@
-use Rattle.std.proofs.Common.{ℕ, subst, sym}
+use Rattle.std.proofs.Common.{arith, length, ◌≤◌, sym}
 use Rattle.ob_interface.specs.Answered.{declaration_told}
-use Rattle.ob_types.proofs.Telling.{declaration_more, module_told, stay_on, DeclarationsTold}
+use Rattle.ob_types.proofs.Telling.{declaration_more, module_told, past, stay_on}
 use Rattle.ob_types.proofs.told.add_module.Goals as goal
 
-pub places-preserved : goal.places-preserved
-places-preserved c =
+pub loop-place-preserved : goal.loop-place-preserved
+loop-place-preserved c =
     let tells = c.in_ok-add_declaration-in-Some.ensures in
+    let at = c.loop-place in
     record {
-      few = c.in_ok-place.ensures.1;
-      stay = stay_on c.args.fields.now.items c.places.fields.items c.add_declaration.new.fields.items c.places.invariant.stay tells.stay;
-      told = subst (λ (n : ℕ). DeclarationsTold c.args.reached c.args.«module».now n c.add_declaration.new.fields.items) (sym c.in_ok-place.ensures.0)
-          (declaration_more c.args.reached c.args.«module».now c.places.place (declaration_told c.in-Some.declaration) c.places.fields.items c.add_declaration.new.fields.items (sym c.in-Some.ensures) c.places.invariant.told
-          c.in_ok-add_declaration-in-Some.ensures);
+      stay = stay_on c.args.fields.now.items at.fields.items c.add_declaration.new.fields.items at.invariant.stay tells.stay;
+      told = declaration_more c.args.reached c.args.«module».now at.place (declaration_told c.in-Some.declaration) at.fields.items c.add_declaration.new.fields.items (sym c.in-Some.ensures) at.invariant.told tells;
     }
 
 pub returns-in-None : goal.returns-in-None
-returns-in-None c = module_told c.args.reached c.args.«module».now c.places.place c.args.fields.now.items c.places.fields.items c.places.invariant.stay c.places.invariant.told (sym c.in-None.ensures)
+returns-in-None c =
+    module_told c.args.reached c.args.«module».now c.loop-place.place c.args.fields.now.items c.loop-place.fields.items c.loop-place.invariant.stay c.loop-place.invariant.told
+    (past c.args.«module».now.declarations c.loop-place.place (sym c.in-None.ensures))
+
+pub returns : goal.returns
+returns c =
+    let m = c.args.«module».now in
+    let all : length m.declarations ≤ c.loop-place.place = omega (arith, c.declaration_count-place-end.ensures.count, c.loop-place-test.false) in
+    module_told c.args.reached m c.loop-place.place c.args.fields.now.items c.loop-place.fields.items c.loop-place.invariant.stay c.loop-place.invariant.told all

@@ -1,10 +1,9 @@
-use Rattle.std.proofs.Common.{◌≡◌, ◌<◌, ◌≤◌, ◌∙◌, ℕ, Some, ap, arith, length, map, subst, sym}
+use Rattle.std.proofs.Common.{◌≡◌, ◌<◌, ◌≤◌, ◌∙◌, Some, ap, arith, length, map, sym}
 use Rattle.std.specs.Prelude.{slice_get}
 use Rattle.std.specs.Arc.{arc_value}
 use Rattle.std.proofs.lemmas.List.{get_or-map, length-map}
 use Rattle.std.proofs.lemmas.Option.{slice_get-get_or}
 use Rattle.ob_interface.specs.Interfaces.{ModuleInterface}
-use Rattle.ob_types.specs.Told.{TellsModule}
 use Rattle.ob_types.proofs.Telling.{module_more, reached_told, stay_on}
 use Rattle.ob_types.proofs.told.add_reached.Goals as goal
 
@@ -16,7 +15,7 @@ loop-at-preserved c =
     let all : at < length (map arc_value reached) = omega (arith, length-map reached arc_value) in
     let it = get_or-map arc_value reached at element (arc_value element) c.loop-at-test.true ∙ ap arc_value (sym c.index-reached-at.is) ∙ sym c.deref.ensures in
     let there : slice_get (map arc_value reached) at ≡ Some c.deref.result.now = slice_get-get_or (map arc_value reached) at (arc_value element) all ∙ ap (λ (m : ModuleInterface). Some m) it in
-    let tells = subst (λ (n : ℕ). TellsModule n c.deref.result.now c.loop-at.fields.items c.add_module.new.fields.items) c.in_ok-place.ensures c.in_ok-add_module.ensures in
+    let tells = c.in_ok-add_module.ensures in
     record {
       stay = stay_on c.args.fields.now.items c.loop-at.fields.items c.add_module.new.fields.items c.loop-at.invariant.stay tells.stay;
       told = module_more (map arc_value reached) at c.deref.result.now c.loop-at.fields.items c.add_module.new.fields.items there c.loop-at.invariant.told tells;

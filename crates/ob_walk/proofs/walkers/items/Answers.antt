@@ -9,7 +9,7 @@ pub returns : goal.returns
 returns c =
     let out = items_of (module_outline c.args.«module».now) in
     let put = λ (s : List Item × ℕ). more s out in
-    let count : c.count-count.result ≡ min (0 + length out) 18446744073709551615 =
-    c.count-count.ensures ∙ ap (λ (s : List Item × ℕ). s.1) (c.walk_module.ensures ∙ ap put c.over-counted.ensures) ∙ counted (c.new.result.items, 0) out (omega arith) in
-    let places : length c.in_ok-vec.field-0.items ≡ length out = omega (arith, count, c.if-count.false, c.in_ok-vec.ensures.len) in
+    let count : c.count.result ≡ min (0 + length out) 18446744073709551615 =
+    c.count.ensures ∙ ap (λ (s : List Item × ℕ). s.1) (c.walk_module.ensures ∙ ap put c.over-counted.ensures) ∙ counted (c.new.result.items, 0) out (omega arith) in
+    let places : length c.in_ok-vec.field-0.items ≡ length out = omega (arith, count, c.in_ok-vec.field-0.ok, c.in_ok-vec.field-0.small, c.in_ok-vec.ensures.len) in
     c.places.ensures ∙ ap (λ (s : List Item × ℕ). s.0) (c.walk_module-2.ensures ∙ ap put c.over-filled.ensures) ∙ filled c.in_ok-vec.field-0.items out places (omega arith)

@@ -4,13 +4,19 @@ use Rattle.ob_rows.specs.Tables.{rows_in}
 use Rattle.ob_rows.specs.Parts.{Rows}
 use Rattle.ob_scan.specs.declared.token.Token.{Token}
 use Rattle.ob_scope.specs.Scoped.{AreScopes, IsScopeFault}
+use Rattle.oscip_tree.proofs.TreeRows.{tree_rows_of}
 use Rattle.oscip_tree.proofs.front_end.scopes_in.Goals as goal
 
 pub scopes_from-requires-clause-in_text : goal.scopes_from-requires-clause-in_text
 scopes_from-requires-clause-in_text c = rw (c.as_slice.ensures, c.as_slice-2.ensures.value) (c.tokens_in_text.ensures _ _ c.requires.spelled.1)
 
 pub scopes_from-requires-clause-spelled : goal.scopes_from-requires-clause-spelled
-scopes_from-requires-clause-spelled c = rw (c.as_slice.ensures, c.as_slice-2.ensures.value) c.requires.spelled.1
+scopes_from-requires-clause-spelled c = rw (c.as_slice.ensures, c.as_slice-2.ensures.value) c.requires.spelled
+
+pub scopes_from-requires-clause-rows : goal.scopes_from-requires-clause-rows
+scopes_from-requires-clause-rows c =
+    let (tree, is_tree, same) = c.requires.parsed in
+    tree_rows_of c.args.tokens.now c.as_slice.result.now (rows_in c.args.table.now) tree c.as_slice.ensures same (c.tree_rows.ensures _ tree is_tree.tree.derived)
 
 pub returns-in-Ok-clause-scoped : goal.returns-in-Ok-clause-scoped
 returns-in-Ok-clause-scoped c =

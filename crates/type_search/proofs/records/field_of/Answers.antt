@@ -1,5 +1,6 @@
 use Rattle.std.proofs.Common.{◌<◌, ◌^◌, Option, arith, subst}
 use Rattle.std.specs.Prelude.{IfSome}
+use Rattle.type_search.specs.Progress.{progress}
 use Rattle.type_search.proofs.Extending.{climbs_nowhere, ends_here, goes_on, known_here}
 use Rattle.type_search.proofs.records.field_of.Goals as goal
 
@@ -40,5 +41,5 @@ records-preserved g c =
 
 pub records-smaller : goal.records-smaller
 records-smaller g c =
-    let more = subst (λ (o : Option g.row.G-Record.Denot). IfSome o (λ _. (c.records.way.passed < c.climb.new.way.passed) × (c.climb.new.way.passed < 2 ^ 64))) c.in-Some-2.is c.in_ok-climb.ensures.passed in
+    let more = subst (λ (o : Option g.row.G-Record.Denot). IfSome o (λ _. (progress c.records.way < progress c.climb.new.way) × (progress c.climb.new.way < 2 ^ 65))) c.in-Some-2.is c.in_ok-climb.ensures.passed in
     omega (arith, more.0, more.1)

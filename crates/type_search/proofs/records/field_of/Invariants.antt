@@ -1,6 +1,7 @@
 use Rattle.std.proofs.Common.{true, ◌-◌, ◌^◌}
 use Rattle.type_search.specs.Extending.{AreAbove}
 use Rattle.type_search.specs.Leading.{AreTypeEnds}
+use Rattle.type_search.specs.Progress.{progress}
 use Rattle.type_search.proofs.Extending.{Climbs}
 use Rattle.type_search.proofs.records.field_of.Given as goal
 
@@ -12,4 +13,4 @@ invariant-records g l = record {
 }
 
 abbrev pub decreases-records : goal.decreases-records
-decreases-records g l = 2 ^ 64 - l.way.passed
+decreases-records g l = 2 ^ 65 - progress l.way

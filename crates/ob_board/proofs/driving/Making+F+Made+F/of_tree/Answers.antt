@@ -1,0 +1,7 @@
+use Rattle.ob_board.proofs.SeenFiles.{parts_seen}
+use Rattle.ob_board.proofs.driving.Making+F+Made+F.of_tree.Goals as goal
+
+pub new-requires-clause-seen : goal.new-requires-clause-seen
+new-requires-clause-seen g c =
+    let (files, of) = c.requires.parts in
+    rw c.as_slice-2.ensures.value (parts_seen c.args.sources.now files c.args.tree.now.modules.items of.all c.args.tree.now.graph of.kept)

@@ -1,0 +1,167 @@
+-- What stands in a block of a module stands together.
+use Rattle.std.proofs.Common.{◌≡◌, List, refl, sym, ap, ◌∙◌, ℕ, ◌+◌}
+use Rattle.ob_tree.specs.declared.name.OneOrMore.{OneOrMore}
+use Rattle.ob_tree.specs.declared.declaration.ConstDecl.{ConstDecl}
+use Rattle.ob_tree.specs.declared.declaration.TypeDecl.{TypeDecl}
+use Rattle.ob_tree.specs.declared.declaration.VarDecl.{VarDecl}
+use Rattle.ob_tree.specs.declared.declaration.ImportItem.{ImportItem}
+use Rattle.ob_tree.specs.declared.declaration.Module.{Module}
+use Rattle.ob_tree.specs.declared.declaration.Declarations.{Declarations, Declarations-F, roll-Declarations, out-roll-Declarations, ind-Declarations, map-Declarations}
+use Rattle.ob_tree.specs.declared.declaration.ProcDecl.{ProcDecl, ProcDecl-F, roll-ProcDecl, out-roll-ProcDecl, map-ProcDecl}
+use Rattle.ob_tree.proofs.Closed.{With}
+use Rattle.ob_rows.specs.declared.rows.Sort.TheVariants as sorts
+use Rattle.ob_rows.specs.Parts.{Piece, token, both, tells, declaring, opens_block}
+use Rattle.ob_rows.specs.Parts.{if_there as there, each as pieces}
+use Rattle.ob_decls.specs.Expressions.{expr_piece}
+use Rattle.ob_decls.specs.Statements.{block_piece}
+use Rattle.ob_decls.specs.Types.{identdef_piece, parameters_piece}
+use Rattle.ob_decls.specs.Declaring.{const_piece, type_decl_piece, variable_piece, procedure_end, declarations_piece, procedure_piece, import_inner, import_piece, imports_piece, module_piece}
+use Rattle.ob_decls.specs.Declaring.{part as told_part}
+use Rattle.ob_decls.proofs.DeclarationLayers as told
+use Rattle.std.proofs.Common.{false, ◌<◌, ◌≤◌, inl, inr, arith}
+use Rattle.ob_rows.specs.declared.rows.Block.{Block}
+use Rattle.ob_rows.specs.Blocks.{AreBlocksWhole, IsAround, StandsIn}
+use Rattle.ob_rows.specs.Order.{AscendBy}
+use Rattle.ob_rows.specs.Parts.{Rows, no_rows, joined}
+use Rattle.ob_rows.proofs.Around.{around-le, around_all}
+use Rattle.ob_decls.specs.Declaring.{module_end, rows_of, outermost}
+use Rattle.ob_decls.proofs.LinedModules.{rows_in_order}
+use Rattle.ob_decls.proofs.Nested.{Nest}
+use Rattle.ob_decls.proofs.QuietStatements.{q-block}
+use Rattle.ob_tree.specs.declared.name.Identdef.{Identdef}
+use Rattle.ob_rows.specs.Parts.{within}
+use Rattle.ob_decls.proofs.NestedPieces.{Stands, n-declares, n-tells, n-there, n-both, n-token, o-more, o-names, o-procedure, o-stands, p-quiet, s-both, s-declaring, s-each, s-is, s-map, s-nothing, s-plain, s-tells, s-there, s-token, stands_from}
+use Rattle.ob_decls.proofs.NestedTypes.{n-identdef, identdef_first, identdef_some, some_both, s-expr, s-parameters, s-type, b-var}
+
+import_some : (i : ImportItem) → 0 < (import_inner i).width
+unfolding import_inner tells both token
+import_some i = omega arith
+
+procedure_some : (p : Piece) → 0 < (opens_block (both token p)).width
+unfolding tells within both token
+procedure_some p = omega arith
+
+-- what stands behind a module's own name
+abbrev behind_name : Module → Piece
+behind_name m = both token (both (there imports_piece m.imports) (both (declarations_piece m.declarations) (both (there (λ b. both token (block_piece b)) m.body)
+    (both token (both (tells module_end token) token)))))
+
+module _ (B : List Block) (up : AscendBy (λ (b : Block). b.first) B) where
+  abbrev S : Piece → Type 0
+  S p = Stands B p
+
+  one_name : (i : Identdef) → 1 ≤ 0 + (identdef_piece i).width
+  one_name i = let l = identdef_some i in omega arith
+
+  s-const : (c : ConstDecl) → S (const_piece c)
+  unfolding const_piece
+  s-const c = s-declaring B sorts.Constant (some_both _ _ (identdef_some c.name)) (o-more B 0 1 (one_name c.name) (n-identdef c.name) (o-stands B (s-both B (s-token B) (s-expr B up c.value))))
+
+  s-type_decl : (t : TypeDecl) → S (type_decl_piece t)
+  unfolding type_decl_piece
+  s-type_decl t = s-declaring B sorts.Type (some_both _ _ (identdef_some t.name)) (o-more B 0 1 (one_name t.name) (n-identdef t.name) (o-stands B (s-both B (s-token B) (s-type B up t.form))))
+
+  s-variables : (v : VarDecl) → S (variable_piece v)
+  unfolding variable_piece
+  s-variables v = s-declaring B sorts.Variable (b-var B up v).some (b-var B up v).opens
+
+  s-import : (i : ImportItem) → S (import_piece i)
+  unfolding import_piece import_inner
+  s-import i = s-declaring B sorts.Import (import_some i) (o-names B 0 (n-tells _ (λ c k. refl) (λ c k. refl) (λ c k. refl) (n-declares false (n-there (λ m. both token token) i.of (λ m. n-both n-token n-token)))))
+
+  s-part : {X : Type 0} (f : X → Piece) (xs : List X) → ((x : X) → S (f x)) → S (told_part f xs)
+  s-part f xs w = s-both B (s-token B) (s-each B (λ x. both (f x) token) xs (λ x. s-both B (w x) (s-token B)) (s-nothing B))
+
+  abbrev HeldDeclarations : Declarations → Type 0
+  HeldDeclarations t = S (declarations_piece t)
+
+  abbrev HeldProcDecl : ProcDecl → Type 0
+  HeldProcDecl t = S (procedure_piece t)
+
+  abbrev WithDeclarations : Type 0
+  WithDeclarations = Declarations-F (With HeldDeclarations) (With HeldProcDecl)
+
+  abbrev declarations_of : WithDeclarations → Declarations-F Declarations ProcDecl
+  declarations_of = map-Declarations (With HeldDeclarations) (With HeldProcDecl) Declarations ProcDecl (λ e. e.0) (λ e. e.0)
+
+  abbrev WithProcDecl : Type 0
+  WithProcDecl = ProcDecl-F (With HeldDeclarations) (With HeldProcDecl)
+
+  abbrev procedure_of : WithProcDecl → ProcDecl-F Declarations ProcDecl
+  procedure_of = map-ProcDecl (With HeldDeclarations) (With HeldProcDecl) Declarations ProcDecl (λ e. e.0) (λ e. e.0)
+
+  abbrev declarations_told : Declarations-F Declarations ProcDecl → Piece
+  declarations_told d =
+      both (there (λ v. told_part const_piece v.items) d.constants) (
+      both (there (λ v. told_part type_decl_piece v.items) d.types) (
+      both (there (λ v. told_part variable_piece v.items) d.variables) (pieces (λ p. both (procedure_piece p) token) d.procedures.items)))
+
+  declarations_held : (y : WithDeclarations) → S (declarations_told (declarations_of y))
+  declarations_held y =
+      s-both B (s-there B (λ v. told_part const_piece v.items) y.constants (λ v. s-part const_piece v.items s-const) (s-nothing B))
+      (s-both B (s-there B (λ v. told_part type_decl_piece v.items) y.types (λ v. s-part type_decl_piece v.items s-type_decl) (s-nothing B))
+      (s-both B (s-there B (λ v. told_part variable_piece v.items) y.variables (λ v. s-part variable_piece v.items s-variables) (s-nothing B))
+      (s-map B (λ p. both (procedure_piece p) token) _ y.procedures.items (λ p. s-both B p.1 (s-token B)) (s-nothing B))))
+
+  abbrev procedure_told : ProcDecl-F Declarations ProcDecl → Piece
+  procedure_told p = declaring sorts.Procedure (opens_block (
+      both token (both (identdef_piece p.name) (both (there parameters_piece p.parameters) (both token
+      (both (declarations_piece p.declarations) (both (there (λ b. both token (block_piece b.value)) p.body)
+      (both (there (λ e. both token (expr_piece e.value)) p.returned) (both token (tells procedure_end token))))))))))
+
+  procedure_held : (y : WithProcDecl) → S (procedure_told (procedure_of y))
+  procedure_held y = s-declaring B sorts.Procedure (procedure_some _) (o-procedure B up (n-identdef y.name) (identdef_first y.name) (identdef_some y.name) (
+      s-both B (s-there B parameters_piece y.parameters (s-parameters B up) (s-nothing B)) (s-both B (s-token B)
+      (s-both B y.declarations.1 (s-both B (s-there B (λ b. both token (block_piece b.value)) y.body (λ b. s-both B (s-token B) (s-plain B (p-quiet (q-block b.value)))) (s-nothing B))
+      (s-both B (s-there B (λ e. both token (expr_piece e.value)) y.returned (λ e. s-both B (s-token B) (s-expr B up e.value)) (s-nothing B))
+      (s-both B (s-token B) (s-tells B procedure_end (λ c k. refl) (λ c k. refl) (λ c k. refl) (s-token B)))))))))
+
+  declarations_step : (x : Declarations-F Declarations ProcDecl) (y : WithDeclarations) → declarations_of y ≡ x → HeldDeclarations (roll-Declarations x)
+  declarations_step x y is = s-is B (told.declarations_out (roll-Declarations x) ∙ ap (λ (z : Declarations-F Declarations ProcDecl). declarations_told z) (out-roll-Declarations x ∙ sym is)) (declarations_held y)
+
+  procedure_step : (x : ProcDecl-F Declarations ProcDecl) (y : WithProcDecl) → procedure_of y ≡ x → HeldProcDecl (roll-ProcDecl x)
+  procedure_step x y is = s-is B (told.procedure_told (roll-ProcDecl x) ∙ ap (λ (z : ProcDecl-F Declarations ProcDecl). procedure_told z) (out-roll-ProcDecl x ∙ sym is)) (procedure_held y)
+
+  s-declarations : (d : Declarations) → S (declarations_piece d)
+  s-declarations = ind-Declarations HeldDeclarations HeldProcDecl declarations_step procedure_step
+
+  s-imports : (l : OneOrMore ImportItem) → S (imports_piece l)
+  unfolding imports_piece
+  s-imports l = s-both B (s-token B) (s-both B (s-import l.first) (s-both B (s-each B (λ i. both token (import_piece i)) l.rest.items (λ i. s-both B (s-token B) (s-import i)) (s-nothing B)) (s-token B)))
+
+  s-behind : (m : Module) → S (behind_name m)
+  s-behind m = s-both B (s-token B) (s-both B (s-there B imports_piece m.imports s-imports (s-nothing B))
+      (s-both B (s-declarations m.declarations) (s-both B (s-there B (λ b. both token (block_piece b)) m.body (λ b. s-both B (s-token B) (s-plain B (p-quiet (q-block b)))) (s-nothing B))
+      (s-both B (s-token B) (s-both B (s-tells B module_end (λ c k. refl) (λ c k. refl) (λ c k. refl) (s-token B)) (s-token B))))))
+
+-- all of a module behind its name
+module _ (m : Module) where
+  rows : Rows
+  rows = rows_of m
+
+  inner : Rows
+  inner = (behind_name m).rows outermost 2
+
+  same : (n b : ℕ) → StandsIn rows n b → StandsIn inner n b
+  unfolding rows inner module_piece both token joined no_rows
+  same = stands_from rows inner (λ x h. h) (λ x h. h) (λ x h. h)
+
+  names : Nest rows.blocks (StandsIn inner) 0 2 (2 + (behind_name m).width)
+  unfolding rows inner module_piece both token joined no_rows
+  names = ((s-behind rows.blocks (rows_in_order m).blocks m).whole outermost 2 (omega arith) (λ x h. h)).nest
+
+  behind_two : (n b c : ℕ) → StandsIn rows n c → IsAround rows.blocks b c → b + 1 < n
+  behind_two n b c h a = elim (names.behind n b c (same n c h) a) [
+    | inl o ↦ (let z : b ≤ 0 = around-le rows.blocks b 0 o in let lo : 2 ≤ n = (names.inside n c (same n c h)).0 in omega arith)
+    | inr i ↦ i.1
+  ]
+
+  together : (n k b c d : ℕ) → StandsIn rows n c → StandsIn rows k d → b + 1 < n → n ≤ k → IsAround rows.blocks b d → IsAround rows.blocks b c
+  together n k b c d h j lt le a = elim (names.behind k b d (same k d j) a) [
+    | inl o ↦ around_all rows.blocks b 0 c o (names.inside n c (same n c h)).2
+    | inr i ↦ names.between n k b c d (same n c h) (same k d j) i.0 lt le a
+  ]
+
+pub blocks_whole : (m : Module) → AreBlocksWhole (rows_of m)
+unfolding rows
+blocks_whole m = record { behind = behind_two m; between = together m }

@@ -1,0 +1,243 @@
+-- What stands in the blocks of types stands together.
+use Rattle.std.proofs.Common.{◌≡◌, ℕ, zero, suc, false, Option, Some, None, refl, sym, ap, ◌∙◌}
+use Rattle.std.specs.declared.boxed.Box.{Box}
+use Rattle.std.specs.declared.alloc.Global.{Global}
+use Rattle.ob_tree.specs.declared.declaration.Parameters.{Parameters}
+use Rattle.ob_tree.specs.declared.declaration.TypeForm.TheOpen as layers
+use Rattle.ob_tree.specs.declared.declaration.TypeForm.TheShapes as shapes
+use Rattle.ob_tree.specs.declared.declaration.TypeForm.{TypeForm, TypeForm-F, roll-TypeForm, out-roll-TypeForm, ind-TypeForm, map-TypeForm}
+use Rattle.ob_tree.specs.declared.declaration.Fields.{Fields, Fields-F, roll-Fields, out-roll-Fields, map-Fields}
+use Rattle.ob_tree.specs.declared.declaration.Record.{Record, Record-F, roll-Record, out-roll-Record, map-Record}
+use Rattle.ob_tree.specs.declared.declaration.VarDecl.{VarDecl, VarDecl-F, roll-VarDecl, out-roll-VarDecl, ind-VarDecl, map-VarDecl}
+use Rattle.ob_tree.specs.declared.name.Identdef.{Identdef}
+use Rattle.ob_tree.proofs.Closed.{With}
+use Rattle.ob_tree.specs.declared.name.Qualident.{Qualident}
+use Rattle.ob_tree.specs.declared.expression.Expr.{Expr}
+use Rattle.ob_tree.specs.declared.expression.ExprList.{ExprList, out-ExprList}
+use Rattle.ob_tree.specs.declared.name.OneOrMore.{OneOrMore}
+use Rattle.ob_tree.specs.declared.declaration.ParameterSection.{ParameterSection}
+use Rattle.ob_rows.specs.declared.rows.Sort.TheVariants as sorts
+use Rattle.ob_rows.specs.declared.rows.Part.TheVariants as parts
+use Rattle.ob_rows.specs.Parts.{Piece, token, both, tells, within, if_so, declaring}
+use Rattle.ob_rows.specs.Parts.{if_there as there}
+use Rattle.ob_decls.specs.Expressions.{each_after, expr_piece}
+use Rattle.ob_decls.specs.Statements.{qualident_piece}
+use Rattle.ob_rows.specs.declared.rows.Part.{Part as PartRow}
+use Rattle.ob_decls.specs.Types.{declared_row, name_part, type_use, part_here, record_row, in_record, open_arrays, section_inner, section_piece, identdef_piece, parameter_piece, parameters_piece, type_name_piece, lengths_piece, type_piece, fields_piece, record_piece, var_piece}
+use Rattle.ob_decls.proofs.TypeLayers as told
+use Rattle.std.proofs.Common.{◌+◌, ◌<◌, ◌≤◌, List, [], Bool, true, arith, inl, inr, subst}
+use Rattle.std.specs.Prelude.{Contains}
+use Rattle.std.proofs.lemmas.List.Elements.{Contains-append_cases}
+use Rattle.ob_rows.specs.declared.draft.Context.{Context}
+use Rattle.ob_rows.specs.declared.rows.Block.{Block}
+use Rattle.ob_rows.specs.declared.rows.Declared.{Declared}
+use Rattle.ob_rows.specs.declared.rows.Used.{Used}
+use Rattle.ob_rows.specs.Order.{AscendBy}
+use Rattle.ob_rows.specs.Parts.{no_rows, joined, nothing}
+use Rattle.ob_decls.proofs.Quiet.{q-both, q-there, q-token}
+use Rattle.ob_decls.proofs.QuietExpressions.{q-expr}
+use Rattle.ob_decls.proofs.QuietStatements.{q-qualident}
+use Rattle.ob_decls.proofs.NestedPieces.{Late, Names, Opens, Stands, empty, single, late-nothing, late-token, n-both, n-declared, n-declares, n-each, n-so, n-token, o-more, o-stands, p-first, p-quiet, s-block, s-both, s-declaring, s-each, s-is, s-map, s-nothing, s-plain, s-tells, s-there, s-token, s-within}
+
+-- ---- names
+
+pub n-identdef : (i : Identdef) → Names (identdef_piece i)
+unfolding identdef_piece
+n-identdef i = n-declares i.starred (n-so i.starred n-token)
+
+star_none : (b : Bool) (c : Context) (k : ℕ) → ((if_so b token).rows c k).declared ≡ []
+unfolding token nothing no_rows
+star_none true c k = refl
+star_none false c k = refl
+
+-- it is its first token
+pub identdef_first : (i : Identdef) (c : Context) (k : ℕ) (d : Declared) → Contains ((identdef_piece i).rows c k).declared d → d.number ≡ k
+unfolding identdef_piece tells both token joined no_rows
+identdef_first i c k d h = elim (Contains-append_cases (declared_row i.starred c k).declared ((if_so i.starred token).rows c (k + 1)).declared d h) [
+  | inl a ↦ sym (ap (λ (y : Declared). y.number) (single (record { number = k; exported = i.starred; declared_by = c.declarer }) d a))
+  | inr b ↦ empty ((if_so i.starred token).rows c (k + 1)).declared d (star_none i.starred c (k + 1)) b
+]
+
+pub identdef_some : (i : Identdef) → 0 < (identdef_piece i).width
+unfolding identdef_piece tells both token
+identdef_some i = omega arith
+
+pub some_both : (p q : Piece) → 0 < p.width → 0 < (both p q).width
+unfolding both
+some_both p q l = omega arith
+
+n-parameter : Names parameter_piece
+unfolding parameter_piece
+n-parameter = n-declared false
+
+parameter_some : 1 ≤ parameter_piece.width
+unfolding parameter_piece tells token
+parameter_some = omega arith
+
+token_both : (p : Piece) → 0 < (both token p).width
+unfolding both token
+token_both p = omega arith
+
+section_some : (s : ParameterSection) → 0 < (section_inner s).width
+unfolding section_inner both
+section_some s = let l = parameter_some in omega arith
+
+-- a construct with its names
+pub record Begins (B : List Block) (p : Piece) : Type 0 where
+  pub opens : Opens B 0 p
+  pub some : 0 < p.width
+
+module _ (B : List Block) (up : AscendBy (λ (b : Block). b.first) B) where
+  abbrev S : Piece → Type 0
+  S p = Stands B p
+
+  pub s-expr : (e : Expr) → S (expr_piece e)
+  s-expr e = s-plain B (p-quiet (q-expr e))
+
+  pub s-qualident : (q : Qualident) → S (qualident_piece q)
+  s-qualident q = s-plain B (p-quiet (q-qualident q))
+
+  s-type_name : (q : Qualident) → S (type_name_piece q)
+  unfolding type_name_piece
+  s-type_name q = s-tells B (name_part q) (λ c k. refl) (λ c k. refl) (λ c k. refl)
+      (s-plain B (p-first (type_use q) (λ c k. refl) (λ c k. refl) (λ c k u h. (sym (ap (λ (x : Used). x.block) (single _ u h)), sym (ap (λ (x : Used). x.number) (single _ u h))))
+      (token_both _) (p-quiet (q-both q-token (q-there (λ m. both token token) q.member (λ m. q-both q-token q-token))))))
+
+  s-part : (part : PartRow) {p : Piece} → S p → S (tells (part_here part) p)
+  s-part part f = s-tells B (part_here part) (λ c k. refl) (λ c k. refl) (λ c k. refl) f
+
+  s-arrays : (n : ℕ) → S (open_arrays n)
+  s-arrays zero = s-nothing B
+  s-arrays (suc n) = s-both B (s-part parts.Array (s-both B (s-token B) (s-token B))) (s-arrays n)
+
+  s-section : (s : ParameterSection) → S (section_piece s)
+  unfolding section_piece section_inner
+  s-section s = s-declaring B sorts.Parameter (section_some s)
+      (o-more B 0 0 (omega arith) (n-so s.variable n-token) (o-more B 0 1 (let l = parameter_some in omega arith) n-parameter
+      (o-more B 1 1 (omega arith) (n-each (λ n. both token parameter_piece) s.names.rest.items (λ n. n-both n-token n-parameter))
+      (o-stands B (s-both B (s-token B) (s-both B (s-arrays s.open_arrays) (s-tells B (name_part s.of) (λ c k. refl) (λ c k. refl) (λ c k. refl) (s-qualident s.of))))))))
+
+  s-sections : (l : OneOrMore ParameterSection) → S (both (section_piece l.first) (each_after section_piece l.rest.items))
+  s-sections l = s-both B (s-section l.first) (s-each B (λ s. both token (section_piece s)) l.rest.items (λ s. s-both B (s-token B) (s-section s)) (s-nothing B))
+
+  late-parameters : (p : Parameters) → Late B (parameters_piece p)
+  unfolding parameters_piece
+  late-parameters p = late-token B
+      (s-both B (s-there B (λ l. both (section_piece l.first) (each_after section_piece l.rest.items)) p.sections s-sections (s-nothing B))
+      (s-both B (s-token B) (s-there B (λ q. both token (qualident_piece q)) p.result (λ q. s-both B (s-token B) (s-qualident q)) (s-nothing B))))
+
+  pub s-parameters : (p : Parameters) → S (parameters_piece p)
+  s-parameters p = (late-parameters p).whole
+
+  late-there : (o : Option Parameters) → Late B (there parameters_piece o)
+  late-there None = late-nothing B
+  late-there (Some p) = late-parameters p
+
+  s-lengths : (l : ExprList) → S (lengths_piece l)
+  s-lengths l = s-is B (told.lengths_out l) (s-both B (s-expr (out-ExprList l).first) (s-each B (λ e. both (tells (part_here parts.Array) token) (expr_piece e)) (out-ExprList l).rest.items (λ e. s-both B (s-part parts.Array (s-token B)) (s-expr e)) (s-nothing B)))
+
+  -- ---- each part
+
+  s-so : (b : Bool) → S (if_so b token)
+  s-so true = s-token B
+  s-so false = s-nothing B
+
+  b-is : {p q : Piece} → p ≡ q → Begins B q → Begins B p
+  b-is e m = subst (Begins B) (sym e) m
+
+  abbrev HeldTypeForm : TypeForm → Type 0
+  HeldTypeForm t = S (type_piece t)
+
+  abbrev HeldFields : Fields → Type 0
+  HeldFields t = S (fields_piece t)
+
+  abbrev HeldRecord : Record → Type 0
+  HeldRecord t = S (record_piece t)
+
+  abbrev HeldVarDecl : VarDecl → Type 0
+  HeldVarDecl t = Begins B (var_piece t)
+
+  abbrev WithTypeForm : Type 0
+  WithTypeForm = TypeForm-F (With HeldTypeForm) (With HeldFields) (With HeldRecord) (With HeldVarDecl)
+
+  abbrev type_of : WithTypeForm → TypeForm-F TypeForm Fields Record VarDecl
+  type_of = map-TypeForm (With HeldTypeForm) (With HeldFields) (With HeldRecord) (With HeldVarDecl) TypeForm Fields Record VarDecl (λ e. e.0) (λ e. e.0) (λ e. e.0) (λ e. e.0)
+
+  abbrev WithFields : Type 0
+  WithFields = Fields-F (With HeldTypeForm) (With HeldFields) (With HeldRecord) (With HeldVarDecl)
+
+  abbrev fields_of : WithFields → Fields-F TypeForm Fields Record VarDecl
+  fields_of = map-Fields (With HeldTypeForm) (With HeldFields) (With HeldRecord) (With HeldVarDecl) TypeForm Fields Record VarDecl (λ e. e.0) (λ e. e.0) (λ e. e.0) (λ e. e.0)
+
+  abbrev WithRecord : Type 0
+  WithRecord = Record-F (With HeldTypeForm) (With HeldFields) (With HeldRecord) (With HeldVarDecl)
+
+  abbrev record_of : WithRecord → Record-F TypeForm Fields Record VarDecl
+  record_of = map-Record (With HeldTypeForm) (With HeldFields) (With HeldRecord) (With HeldVarDecl) TypeForm Fields Record VarDecl (λ e. e.0) (λ e. e.0) (λ e. e.0) (λ e. e.0)
+
+  abbrev WithVarDecl : Type 0
+  WithVarDecl = VarDecl-F (With HeldTypeForm) (With HeldFields) (With HeldRecord) (With HeldVarDecl)
+
+  abbrev var_of : WithVarDecl → VarDecl-F TypeForm Fields Record VarDecl
+  var_of = map-VarDecl (With HeldTypeForm) (With HeldFields) (With HeldRecord) (With HeldVarDecl) TypeForm Fields Record VarDecl (λ e. e.0) (λ e. e.0) (λ e. e.0) (λ e. e.0)
+
+  fields_there : (o : Option (Box (With HeldFields) Global)) → S (there (λ f. fields_piece f.value) ((shapes.former-Record-fields).map (With HeldFields) Fields (λ e. e.0) o))
+  fields_there None = s-nothing B
+  fields_there (Some f) = f.value.1
+
+  type_held : (y : WithTypeForm) → S (told.type_shown (type_of y))
+  type_held (layers.Named q) = s-type_name q
+  type_held (layers.ArrayOf lengths of) = s-part parts.Array (s-both B (s-token B) (s-both B (s-lengths lengths.value) (s-both B (s-token B) (s-within B _ (λ c k. refl) of.value.1))))
+  type_held (layers.RecordOf r) = s-part parts.Record r.1
+  type_held (layers.PointerTo t) = s-part parts.Pointer (s-both B (s-token B) (s-both B (s-token B) (s-within B _ (λ c k. refl) t.value.1)))
+  type_held (layers.ProcOf p) = s-part parts.Procedure (s-block B up (late-there p))
+
+  abbrev fields_told : Fields-F TypeForm Fields Record VarDecl → Piece
+  fields_told f = both (declaring sorts.Field (var_piece f.first)) (both (each_after (λ v. declaring sorts.Field (var_piece v)) f.rest.items) (if_so f.closing_semicolon token))
+
+  fields_held : (y : WithFields) → S (fields_told (fields_of y))
+  fields_held y =
+      s-both B (s-declaring B sorts.Field y.first.1.some y.first.1.opens)
+      (s-both B (s-map B (λ v. both token (declaring sorts.Field (var_piece v))) _ y.rest.items (λ v. s-both B (s-token B) (s-declaring B sorts.Field v.1.some v.1.opens)) (s-nothing B))
+      (s-so y.closing_semicolon))
+
+  abbrev record_told : Record-F TypeForm Fields Record VarDecl → Piece
+  record_told r = tells (record_row r.base) (within in_record (
+      both token (both (there (λ q. both token (both (qualident_piece q) token)) r.base)
+      (both (there (λ x. fields_piece x.value) r.fields) token))))
+
+  record_held : (y : WithRecord) → S (record_told (record_of y))
+  record_held y = s-tells B (record_row y.base) (λ c k. refl) (λ c k. refl) (λ c k. refl) (s-within B in_record (λ c k. refl)
+      (s-both B (s-token B)
+      (s-both B (s-there B (λ q. both token (both (qualident_piece q) token)) y.base (λ q. s-both B (s-token B) (s-both B (s-qualident q) (s-token B))) (s-nothing B))
+      (s-both B (fields_there y.fields) (s-token B)))))
+
+  abbrev var_told : VarDecl-F TypeForm Fields Record VarDecl → Piece
+  var_told v = both (identdef_piece v.names.first) (both (each_after identdef_piece v.names.rest.items) (both token (type_piece v.form)))
+
+  var_held : (y : WithVarDecl) → Begins B (var_told (var_of y))
+  var_held y = record {
+    opens = o-more B 0 1 (let l = identdef_some y.names.first in omega arith) (n-identdef y.names.first)
+        (o-more B 1 1 (omega arith) (n-each (λ i. both token (identdef_piece i)) y.names.rest.items (λ i. n-both n-token (n-identdef i))) (o-stands B (s-both B (s-token B) y.form.1)));
+    some = some_both (identdef_piece y.names.first) _ (identdef_some y.names.first);
+  }
+
+  -- ---- layer by layer
+
+  type_step : (x : TypeForm-F TypeForm Fields Record VarDecl) (y : WithTypeForm) → type_of y ≡ x → HeldTypeForm (roll-TypeForm x)
+  type_step x y is = s-is B (told.type_told (roll-TypeForm x) ∙ ap (λ (z : TypeForm-F TypeForm Fields Record VarDecl). told.type_shown z) (out-roll-TypeForm x ∙ sym is)) (type_held y)
+
+  fields_step : (x : Fields-F TypeForm Fields Record VarDecl) (y : WithFields) → fields_of y ≡ x → HeldFields (roll-Fields x)
+  fields_step x y is = s-is B (told.fields_out (roll-Fields x) ∙ ap (λ (z : Fields-F TypeForm Fields Record VarDecl). fields_told z) (out-roll-Fields x ∙ sym is)) (fields_held y)
+
+  record_step : (x : Record-F TypeForm Fields Record VarDecl) (y : WithRecord) → record_of y ≡ x → HeldRecord (roll-Record x)
+  record_step x y is = s-is B (told.record_out (roll-Record x) ∙ ap (λ (z : Record-F TypeForm Fields Record VarDecl). record_told z) (out-roll-Record x ∙ sym is)) (record_held y)
+
+  var_step : (x : VarDecl-F TypeForm Fields Record VarDecl) (y : WithVarDecl) → var_of y ≡ x → HeldVarDecl (roll-VarDecl x)
+  var_step x y is = b-is (told.var_out (roll-VarDecl x) ∙ ap (λ (z : VarDecl-F TypeForm Fields Record VarDecl). var_told z) (out-roll-VarDecl x ∙ sym is)) (var_held y)
+
+  pub s-type : (t : TypeForm) → S (type_piece t)
+  s-type = ind-TypeForm HeldTypeForm HeldFields HeldRecord HeldVarDecl type_step fields_step record_step var_step
+
+  pub b-var : (v : VarDecl) → Begins B (var_piece v)
+  b-var = ind-VarDecl HeldTypeForm HeldFields HeldRecord HeldVarDecl type_step fields_step record_step var_step

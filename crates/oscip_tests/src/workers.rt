@@ -1,0 +1,241 @@
+//! The board of a tree of four modules, at which two threads of the test's own work: A imports B and C, and these D. The entry of C is
+//! offered for B before that of B is delivered.
+ghost use Rattle.std.specs.Prelude.{◌≡◌, false, List};
+ghost use Rattle.std.specs.String.{string_bytes};
+ghost use Rattle.ob_board.specs.Seen.{all_seen};
+ghost use Rattle.oscip_tree.specs.Parts.{ArePartsOfTree};
+ghost use Rattle.oscip_tree.specs.Trees.{ModuleFile};
+ghost use Rattle.scip_symbol.specs.Outcomes.{is_wrong_part};
+
+use crate::inputs::{FOUR, sources};
+use crate::models::{is_wrong, options_of, put_message, put_whole};
+use ob_board::{
+    BoardFault, Claim, IndexOptions, Job, Made, Making, NamedIndex, TreeBoard, board_graph,
+};
+use oscip_tree::{Source, TreeParts, tree_parts};
+use scip_index::Index;
+use std::alloc::{AllocError, Global};
+use std::marker::Brand;
+use std::process::Abort;
+use std::sync::atomic::{AtomicU64, Ordering};
+use std::sync::{Condvar, Mutex, MutexGuard, Wait};
+use std::test::Fail;
+use std::thread;
+use std::thread::Threads;
+
+/// The numbers of B and C.
+const B: u32 = 1;
+
+const C: u32 = 2;
+
+/// The board of a tree behind a lock, and the board whose lock is held.
+type Locked<'g, F> = Mutex<TreeBoard<'g, F>>;
+
+type Held<'l, 'g, F> = MutexGuard<'l, TreeBoard<'g, F>>;
+
+/// How often the entry of C was offered for B, and how often it was refused as that of the wrong module.
+#[derive(Drop)]
+struct Offers {
+    made: AtomicU64,
+    wrong: AtomicU64,
+}
+
+impl Offers {
+    fn new() -> Offers {
+        Offers {
+            made: AtomicU64::new(0),
+            wrong: AtomicU64::new(0),
+        }
+    }
+}
+
+/// No module is ready.
+struct Later;
+
+/// Claims a module and takes its job; none where the board is over.
+fn take<F: NamedIndex>(board: &mut TreeBoard<'_, F>) -> Result<Option<Job<F>>, Later> {
+    match board.claim() {
+        Claim::Finished => Ok(None),
+        Claim::Later => Err(Later),
+        Claim::Module { number } => match Job::of_claimed(board, number) {
+            Ok(job) => Ok(Some(job)),
+            Err(_) => {
+                board.abandon(number);
+                Ok(None)
+            }
+        },
+    }
+}
+
+/// Waits until there is a job; none where the board is over.
+fn next<F: NamedIndex, R: Wait>(
+    rt: &R,
+    locked: &Locked<'_, F>,
+    changed: &Condvar,
+) -> Option<Job<F>> {
+    let mut board = locked.lock(rt);
+    for _ in rt.forever() {
+        match take(&mut *board) {
+            Ok(job) => return job,
+            Err(Later) => board = changed.wait(rt, board),
+        }
+    }
+    unreachable!()
+}
+
+/// Offers the entry of C for B, and tells the entry if it is handed back.
+fn offer<F: NamedIndex>(
+    board: &mut TreeBoard<'_, F>,
+    offers: &Offers,
+    entry: Made<F>,
+) -> Option<Made<F>> {
+    offers.made.fetch_add(1, Ordering::SeqCst);
+    match board.deliver(B, entry) {
+        Ok(()) => None,
+        Err((BoardFault::WrongModule, entry)) => {
+            offers.wrong.fetch_add(1, Ordering::SeqCst);
+            Some(entry)
+        }
+        Err((_, entry)) => Some(entry),
+    }
+}
+
+/// Waits until the entry of C was offered, or memory was refused.
+fn after_offer<'l, 'g, F: NamedIndex, R: Wait>(
+    rt: &R,
+    changed: &Condvar,
+    offers: &Offers,
+    held: Held<'l, 'g, F>,
+) -> Held<'l, 'g, F> {
+    let mut board = held;
+    for _ in rt.forever() {
+        if offers.made.load(Ordering::SeqCst) > 0 || board.is_abandoned() {
+            return board;
+        }
+        board = changed.wait(rt, board);
+    }
+    unreachable!()
+}
+
+/// Delivers the entry of a module: that of B after that of C was offered for it.
+fn hand_in<F: NamedIndex, R: Wait>(
+    rt: &R,
+    locked: &Locked<'_, F>,
+    changed: &Condvar,
+    offers: &Offers,
+    number: u32,
+    made: Made<F>,
+) {
+    let mut board = locked.lock(rt);
+    if number == B {
+        board = after_offer(rt, changed, offers, board);
+    }
+    let entry = if number == C {
+        offer(&mut *board, offers, made)
+    } else {
+        Some(made)
+    };
+    if let Some(entry) = entry {
+        let _ = board.deliver(number, entry);
+    }
+}
+
+/// Works until the board is over.
+fn worker<F: NamedIndex, R: Wait>(
+    rt: &R,
+    locked: &Locked<'_, F>,
+    changed: &Condvar,
+    offers: &Offers,
+    work: &Making<'_, F, Made<F>>,
+) {
+    for _ in rt.forever() {
+        let Some(job) = next(rt, locked, changed) else {
+            changed.notify_all();
+            return;
+        };
+        match work.entry(&job) {
+            Ok(made) => hand_in(rt, locked, changed, offers, job.number(), made),
+            Err(_) => locked.lock(rt).abandon(job.number()),
+        }
+        changed.notify_all();
+    }
+    unreachable!()
+}
+
+/// Two workers, each a thread.
+fn in_threads<F: NamedIndex + Send + Sync, R: Threads + Wait + Sync>(
+    rt: &R,
+    locked: &Locked<'_, F>,
+    offers: &Offers,
+    work: &Making<'_, F, Made<F>>,
+) -> Result<(), AllocError> {
+    let changed = Condvar::new();
+    let waked = &changed;
+    thread::scope(thread::scope_env(), rt, |scope| -> Result<(), AllocError> {
+        scope.spawn(move || worker(rt, locked, waked, offers, work))?;
+        worker(rt, locked, waked, offers, work);
+        Ok(())
+    })
+}
+
+/// The index that is gathered of the board of a tree, with this package.
+fn gathered<F: NamedIndex + Send + Sync, R: Threads + Wait + Sync>(
+    rt: &R,
+    alloc: Global,
+    sources: &[Source],
+    tree: &TreeParts,
+    options: &IndexOptions,
+    offers: &Offers,
+) -> Result<Option<Index>, AllocError>
+    requires parts { (files : List ModuleFile) × ArePartsOfTree sources.now files tree.now }
+    requires files { F.files ≡ all_seen sources.now tree.now.modules.items }
+    requires graph { F.graph ≡ tree.now.graph }
+    requires package { F.package_name ≡ string_bytes options.now.package }
+    requires right { is_wrong_part F.package_name ≡ false }
+{
+    let package = options.package.as_str();
+    let work = Making::<F, Made<F>>::of_tree(alloc, sources, tree, package)?;
+    let graph = board_graph(alloc, &tree.graph)?;
+    let locked: Locked<'_, F> = Mutex::new(TreeBoard::new(alloc, &graph)?);
+    in_threads(rt, &locked, offers, &work)?;
+    work.gather(locked.into_inner(), options.root.as_str())
+}
+
+/// The bytes of the index that is gathered of a tree.
+fn put_gathered<R: AllocGlobal + Threads + Wait + Sync>(
+    rt: &R,
+    sources: &[Source],
+    options: &IndexOptions,
+    offers: &Offers,
+) -> Result<Vec<u8>, Fail>
+    requires { is_wrong_part (string_bytes options.now.package) ≡ false }
+{
+    let tree = tree_parts(rt, rt.alloc(), sources, 2)?;
+    let index = gathered::<Brand, R>(rt, rt.alloc(), sources, &tree, options, offers)?;
+    match index {
+        Some(index) => put_message(rt.alloc(), index),
+        None => Err(Fail::new("a module isn't delivered: memory ran out")),
+    }
+}
+
+/// Checks that the index that is gathered is the index, and that the entry of C was refused for B.
+fn gathers_the_index<R: Abort + AllocGlobal + Threads + Wait + Sync>(
+    rt: &R,
+    sources: &[Source],
+) -> Result<(), Fail> {
+    let options = options_of(rt.alloc(), 3)?;
+    assert!(rt; !is_wrong(options.package.as_str()));
+    let offers = Offers::new();
+    let by_threads = put_gathered(rt, sources, &options, &offers)?;
+    let whole = put_whole(rt, sources, &options)?;
+    assert!(rt; by_threads.as_slice() == whole.as_slice());
+    assert_eq!(rt; offers.made.load(Ordering::SeqCst), 1);
+    assert_eq!(rt; offers.wrong.load(Ordering::SeqCst), 1);
+    Ok(())
+}
+
+#[test]
+fn threads_of_a_test_work_at_the_board_of_a_tree(rt: HostRuntime) -> Result<(), Fail> {
+    let sources = sources(rt.alloc(), FOUR)?;
+    gathers_the_index(&rt, sources.as_slice())
+}

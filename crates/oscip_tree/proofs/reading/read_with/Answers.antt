@@ -1,0 +1,10 @@
+use Rattle.oscip_tree.proofs.FilesRead.{tokens_spell, with_tree}
+use Rattle.oscip_tree.proofs.reading.read_with.Goals as goal
+
+pub tree_after-requires : goal.tree_after-requires
+tree_after-requires c = rw c.deref.ensures (tokens_spell c.args.source.now c.args.parts c.requires)
+
+pub returns-clause-read : goal.returns-clause-read
+returns-clause-read c =
+    let (file, accepted, are, same) = with_tree c.args.source.now c.args.parts c.in_ok-tree.tree.value c.requires (rw c.deref.ensures at c.in_ok-tree.ensures.tree) in
+    (file, accepted, record { parts_are = are; tree_is = same })

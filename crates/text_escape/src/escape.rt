@@ -1,0 +1,76 @@
+//! Control characters, written out.
+ghost use Rattle.std.specs.Prelude.{◌≡◌, ◌<◌, ◌++◌, IfOk, OnOk, true};
+ghost use Rattle.std.specs.Char.{digit_char, encode_utf8, is_ascii_control};
+ghost use Rattle.std.specs.List.{list_any};
+ghost use Rattle.std.specs.String.{string_bytes};
+ghost use Rattle.text_escape.specs.Escapes.{escape_of, escaped, hex_escape};
+
+use std::alloc::{AllocError, Global};
+
+pub(crate) fn has_control(text: &[u8]) -> bool
+    ensures { result ≡ list_any is_ascii_control text.now }
+{
+    text.iter().any(|byte| byte.is_ascii_control())
+}
+
+fn hex_digit(value: u32) -> char
+    requires { value < 16 }
+    ensures { result ≡ digit_char value }
+{
+    match char::from_digit(value, 16) {
+        Some(digit) => digit,
+        None => unreachable!(),
+    }
+}
+
+fn push_hex(out: &mut String, code: u32) -> Result<(), AllocError>
+    requires { code < 128 }
+    ensures { OnOk result (string_bytes out.new ≡ string_bytes out.old ++ hex_escape code) }
+{
+    out.push_str("\\x")?;
+    out.push(hex_digit(code / 16))?;
+    out.push(hex_digit(code % 16))
+}
+
+/// Puts a control character's escape behind the text.
+fn push_escape(out: &mut String, control: char) -> Result<(), AllocError>
+    requires { is_ascii_control control ≡ true }
+    ensures { OnOk result (string_bytes out.new ≡ string_bytes out.old ++ escape_of control) }
+{
+    match control {
+        '\t' => out.push_str("\\t"),
+        '\n' => out.push_str("\\n"),
+        '\r' => out.push_str("\\r"),
+        _ => push_hex(out, u32::from(control)),
+    }
+}
+
+/// Puts a character behind the text, written out where it is a control character.
+fn push_char(out: &mut String, character: char) -> Result<(), AllocError>
+    ensures { OnOk result (string_bytes out.new ≡ string_bytes out.old ++ escaped (encode_utf8 character)) }
+{
+    if character.is_ascii_control() {
+        push_escape(out, character)
+    } else {
+        out.push(character)
+    }
+}
+
+pub(crate) fn push_chars(out: &mut String, text: &str) -> Result<(), AllocError>
+    ensures { OnOk result (string_bytes out.new ≡ string_bytes out.old ++ escaped text.now) }
+{
+    for character in text.chars() {
+        push_char(out, character)?;
+    }
+    Ok(())
+}
+
+/// The text with its control characters written out: `\t`, `\n` and `\r`, and `\x` with two lower-case hexadecimal digits for each
+/// other below 32, and 127. Every other byte, a backslash too, stays. Fails where memory is refused.
+pub fn escaped(alloc: Global, text: &str) -> Result<String, AllocError>
+    ensures { IfOk result (λ out. string_bytes out ≡ escaped text.now) }
+{
+    let mut out = String::new(alloc);
+    push_chars(&mut out, text)?;
+    Ok(out)
+}
