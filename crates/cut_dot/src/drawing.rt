@@ -1,30 +1,16 @@
 //! Putting a picture.
-ghost use Rattle.std.specs.Prelude.{◌≡◌, ◌<◌, IfOk, length};
-ghost use Rattle.std.specs.String.{string_bytes};
+ghost use Rattle.std.specs.Prelude.{◌≡◌, ◌<◌, length};
 ghost use Rattle.byte_sink.specs.Sinks.{failures_after};
 ghost use Rattle.cut_net.specs.Lines.{IsAscending};
 ghost use Rattle.cut_dot.specs.Drawing.{IsDrawing};
-ghost use Rattle.cut_dot.specs.Pictures.{flow_said, removed_said, IsPicture};
+ghost use Rattle.cut_dot.specs.Pictures.{flow_said, removed_said};
 
 use crate::reached::reached_from;
-use crate::text::text_of;
-use byte_sink::{Sink, SinkFault, put_all};
+use crate::text::put_text;
+use byte_sink::{Sink, SinkFault};
 use cut_net::{Answer, Cut, Net};
 use cut_part::between;
-use std::alloc::{AllocError, Global};
-
-/// The text of the picture.
-fn picture_of(alloc: Global, net: &Net, from: u32, to: u32, cut: &Cut) -> Result<String, AllocError>
-    requires from { from < length net.now.names }
-    requires to { to < length net.now.names }
-    requires removed { IsAscending cut.now.imports.items }
-    requires flow { IsAscending cut.now.flow.items }
-    ensures { IfOk result (λ t. IsPicture net.now from to cut.now.imports.items cut.now.flow.items (string_bytes t)) }
-{
-    let part = between(alloc, net, from, to)?;
-    let reached = reached_from(alloc, net, cut.imports.as_slice(), from)?;
-    text_of(alloc, net, from, to, cut, &part.marks, &reached)
-}
+use std::alloc::Global;
 
 /// Puts the picture of a cut.
 fn draw_cut<S: Sink>(
@@ -42,10 +28,13 @@ fn draw_cut<S: Sink>(
     ensures run { IsDrawing net.now from to cut.now.imports.items cut.now.flow.items (S.taken sink.old) (S.taken sink.new) result }
     ensures failures { S.failures sink.new ≡ failures_after result (S.failures sink.old) }
 {
-    let Ok(text) = picture_of(alloc, net, from, to, cut) else {
+    let Ok(part) = between(alloc, net, from, to) else {
         return Err(SinkFault::Memory);
     };
-    put_all(sink, text.as_bytes())
+    let Ok(reached) = reached_from(alloc, net, cut.imports.as_slice(), from) else {
+        return Err(SinkFault::Memory);
+    };
+    put_text(alloc, net, (from, to), cut, &part.marks, &reached, sink)
 }
 
 /// Puts the picture of what is said of two modules of a network, A and B, given by their numbers, as a graph in DOT: the

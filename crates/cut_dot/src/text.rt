@@ -1,8 +1,10 @@
 //! The text of a picture.
-ghost use Rattle.std.specs.Prelude.{◌≡◌, ◌<◌, ◌++◌, if◌then◌else◌, [], IfOk, OnOk, length};
+ghost use Rattle.std.specs.Prelude.{◌≡◌, ◌<◌, ◌++◌, if◌then◌else◌, [], IfErr, OnOk, length};
 ghost use Rattle.std.specs.List.{flat_map};
 ghost use Rattle.std.specs.String.{string_bytes};
+ghost use Rattle.byte_sink.specs.Sinks.{failures_after, AppendsFront, Puts};
 ghost use Rattle.cut_net.specs.Lines.{IsAscending};
+ghost use Rattle.text_pieces.specs.Pieces.{PutsAllBut};
 ghost use Rattle.cut_part.specs.Inside.{inside};
 ghost use Rattle.cut_residual.specs.Graphs.{is_seen};
 ghost use Rattle.cut_dot.specs.Ends.{is_chain_end};
@@ -10,8 +12,10 @@ ghost use Rattle.cut_dot.specs.Pictures.{drawn_imports, drawn_modules, is_drawn}
 ghost use Rattle.cut_dot.specs.Texts.{end_mark, ends_text, line_of_import, label_text, line_of_module, module_line, picture_text, pin_text, reached_mark, removed_mark};
 
 use crate::lines::{flow_on, is_pinned, is_removed};
+use byte_sink::{Sink, SinkFault, put_all};
 use cut_net::{Cut, Net, Priced};
 use std::alloc::{AllocError, Global};
+use text_pieces::put_enough;
 
 /// What the line of A or B has behind the name.
 fn end_mark(is_chain_end: bool) -> &'static str
@@ -82,8 +86,8 @@ fn is_chain_end(from: u32, to: u32, node: u32) -> bool
     (node == from) | (node == to)
 }
 
-/// Puts the line of a module behind the text, where it is marked as between or an end.
-fn push_drawn(
+/// Gathers the line of a module, where it is marked as between or an end.
+fn push_drawn<S: Sink>(
     text: &mut String,
     net: &Net,
     from: u32,
@@ -91,115 +95,164 @@ fn push_drawn(
     between: &[bool],
     reached: &[bool],
     node: u32,
-) -> Result<(), AllocError>
+    sink: &mut S,
+) -> Result<(), SinkFault>
     requires between { length between.now ≡ length net.now.names }
     requires reached { length reached.now ≡ length net.now.names }
     requires node { node < length net.now.names }
-    ensures { OnOk result (string_bytes text.new ≡ string_bytes text.old ++
-        (if is_drawn from to (is_seen between.now) node then line_of_module net.now from to (is_seen reached.now) node else [])) }
+    ensures gathered { OnOk result (PutsAllBut (S.taken sink.old) (S.taken sink.new) (string_bytes text.old ++
+        (if is_drawn from to (is_seen between.now) node then line_of_module net.now from to (is_seen reached.now) node else []))
+        (string_bytes text.new)) }
+    ensures broken { IfErr result (λ _. AppendsFront (S.taken sink.old) (S.taken sink.new) (string_bytes text.old ++
+        (if is_drawn from to (is_seen between.now) node then line_of_module net.now from to (is_seen reached.now) node else []))) }
+    ensures failures { S.failures sink.new ≡ failures_after result (S.failures sink.old) }
 {
     let is_chain_end = is_chain_end(from, to, node);
     if between[node as usize] | is_chain_end {
-        push_module(text, net.name(node), is_chain_end, reached[node as usize])?;
+        let Ok(()) = push_module(text, net.name(node), is_chain_end, reached[node as usize]) else {
+            return Err(SinkFault::Memory);
+        };
+        return put_enough(text, sink);
     }
     Ok(())
 }
 
-/// Puts the lines of the modules behind the text: of those that are marked as between, and of the two ends.
-fn push_modules(
+/// Gathers the lines of the modules: of those that are marked as between, and of the two ends.
+fn push_modules<S: Sink>(
     text: &mut String,
     net: &Net,
     from: u32,
     to: u32,
     between: &[bool],
     reached: &[bool],
-) -> Result<(), AllocError>
+    sink: &mut S,
+) -> Result<(), SinkFault>
     requires between { length between.now ≡ length net.now.names }
     requires reached { length reached.now ≡ length net.now.names }
-    ensures { OnOk result (string_bytes text.new ≡ string_bytes text.old ++
-        flat_map (line_of_module net.now from to (is_seen reached.now)) (drawn_modules net.now from to (is_seen between.now))) }
+    ensures gathered { OnOk result (PutsAllBut (S.taken sink.old) (S.taken sink.new) (string_bytes text.old ++
+        flat_map (line_of_module net.now from to (is_seen reached.now)) (drawn_modules net.now from to (is_seen between.now)))
+        (string_bytes text.new)) }
+    ensures broken { IfErr result (λ _. AppendsFront (S.taken sink.old) (S.taken sink.new) (string_bytes text.old ++
+        flat_map (line_of_module net.now from to (is_seen reached.now)) (drawn_modules net.now from to (is_seen between.now)))) }
+    ensures failures { S.failures sink.new ≡ failures_after result (S.failures sink.old) }
 {
     for node in 0..net.nodes() {
-        push_drawn(text, net, from, to, between, reached, node)?;
+        push_drawn(text, net, from, to, between, reached, node, sink)?;
     }
     Ok(())
 }
 
-/// Puts the line of an import behind the text, where both its modules are marked.
-fn push_inside(
+/// Puts the line of an import behind the text.
+fn push_import(
+    text: &mut String,
+    net: &Net,
+    removed: &[Priced],
+    flow: &[Priced],
+    import: Priced,
+) -> Result<(), AllocError>
+    requires removed { IsAscending removed.now }
+    requires flow { IsAscending flow.now }
+    requires from { import.from < length net.now.names }
+    requires to { import.to < length net.now.names }
+    ensures { OnOk result (string_bytes text.new ≡ string_bytes text.old ++ line_of_import net.now removed.now flow.now import) }
+{
+    let carried = flow_on(flow, import);
+    let is_gone = is_removed(removed, import);
+    let (from, to) = (net.name(import.from), net.name(import.to));
+    push_ends(text, from, to)?;
+    if is_pinned(net, import) {
+        push_pin(text, carried, is_gone)
+    } else {
+        push_label(text, carried, import.amount, is_gone)
+    }
+}
+
+/// Gathers the line of an import, where both its modules are marked.
+fn push_inside<S: Sink>(
     text: &mut String,
     net: &Net,
     between: &[bool],
     removed: &[Priced],
     flow: &[Priced],
     import: Priced,
-) -> Result<(), AllocError>
+    sink: &mut S,
+) -> Result<(), SinkFault>
     requires between { length between.now ≡ length net.now.names }
     requires removed { IsAscending removed.now }
     requires flow { IsAscending flow.now }
     requires from { import.from < length net.now.names }
     requires to { import.to < length net.now.names }
-    ensures { OnOk result (string_bytes text.new ≡ string_bytes text.old ++
-        (if inside (is_seen between.now) import then line_of_import net.now removed.now flow.now import else [])) }
+    ensures gathered { OnOk result (PutsAllBut (S.taken sink.old) (S.taken sink.new) (string_bytes text.old ++
+        (if inside (is_seen between.now) import then line_of_import net.now removed.now flow.now import else []))
+        (string_bytes text.new)) }
+    ensures broken { IfErr result (λ _. AppendsFront (S.taken sink.old) (S.taken sink.new) (string_bytes text.old ++
+        (if inside (is_seen between.now) import then line_of_import net.now removed.now flow.now import else []))) }
+    ensures failures { S.failures sink.new ≡ failures_after result (S.failures sink.old) }
 {
     if between[import.from as usize] & between[import.to as usize] {
-        let carried = flow_on(flow, import);
-        let is_gone = is_removed(removed, import);
-        let (from, to) = (net.name(import.from), net.name(import.to));
-        push_ends(text, from, to)?;
-        if is_pinned(net, import) {
-            push_pin(text, carried, is_gone)?;
-        } else {
-            push_label(text, carried, import.amount, is_gone)?;
-        }
+        let Ok(()) = push_import(text, net, removed, flow, import) else {
+            return Err(SinkFault::Memory);
+        };
+        return put_enough(text, sink);
     }
     Ok(())
 }
 
-/// Puts the lines of the imports behind the text: of those whose modules are both marked.
-fn push_imports(
+/// Gathers the lines of the imports: of those whose modules are both marked.
+fn push_imports<S: Sink>(
     text: &mut String,
     net: &Net,
     between: &[bool],
     removed: &[Priced],
     flow: &[Priced],
-) -> Result<(), AllocError>
+    sink: &mut S,
+) -> Result<(), SinkFault>
     requires between { length between.now ≡ length net.now.names }
     requires removed { IsAscending removed.now }
     requires flow { IsAscending flow.now }
-    ensures { OnOk result (string_bytes text.new ≡ string_bytes text.old ++
-        flat_map (line_of_import net.now removed.now flow.now) (drawn_imports net.now (is_seen between.now))) }
+    ensures gathered { OnOk result (PutsAllBut (S.taken sink.old) (S.taken sink.new) (string_bytes text.old ++
+        flat_map (line_of_import net.now removed.now flow.now) (drawn_imports net.now (is_seen between.now)))
+        (string_bytes text.new)) }
+    ensures broken { IfErr result (λ _. AppendsFront (S.taken sink.old) (S.taken sink.new) (string_bytes text.old ++
+        flat_map (line_of_import net.now removed.now flow.now) (drawn_imports net.now (is_seen between.now)))) }
+    ensures failures { S.failures sink.new ≡ failures_after result (S.failures sink.old) }
 {
     net.keeps();
     let imports = net.imports();
     for import in imports {
-        push_inside(text, net, between, removed, flow, *import)?;
+        push_inside(text, net, between, removed, flow, *import, sink)?;
     }
     Ok(())
 }
 
-/// The text of the picture of these marks.
-pub(crate) fn text_of(
+/// Puts the text of the picture of these marks, piece by piece.
+pub(crate) fn put_text<S: Sink>(
     alloc: Global,
     net: &Net,
-    from: u32,
-    to: u32,
+    ends: (u32, u32),
     cut: &Cut,
     between: &[bool],
     reached: &[bool],
-) -> Result<String, AllocError>
+    sink: &mut S,
+) -> Result<(), SinkFault>
     requires between { length between.now ≡ length net.now.names }
     requires reached { length reached.now ≡ length net.now.names }
     requires removed { IsAscending cut.now.imports.items }
     requires flow { IsAscending cut.now.flow.items }
-    ensures { IfOk result (λ t. string_bytes t ≡ picture_text net.now from to cut.now.imports.items cut.now.flow.items (is_seen reached.now)
-        (drawn_modules net.now from to (is_seen between.now)) (drawn_imports net.now (is_seen between.now))) }
+    ensures puts { Puts (S.taken sink.old) (S.taken sink.new) result
+        (picture_text net.now ends.0 ends.1 cut.now.imports.items cut.now.flow.items (is_seen reached.now)
+        (drawn_modules net.now ends.0 ends.1 (is_seen between.now)) (drawn_imports net.now (is_seen between.now))) }
+    ensures failures { S.failures sink.new ≡ failures_after result (S.failures sink.old) }
 {
     let removed = cut.imports.as_slice();
     let flow = cut.flow.as_slice();
-    let mut text = String::from_str(alloc, "digraph cut {\n  rankdir=LR;\n")?;
-    push_modules(&mut text, net, from, to, between, reached)?;
-    push_imports(&mut text, net, between, removed, flow)?;
-    text.push_str("}\n")?;
-    Ok(text)
+    let Ok(mut text) = String::from_str(alloc, "digraph cut {\n  rankdir=LR;\n") else {
+        return Err(SinkFault::Memory);
+    };
+    push_modules(&mut text, net, ends.0, ends.1, between, reached, sink)?;
+    push_imports(&mut text, net, between, removed, flow, sink)?;
+    let Ok(()) = text.push_str("}\n") else {
+        return Err(SinkFault::Memory);
+    };
+    put_all(sink, text.as_bytes())
 }

@@ -13,3 +13,4 @@ pub mod Words
 pub mod ChainNames
 pub mod Rows
 pub mod NearEnds
+pub mod ReportPieces

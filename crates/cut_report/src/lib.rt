@@ -1,5 +1,5 @@
 //! Reports on cuts and on chains of pins: their one spelling, the reader and the writer of it.
-//! Stands on `texts`, `cut_net`, and on `byte_sink`, whose names it gives out again, with `thiserror` for its faults.
+//! Stands on `texts`, `cut_net`, on `byte_sink`, whose names it gives out again, and on `text_pieces` for what is put, with `thiserror` for its faults.
 //! Its contract: a report is put as its one text, or a front of it; what is read is exactly what the text says, or its first fault; what was written is read again.
 #![tactic(auto)]
 

@@ -2,7 +2,7 @@
 ghost use Rattle.std.specs.Prelude.{◌≡◌, ◌++◌, ◌<◌, true, length, map, All, IfErr, IfOk, OnOk};
 ghost use Rattle.std.specs.String.{string_bytes};
 ghost use Rattle.texts.specs.Fields.{ended, line_of};
-ghost use Rattle.cut_net.specs.Answers.{said_by_cut};
+ghost use Rattle.cut_net.specs.Answers.{said_by, said_by_cut};
 ghost use Rattle.cut_net.specs.Network.{name_of};
 ghost use Rattle.cut_net.specs.Said.{BlockedBy};
 ghost use Rattle.cut_report.specs.ReportLine.{flows, removes, report_line, said_lines, written};
@@ -11,54 +11,83 @@ ghost use Rattle.cut_net.specs.WellFormed.{AreBetween};
 ghost use Rattle.cut_report.specs.Faults.{is_failure, is_of_sink};
 ghost use Rattle.cut_report.specs.Lines.{line_seen, with_next};
 ghost use Rattle.cut_report.specs.Reading.{claim_of};
-ghost use Rattle.byte_sink.specs.Sinks.{failures_by, PutsBy};
+ghost use Rattle.byte_sink.specs.Sinks.{failures_after, failures_by, AppendsFront, Puts, PutsBy};
+ghost use Rattle.text_pieces.specs.Pieces.{PutsAllBut};
 
 use crate::line::Line;
-use crate::{ReportFault, Sink, put_all};
+use crate::{ReportFault, Sink, SinkFault, put_all};
 use cut_net::{Answer, Cut, Net, Priced};
 use std::alloc::{AllocError, Global};
+use text_pieces::put_enough;
 
-/// Puts a line with its end behind the text.
-fn push_line(text: &mut String, line: Line) -> Result<(), AllocError>
-    ensures { OnOk result (string_bytes text.new ≡ string_bytes text.old ++ ended (report_line (line_seen line.entry))) }
+/// Gathers a line with its end behind the text, of which pieces are put.
+fn push_line<S: Sink>(text: &mut String, line: Line, sink: &mut S) -> Result<(), SinkFault>
+    ensures gathered { OnOk result (PutsAllBut (S.taken sink.old) (S.taken sink.new)
+        (string_bytes text.old ++ ended (report_line (line_seen line.entry))) (string_bytes text.new)) }
+    ensures broken { IfErr result (λ _. AppendsFront (S.taken sink.old) (S.taken sink.new)
+        (string_bytes text.old ++ ended (report_line (line_seen line.entry)))) }
+    ensures failures { S.failures sink.new ≡ failures_after result (S.failures sink.old) }
 {
-    writeln!(text, "{line}")
+    writeln!(text, "{line}").map_err(|_| SinkFault::Memory)?;
+    put_enough(text, sink)
 }
 
-/// Puts a line behind the text for each import to be removed.
-fn push_removes(text: &mut String, net: &Net, imports: &[Priced]) -> Result<(), AllocError>
+/// Gathers a line for each import to be removed.
+fn push_removes<S: Sink>(
+    text: &mut String,
+    net: &Net,
+    imports: &[Priced],
+    sink: &mut S,
+) -> Result<(), SinkFault>
     requires { AreBetween imports.now (length net.now.names) }
-    ensures { OnOk result (string_bytes text.new ≡ string_bytes text.old ++ written (map (removes net.now) imports.now)) }
+    ensures gathered { OnOk result (PutsAllBut (S.taken sink.old) (S.taken sink.new)
+        (string_bytes text.old ++ written (map (removes net.now) imports.now)) (string_bytes text.new)) }
+    ensures broken { IfErr result (λ _. AppendsFront (S.taken sink.old) (S.taken sink.new)
+        (string_bytes text.old ++ written (map (removes net.now) imports.now))) }
+    ensures failures { S.failures sink.new ≡ failures_after result (S.failures sink.old) }
 {
     for import in imports {
         let from = net.name(import.from);
         let to = net.name(import.to);
-        push_line(text, Line::Removes(from, to, import.amount))?;
+        push_line(text, Line::Removes(from, to, import.amount), sink)?;
     }
     Ok(())
 }
 
-/// Puts a line behind the text for each import that carries flow.
-fn push_flows(text: &mut String, net: &Net, imports: &[Priced]) -> Result<(), AllocError>
+/// Gathers a line for each import that carries flow.
+fn push_flows<S: Sink>(
+    text: &mut String,
+    net: &Net,
+    imports: &[Priced],
+    sink: &mut S,
+) -> Result<(), SinkFault>
     requires { AreBetween imports.now (length net.now.names) }
-    ensures { OnOk result (string_bytes text.new ≡ string_bytes text.old ++ written (map (flows net.now) imports.now)) }
+    ensures gathered { OnOk result (PutsAllBut (S.taken sink.old) (S.taken sink.new)
+        (string_bytes text.old ++ written (map (flows net.now) imports.now)) (string_bytes text.new)) }
+    ensures broken { IfErr result (λ _. AppendsFront (S.taken sink.old) (S.taken sink.new)
+        (string_bytes text.old ++ written (map (flows net.now) imports.now))) }
+    ensures failures { S.failures sink.new ≡ failures_after result (S.failures sink.old) }
 {
     for import in imports {
         let from = net.name(import.from);
         let to = net.name(import.to);
-        push_line(text, Line::Flows(from, to, import.amount))?;
+        push_line(text, Line::Flows(from, to, import.amount), sink)?;
     }
     Ok(())
 }
 
-/// Puts the lines of a cut behind the text.
-fn push_cut(text: &mut String, net: &Net, cut: &Cut) -> Result<(), AllocError>
+/// Gathers the lines of a cut.
+fn push_cut<S: Sink>(text: &mut String, net: &Net, cut: &Cut, sink: &mut S) -> Result<(), SinkFault>
     requires { MaySay net.now (said_by_cut cut.now) }
-    ensures { OnOk result (string_bytes text.new ≡ string_bytes text.old ++ written (said_lines net.now (said_by_cut cut.now))) }
+    ensures gathered { OnOk result (PutsAllBut (S.taken sink.old) (S.taken sink.new)
+        (string_bytes text.old ++ written (said_lines net.now (said_by_cut cut.now))) (string_bytes text.new)) }
+    ensures broken { IfErr result (λ _. AppendsFront (S.taken sink.old) (S.taken sink.new)
+        (string_bytes text.old ++ written (said_lines net.now (said_by_cut cut.now)))) }
+    ensures failures { S.failures sink.new ≡ failures_after result (S.failures sink.old) }
 {
-    push_line(text, Line::Weighs(cut.weight))?;
-    push_removes(text, net, cut.imports.as_slice())?;
-    push_flows(text, net, cut.flow.as_slice())
+    push_line(text, Line::Weighs(cut.weight), sink)?;
+    push_removes(text, net, cut.imports.as_slice(), sink)?;
+    push_flows(text, net, cut.flow.as_slice(), sink)
 }
 
 /// Puts a word behind the text, and a blank between them, if the word isn't the first.
@@ -83,34 +112,66 @@ fn names_of(alloc: Global, net: &Net, modules: &[u32]) -> Result<String, AllocEr
     Ok(text)
 }
 
-/// Puts the line of a chain of pins behind the text.
-fn push_chain(alloc: Global, text: &mut String, net: &Net, chain: &[u32]) -> Result<(), AllocError>
+/// Gathers the line of a chain of pins.
+fn push_chain<S: Sink>(
+    alloc: Global,
+    text: &mut String,
+    net: &Net,
+    chain: &[u32],
+    sink: &mut S,
+) -> Result<(), SinkFault>
     requires { MaySay net.now (BlockedBy chain.now) }
-    ensures { OnOk result (string_bytes text.new ≡ string_bytes text.old ++ written (said_lines net.now (BlockedBy chain.now))) }
+    ensures gathered { OnOk result (PutsAllBut (S.taken sink.old) (S.taken sink.new)
+        (string_bytes text.old ++ written (said_lines net.now (BlockedBy chain.now))) (string_bytes text.new)) }
+    ensures broken { IfErr result (λ _. AppendsFront (S.taken sink.old) (S.taken sink.new)
+        (string_bytes text.old ++ written (said_lines net.now (BlockedBy chain.now)))) }
+    ensures failures { S.failures sink.new ≡ failures_after result (S.failures sink.old) }
 {
-    let names = names_of(alloc, net, chain)?;
-    push_line(text, Line::Blocks(names.as_str()))
+    let Ok(names) = names_of(alloc, net, chain) else {
+        return Err(SinkFault::Memory);
+    };
+    push_line(text, Line::Blocks(names.as_str()), sink)
 }
 
-/// The one text of the report.
-fn text_of(
+/// Gathers the lines between the first and the last.
+fn push_answer<S: Sink>(
+    alloc: Global,
+    text: &mut String,
+    net: &Net,
+    answer: &Answer,
+    sink: &mut S,
+) -> Result<(), SinkFault>
+    requires { MaySay net.now (said_by answer.now) }
+    ensures gathered { OnOk result (PutsAllBut (S.taken sink.old) (S.taken sink.new)
+        (string_bytes text.old ++ written (said_lines net.now (said_by answer.now))) (string_bytes text.new)) }
+    ensures broken { IfErr result (λ _. AppendsFront (S.taken sink.old) (S.taken sink.new)
+        (string_bytes text.old ++ written (said_lines net.now (said_by answer.now)))) }
+    ensures failures { S.failures sink.new ≡ failures_after result (S.failures sink.old) }
+{
+    match answer {
+        Answer::Cut(cut) => push_cut(text, net, cut, sink),
+        Answer::Blocked { chain } => push_chain(alloc, text, net, chain, sink),
+    }
+}
+
+/// Puts the one text of the report, piece by piece.
+fn put_text<S: Sink>(
     alloc: Global,
     net: &Net,
     from: u32,
     to: u32,
     answer: &Answer,
-) -> Result<String, AllocError>
+    sink: &mut S,
+) -> Result<(), SinkFault>
     requires { IsReport net.now (claim_of from to answer.now) }
-    ensures { IfOk result (λ t. string_bytes t ≡ report_text net.now (claim_of from to answer.now)) }
+    ensures puts { Puts (S.taken sink.old) (S.taken sink.new) result (report_text net.now (claim_of from to answer.now)) }
+    ensures failures { S.failures sink.new ≡ failures_after result (S.failures sink.old) }
 {
     let mut text = String::new(alloc);
-    push_line(&mut text, Line::Ends(net.name(from), net.name(to)))?;
-    match answer {
-        Answer::Cut(cut) => push_cut(&mut text, net, cut)?,
-        Answer::Blocked { chain } => push_chain(alloc, &mut text, net, chain)?,
-    }
-    push_line(&mut text, Line::Last)?;
-    Ok(text)
+    push_line(&mut text, Line::Ends(net.name(from), net.name(to)), sink)?;
+    push_answer(alloc, &mut text, net, answer, sink)?;
+    push_line(&mut text, Line::Last, sink)?;
+    put_all(sink, text.as_bytes())
 }
 
 /// Puts the one text of the report of an answer of two modules of the network, given by their numbers. Both lists of a cut
@@ -132,7 +193,6 @@ pub fn write<S: Sink>(
     // No fault of a text is answered.
     ensures of_sink { IfErr result (λ fault. is_of_sink fault ≡ true) }
 {
-    let text = text_of(alloc, net, from, to, answer)?;
-    put_all(sink, text.as_bytes())?;
+    put_text(alloc, net, from, to, answer, sink)?;
     Ok(())
 }

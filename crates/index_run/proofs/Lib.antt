@@ -3,3 +3,4 @@ pub mod Documents
 pub mod IndexRuns
 pub mod Packages
 pub mod SameBytes
+pub mod Digits

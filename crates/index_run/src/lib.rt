@@ -1,5 +1,5 @@
 //! Runs of an indexer: the engines that put the index of a tree, or what stands for nothing in it, into any sink.
-//! Stands on `oscip_run` for the faults of a run and for readers of files, on `ob_board` for the index, on `scip_index` for its written form, with `hex` for digits, and on `oscip_job` and `oscip_tree`.
+//! Stands on `oscip_run` for the faults of a run and for readers of files, on `ob_board` for the index, on `scip_index` for its written form, with `hex` and `text_pieces` for digits, and on `oscip_job` and `oscip_tree`.
 //! Its contract: what an engine puts is what the definitions say of the tree, and nothing else.
 #![tactic(auto)]
 

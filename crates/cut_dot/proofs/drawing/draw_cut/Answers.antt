@@ -1,11 +1,21 @@
-use Rattle.std.proofs.Common.{inl}
-use Rattle.std.proofs.KnownBytes.{Keeps-refl}
+use Rattle.std.proofs.Common.{ap₂, Bool, List, subst}
+use Rattle.cut_net.specs.declared.priced.Priced.{Priced}
+use Rattle.cut_residual.specs.Graphs.{is_seen}
+use Rattle.cut_dot.specs.Pictures.{drawn_imports, drawn_modules, AreStillReached}
+use Rattle.cut_dot.specs.Texts.{picture_text}
 use Rattle.cut_dot.proofs.Drawn.{drawn}
 use Rattle.cut_dot.proofs.drawing.draw_cut.Goals as goal
 
-pub returns-in_default-clause-run : goal.returns-in_default-clause-run
-returns-in_default-clause-run g c = inl (Keeps-refl _)
-
 pub returns-clause-run : goal.returns-clause-run
 returns-clause-run g c =
-    drawn c.args.net.now c.args.from c.args.to _ _ _ _ _ c.put_all.result c.in-Ok.ensures (rw c.as_bytes.ensures.value at c.put_all.ensures.puts)
+    let net = c.args.net.now in
+    let cut = c.args.cut.now in
+    let marks = c.in-Ok.part.marks.items in
+    let reached = c.in-Ok-reached_from.reached.items in
+    let are_reached : AreStillReached net c.args.from cut.imports.items (is_seen reached) =
+    subst (λ (v : List Priced). AreStillReached net c.args.from v (is_seen reached)) c.as_slice.ensures.value c.in-Ok-reached_from.ensures.reached in
+    let text_is = ap₂ (λ (b : List Bool) (r : List Bool). picture_text net c.args.from c.args.to cut.imports.items cut.flow.items (is_seen r) (drawn_modules net c.args.from c.args.to (is_seen b)) (drawn_imports net (is_seen b)))
+    c.deref.ensures.value c.deref-2.ensures.value in
+    drawn net c.args.from c.args.to cut.imports.items cut.flow.items _ _ _ c.put_text.result
+    (record { between = is_seen marks; are_between = c.in-Ok.ensures.between; reached = is_seen reached; are_reached = are_reached; text_is = text_is })
+    c.put_text.ensures.puts

@@ -1,6 +1,8 @@
+-- What was put and what is in hand are what was there and the lines so far.
 use Rattle.std.proofs.Common.{◌≡◌, ◌++◌}
 use Rattle.std.specs.List.{range_with_len}
 use Rattle.std.specs.String.{string_bytes}
+use Rattle.text_pieces.specs.Pieces.{PutsAllBut}
 use Rattle.cut_residual.specs.Graphs.{is_seen}
 use Rattle.cut_dot.specs.Pictures.{is_drawn}
 use Rattle.cut_dot.specs.Texts.{line_of_module}
@@ -8,5 +10,8 @@ use Rattle.cut_dot.proofs.Passing.{lines}
 use Rattle.cut_dot.proofs.text.push_modules.Given as goal
 
 abbrev pub invariant-loop-node : goal.invariant-loop-node
-invariant-loop-node l =
-    string_bytes l.text ≡ string_bytes l.initial.text ++ lines (line_of_module l.net l.from l.to (is_seen l.reached)) (is_drawn l.from l.to (is_seen l.between)) (range_with_len 0 l.node)
+invariant-loop-node g l = record {
+  gathered : PutsAllBut (g.S.Sink.taken l.initial.sink) (g.S.Sink.taken l.sink)
+      (string_bytes l.initial.text ++ lines (line_of_module l.net l.from l.to (is_seen l.reached)) (is_drawn l.from l.to (is_seen l.between)) (range_with_len 0 l.node)) (string_bytes l.text);
+  failures : g.S.Sink.failures l.sink ≡ g.S.Sink.failures l.initial.sink;
+}

@@ -1,7 +1,12 @@
+-- What was put and what is in hand are what was there and the lines so far.
 use Rattle.std.proofs.Common.{◌≡◌, ◌++◌, take, map}
 use Rattle.std.specs.String.{string_bytes}
 use Rattle.cut_report.specs.ReportLine.{removes, written}
+use Rattle.text_pieces.specs.Pieces.{PutsAllBut}
 use Rattle.cut_report.proofs.writer.push_removes.Given as goal
 
 abbrev pub invariant-loop-import : goal.invariant-loop-import
-invariant-loop-import l = string_bytes l.text ≡ string_bytes l.initial.text ++ written (map (removes l.net) (take l.import-index l.imports))
+invariant-loop-import g l = record {
+  gathered : PutsAllBut (g.S.Sink.taken l.initial.sink) (g.S.Sink.taken l.sink) (string_bytes l.initial.text ++ written (map (removes l.net) (take l.import-index l.imports))) (string_bytes l.text);
+  failures : g.S.Sink.failures l.sink ≡ g.S.Sink.failures l.initial.sink;
+}
