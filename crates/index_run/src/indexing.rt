@@ -1,16 +1,17 @@
 //! What the commands that index a tree put, over any sink.
-ghost use Rattle.std.specs.Prelude.{◌≡◌, ◌++◌, IfOk, false, map};
+ghost use Rattle.std.specs.Prelude.{◌≡◌, ◌++◌, IfErr, IfOk, OnOk, false, map};
 ghost use Rattle.std.specs.String.{string_bytes};
-ghost use Rattle.byte_sink.specs.Sinks.{failures_by};
+ghost use Rattle.byte_sink.specs.Sinks.{failures_after, failures_by, AppendsFront, Puts};
 ghost use Rattle.ob_board.specs.Unresolved.{plain_unresolved};
 ghost use Rattle.oscip_job.specs.Jobs.{IsPackage, MayWork};
 ghost use Rattle.oscip_run.specs.Faults.{is_device};
 ghost use Rattle.index_run.specs.IndexRuns.{unresolved_line, unresolved_lines, IsHexRun, IsIndexingRun, IsIndexRun, IsUnresolvedRun};
 ghost use Rattle.oscip_tree.specs.Sources.{ArePathsInOrder};
 ghost use Rattle.scip_symbol.specs.Outcomes.{is_wrong_part};
+ghost use Rattle.text_pieces.specs.Pieces.{PutsAllBut};
 
 use crate::{hex_line, put_written};
-use byte_sink::{Sink, put_all};
+use byte_sink::{Sink, SinkFault, put_all};
 use ob_board::{
     BoardGate, IndexOptions, Unresolved, WrittenIndex, unresolved_in_tree, written_index,
 };
@@ -22,6 +23,7 @@ use std::alloc::{AllocError, Global};
 use std::sync::Wait;
 use std::thread::Threads;
 use text_escape::EscapingWriter;
+use text_pieces::put_enough;
 
 /// The gate of a board that lets every worker through at once.
 #[derive(Drop)]
@@ -141,16 +143,34 @@ fn push_line<'a>(
     writeln!(text, ":{}:{} {name}", at.line, at.column)
 }
 
-/// The lines of identifiers that stand for nothing, in their order.
-fn lines_of(alloc: Global, rows: &[Unresolved]) -> Result<String, AllocError>
-    ensures { IfOk result (λ text. string_bytes text ≡ unresolved_lines (map plain_unresolved rows.now)) }
+/// Gathers the line of an identifier that stands for nothing, of which pieces are put.
+fn gather_line<'a, S: Sink>(
+    paths: &mut EscapingWriter<'a>,
+    text: &mut String,
+    row: &'a Unresolved,
+    sink: &mut S,
+) -> Result<(), SinkFault>
+    ensures gathered { OnOk result (PutsAllBut (S.taken sink.old) (S.taken sink.new)
+        (string_bytes text.old ++ unresolved_line (plain_unresolved row.now)) (string_bytes text.new)) }
+    ensures broken { IfErr result (λ _. AppendsFront (S.taken sink.old) (S.taken sink.new)
+        (string_bytes text.old ++ unresolved_line (plain_unresolved row.now))) }
+    ensures failures { S.failures sink.new ≡ failures_after result (S.failures sink.old) }
+{
+    push_line(paths, text, row).map_err(|_| SinkFault::Memory)?;
+    put_enough(text, sink)
+}
+
+/// Puts the lines of identifiers that stand for nothing, in their order, piece by piece. At a refusal a front of them is taken.
+fn put_lines<S: Sink>(alloc: Global, rows: &[Unresolved], sink: &mut S) -> Result<(), SinkFault>
+    ensures puts { Puts (S.taken sink.old) (S.taken sink.new) result (unresolved_lines (map plain_unresolved rows.now)) }
+    ensures failures { S.failures sink.new ≡ failures_after result (S.failures sink.old) }
 {
     let mut paths = EscapingWriter::new();
     let mut text = String::new(alloc);
     for row in rows {
-        push_line(&mut paths, &mut text, row)?;
+        gather_line(&mut paths, &mut text, row, sink)?;
     }
-    Ok(text)
+    put_all(sink, text.as_bytes())
 }
 
 /// Puts a line for each identifier of a tree that stands for nothing and isn't predeclared, as `PATH:LINE:COL NAME`: where it
@@ -170,7 +190,6 @@ pub fn unresolved_to<R: Threads + Sync, S: Sink>(
     ensures failures { S.failures sink.new ≡ failures_by is_device result (S.failures sink.old) }
 {
     let rows = unresolved_in_tree(rt, alloc, sources, READERS)?;
-    let text = lines_of(alloc, rows.as_slice())?;
-    put_all(sink, text.as_bytes())?;
+    put_lines(alloc, rows.as_slice(), sink)?;
     Ok(())
 }

@@ -1,5 +1,6 @@
 -- The identifiers of a tree that stand for nothing.
 use Rattle.std.specs.Prelude.{◌≡◌, ℕ, List, [], ◌∷◌, length, map, slice_get, Some}
+use Rattle.std.specs.Arc.{arc_value}
 use Rattle.std.specs.List.{flat_map}
 use Rattle.std.specs.String.{string_bytes}
 use Rattle.ob_scan.specs.declared.token.Token.{Token}
@@ -21,7 +22,7 @@ pub record PlainUnresolved : Type 0 where
   pub name : List ℕ
 
 abbrev pub plain_unresolved : Unresolved → PlainUnresolved
-plain_unresolved u = record { path = string_bytes u.path; line = u.at.line; column = u.at.column; name = string_bytes u.name }
+plain_unresolved u = record { path = string_bytes (arc_value u.path); line = u.at.line; column = u.at.column; name = string_bytes u.name }
 
 -- the row of the token of this number
 pub record IsRow (path bytes : List ℕ) (tokens : List Token) (k : ℕ) (row : PlainUnresolved) : Type 0 where

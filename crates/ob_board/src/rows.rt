@@ -1,6 +1,8 @@
 //! Rows for the identifiers of a file that stand for nothing.
 ghost use Rattle.std.specs.Prelude.{◌≡◌, map, All, IfOk};
+ghost use Rattle.std.specs.Arc.{arc_value};
 ghost use Rattle.std.specs.Str.{IsUtf8};
+ghost use Rattle.std.specs.String.{string_bytes};
 ghost use Rattle.ob_scan.specs.Position.{line_starts};
 ghost use Rattle.ob_scan.specs.Spelling.{AreInText};
 ghost use Rattle.ob_scan.specs.Texts.{text_at};
@@ -9,11 +11,12 @@ ghost use Rattle.ob_board.specs.Unresolved.{plain_unresolved, AreUnresolvedRows,
 use crate::Unresolved;
 use ob_scan::{Lines, Token, TokenTexts, lines};
 use std::alloc::{AllocError, Global};
+use std::sync::Arc;
 
 /// The row of an identifier.
 fn row_of(
     alloc: Global,
-    path: &str,
+    path: &Arc<String>,
     text: &TokenTexts,
     lines: &Lines,
     number: u32,
@@ -21,10 +24,10 @@ fn row_of(
     requires in_text { AreInText text.now.bytes.now text.now.tokens.now }
     requires lined { lines.now ≡ line_starts text.now.bytes.now }
     requires text { IsUtf8 (text_at text.now.bytes.now text.now.tokens.now number) }
-    ensures { IfOk result (λ row. IsRow path.now text.now.bytes.now text.now.tokens.now number (plain_unresolved row)) }
+    ensures { IfOk result (λ row. IsRow (string_bytes (arc_value path.now)) text.now.bytes.now text.now.tokens.now number (plain_unresolved row)) }
 {
     let at = lines.position(text.start(number));
-    let path = String::from_str(alloc, path)?;
+    let path = Arc::try_clone(path)?;
     let name = text.string(alloc, number)?;
     Ok(Unresolved { path, at, name })
 }
@@ -46,9 +49,10 @@ pub(crate) fn rows_of(
     }
     let lines = lines(alloc, bytes)?;
     let text = TokenTexts { bytes, tokens };
+    let shared = Arc::new(alloc, String::from_str(alloc, path)?)?;
     let mut rows = Vec::new(alloc);
     for number in numbers {
-        rows.push(row_of(alloc, path, &text, &lines, *number)?)?;
+        rows.push(row_of(alloc, &shared, &text, &lines, *number)?)?;
     }
     Ok(rows)
 }

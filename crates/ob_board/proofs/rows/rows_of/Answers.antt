@@ -1,13 +1,16 @@
 use Rattle.std.proofs.Common.{◌≡◌, ◌+◌, ◌++◌, ◌∷◌, [], List, ℕ, map, take, sym, ap, ◌∙◌, subst}
 use Rattle.std.specs.Prelude.{slice_index}
+use Rattle.std.specs.Arc.{arc_value}
+use Rattle.std.specs.String.{string_bytes}
 use Rattle.std.proofs.lemmas.List.{map-append, take_more}
-use Rattle.ob_board.specs.Unresolved.{plain_unresolved, AreUnresolvedRows, PlainUnresolved}
+use Rattle.ob_board.specs.Unresolved.{plain_unresolved, AreUnresolvedRows, IsRow, PlainUnresolved}
 use Rattle.ob_board.proofs.Rowing.{rows_more}
 use Rattle.ob_board.proofs.rows.rows_of.Goals as goal
 
 pub loop-number-preserved : goal.loop-number-preserved
 loop-number-preserved c =
     let path = c.args.path.now in
+    let same : string_bytes (arc_value c.in_ok-shared.shared) ≡ path = ap string_bytes c.in_ok-shared.ensures.ok ∙ c.in_ok-from_str.ensures.ok in
     let bytes = c.args.bytes.now in
     let ts = c.args.tokens.now in
     let ks = c.args.numbers.now in
@@ -19,4 +22,4 @@ loop-number-preserved c =
     ap (map plain_unresolved) c.in_ok-push.ensures.items ∙ map-append plain_unresolved c.loop-number.rows.items (c.in_ok-row_of.field-0 ∷ []) in
     subst (λ (rows : List PlainUnresolved). AreUnresolvedRows path bytes ts (take (i + 1) ks) rows) (sym pushed)
     (subst (λ (xs : List ℕ). AreUnresolvedRows path bytes ts xs (before ++ row ∷ [])) (sym more)
-    (rows_more path bytes ts (take i ks) before (slice_index ks i) row c.loop-number.invariant c.in_ok-row_of.ensures))
+    (rows_more path bytes ts (take i ks) before (slice_index ks i) row c.loop-number.invariant (subst (λ (p : List ℕ). IsRow p bytes ts (slice_index ks i) row) same c.in_ok-row_of.ensures)))
