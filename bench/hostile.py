@@ -7,8 +7,8 @@ once, each time the least of three; where valgrind is there, of a part of it the
 Then, by valgrind, it counts the instructions of some networks, and of trees and indexes, each made against one table, search or
 look-ahead, those at twice the bytes over those at once. Then it tells the times of numbers of many bytes in an index over those of as
 many bytes in numbers of one byte. Last it gives the program an address space that is just enough: there it has to answer, or to tell
-want of memory, within some seconds; and folders to which many paths of links lead, with as many names as there may be, with one more,
-and with a link to itself.
+want of memory, within some seconds; folders to which many paths of links lead, with as many names as there may be, with one more, and
+with a link to itself; and the memory of texts that are much longer than their input.
 
 Each row ends with what is wrong, as more than it may take, or with `ok`. The status is 1 where something is wrong.
 
@@ -568,6 +568,7 @@ def written(folder, files):
     shutil.rmtree(f"{folder}/t", ignore_errors=True)
     os.makedirs(f"{folder}/t")
     for path, text in files.items():
+        os.makedirs(os.path.dirname(f"{folder}/{path}"), exist_ok=True)
         write(f"{folder}/{path}", lambda: text)
     return sum(map(len, files.values()))
 
@@ -663,6 +664,38 @@ def returned(program, folder):
     return row("a folder with a link to itself", faults, f"{names:,}", f"{ends[3]:,}", f"{most:,}")
 
 
+def long_named():
+    """A tree in which a module between two others has a name of a million letters, and imports a thousand modules."""
+    name, imported = many(1_000_000) * b"L", [b"A%d" % it for it in range(1_000)]
+    files = {b"A%d" % it: b"MODULE A%d; IMPORT B; PROCEDURE p*; END p; BEGIN B.p END A%d." % (it, it) for it in range(1_000)}
+    files[b"B"] = b"MODULE B; PROCEDURE p*; END p; END B."
+    files[b"L"] = b"MODULE %s; IMPORT %s; PROCEDURE q*; END q; BEGIN %s END %s." % (name, b", ".join(imported), b"; ".join(b"%s.p" % it for it in imported), name)
+    files[b"S"] = b"MODULE S; IMPORT l := %s; BEGIN %s END S." % (name, b"; ".join(1_000 * [b"l.q"]))
+    return {f"t/{it.decode()}.Mod": text for it, text in files.items()}
+
+
+# A tree, the command, and the most memory over the bytes. The report has a thousand lines of the long name, and each line of the other
+# begins with the path.
+PIECES = {
+    "a name of a million letters in a report": (long_named, ["cut", "t", "S", "B"], 10),
+    "a path of 2,800 letters": (lambda: {"t/" + 14 * (200 * "d" + "/") + "M.Mod": b"MODULE M; BEGIN " + many(1_000_000) * b"x;" + b" END M."}, ["unresolved", "t"], 110),
+}
+
+
+def in_pieces(program, folder):
+    """Tells the memory of texts that are much longer than their input, and returns how much is wrong."""
+    wrong, alone = 0, ended([program, "--help"], folder)[3]
+    head("Input", "Bytes", "Memory", "at most")
+    for name, (files, words, most) in PIECES.items():
+        size = written(folder, files())
+        ends = ended([program, *words], folder)
+        memory = (ends[3] - alone) / size
+        faults = [f"status {ends[0]}, {ends[1][:200]!r}"] if ends[0] != ANSWERED else []
+        faults += ["too much memory"] if memory > most else []
+        wrong += row(name, faults, f"{size:,}", f"{memory:.1f}", str(most))
+    return wrong
+
+
 def part_grown(program, words, folder, path, text):
     """The instructions at twice the bytes over those at once, of a part of the input, and how often a run ended in another way than it may."""
     global PART
@@ -752,7 +785,7 @@ def main(program=f"{HERE}/../crates/oscip/out/oscip", runs="500"):
     try:
         path = os.path.realpath(program)
         subprocess.run(["cc", "-O1", "-o", f"{folder}/peak", f"{HERE}/peak.c"], check=True)
-        wrong = changing(path, folder, int(runs)) + harmful(path, folder) + counted(path, folder) + grown(path, folder) + beside(path, folder) + bound(path, folder) + walked(path, folder)
+        wrong = changing(path, folder, int(runs)) + harmful(path, folder) + counted(path, folder) + grown(path, folder) + beside(path, folder) + bound(path, folder) + walked(path, folder) + in_pieces(path, folder)
     finally:
         shutil.rmtree(folder)
     print(f"{wrong} wrong")
