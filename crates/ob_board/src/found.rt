@@ -18,6 +18,7 @@ use crate::Unresolved;
 use crate::files::NamedFiles;
 use crate::laws::reached_by_names;
 use crate::module_types::module_types;
+use crate::ordering::order_hint;
 use crate::rows::rows_of;
 use board_workers::Work;
 use ob_imports::Graph;
@@ -99,13 +100,15 @@ fn unresolved_by(alloc: Global, types: &Types<'_>) -> Result<Vec<u32>, AllocErro
     numbers
 }
 
-/// The same, by what its parts and the interfaces of what it reaches say, told whether it is known that the names of these ascend.
+/// The same, by what its parts and the interfaces of what it reaches say, told whether it is known that the names of these
+/// ascend, with a hint of their order.
 fn numbers_of(
     alloc: Global,
     source: &Source,
     parts: &ModuleParts,
     reached: &[Arc<Interface>],
     by_name: bool,
+    hint: &[u32],
 ) -> Result<Vec<u32>, AllocError>
     requires in_text { AreInText source.now.bytes.items parts.now.tokens }
     requires few { length (map arc_value reached.now) ≤ 2 ^ 32 }
@@ -113,27 +116,28 @@ fn numbers_of(
     ensures { IfOk result (λ numbers. (refs : List Reference) × (numbers.items ≡ unresolved refs)
         × AreReferences (world source.now.bytes.items parts.now.tokens (rows_in parts.now.table) parts.now.scopes (map arc_value reached.now)) refs) }
 {
-    let types = module_types(alloc, source, parts, reached, by_name)?;
+    let types = module_types(alloc, source, parts, reached, by_name, hint)?;
     let numbers = unresolved_by(alloc, &types);
     drop(types);
     numbers
 }
 
 /// What is found of a module by its parts and the interfaces of what it reaches, told whether it is known that the names of these
-/// ascend.
+/// ascend, with a hint of their order.
 fn found_in<F: NamedFiles>(
     alloc: Global,
     source: &Source,
     parts: &ModuleParts,
     reached: &[Arc<Interface>],
     by_name: bool,
+    hint: &[u32],
 ) -> Result<Found<F>, AllocError>
     requires at_hand { IsAtHand F.files source.now parts.now (map arc_value reached.now) }
     requires by_name { OnTrue by_name (AreByName (map arc_value reached.now)) }
     ensures { IfOk result (λ found. found.name ≡ text_at source.now.bytes.items parts.now.tokens 1) }
 {
     tokens_in_text();
-    let numbers = numbers_of(alloc, source, parts, reached, by_name)?;
+    let numbers = numbers_of(alloc, source, parts, reached, by_name, hint)?;
     let bytes = source.bytes.as_slice();
     let rows = rows_of(
         alloc,
@@ -215,12 +219,14 @@ impl<F: NamedFiles> Work for Finding<'_, F> {
     fn make(&self, number: u32, parts: &[Arc<Interface>]) -> Result<Found<F>, AllocError> {
         reached_by_names();
         let place = number as usize;
+        let hint = order_hint(self.alloc, self.graph, number, parts.len(), self.by_name)?;
         let found = found_in(
             self.alloc,
             &self.sources[place],
             &self.modules[place],
             parts,
             self.by_name,
+            hint.as_slice(),
         )?;
         Ok(found)
     }

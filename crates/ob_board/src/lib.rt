@@ -15,6 +15,7 @@ mod listing;
 mod made;
 mod module_types;
 mod named_index;
+mod ordering;
 mod recorded;
 mod rows;
 mod unresolved;

@@ -12,6 +12,7 @@ ghost use Rattle.ob_board.specs.Found.{IsAtHand};
 use crate::Entry;
 use crate::laws::reached_by_names;
 use crate::named_index::NamedIndex;
+use crate::ordering::order_hint;
 use crate::written::{Written, write_module};
 use board_workers::Work;
 use ob_imports::Graph;
@@ -78,13 +79,14 @@ impl<F: NamedIndex> WorkEntry for Made<F> {
 }
 
 /// The entry of a module by its parts and the interfaces of what it reaches, told whether it is known that the names of these
-/// ascend.
+/// ascend, with a hint of their order.
 fn made_in<F: NamedIndex>(
     alloc: Global,
     source: &Source,
     parts: &ModuleParts,
     reached: &[Arc<Interface>],
     by_name: bool,
+    hint: &[u32],
     package_name: &str,
 ) -> Result<Made<F>, AllocError>
     requires at_hand { IsAtHand F.files source.now parts.now (map arc_value reached.now) }
@@ -97,7 +99,7 @@ fn made_in<F: NamedIndex>(
     let Written {
         document,
         externals,
-    } = write_module(alloc, source, parts, reached, by_name, package_name)?;
+    } = write_module(alloc, source, parts, reached, by_name, hint, package_name)?;
     let name = String::from_str(alloc, parts.scopes.name())?;
     let interface = Arc::try_clone(&parts.interface)?;
     let entry = Entry {
@@ -118,7 +120,7 @@ pub struct Making<'a, F: NamedIndex, E> {
     pub(crate) alloc: Global,
     pub(crate) sources: &'a [Source],
     pub(crate) modules: &'a [Box<ModuleParts>],
-    graph: &'a Graph,
+    pub(crate) graph: &'a Graph,
     pub(crate) package_name: &'a str,
     /// Whether the names of the modules are known to ascend.
     pub(crate) by_name: bool,
@@ -192,12 +194,14 @@ impl<F: NamedIndex> Work for Making<'_, F, Made<F>> {
     fn make(&self, number: u32, parts: &[Arc<Interface>]) -> Result<Made<F>, AllocError> {
         reached_by_names();
         let place = number as usize;
+        let hint = order_hint(self.alloc, self.graph, number, parts.len(), self.by_name)?;
         let made = made_in(
             self.alloc,
             &self.sources[place],
             &self.modules[place],
             parts,
             self.by_name,
+            hint.as_slice(),
             self.package_name,
         )?;
         Ok(made)

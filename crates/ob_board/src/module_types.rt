@@ -14,13 +14,14 @@ use std::alloc::{AllocError, Global};
 use std::sync::Arc;
 
 /// The types of a module, by its parts and the interfaces of what it reaches, told whether it is known that the names of these
-/// ascend.
+/// ascend, with a hint of their order.
 pub(crate) fn module_types<'a>(
     alloc: Global,
     source: &'a Source,
     parts: &'a ModuleParts,
     reached: &'a [Arc<Interface>],
     by_name: bool,
+    hint: &[u32],
 ) -> Result<Types<'a>, AllocError>
     requires in_text { AreInText source.now.bytes.items parts.now.tokens }
     requires few { length (map arc_value reached.now) ≤ 2 ^ 32 }
@@ -35,5 +36,6 @@ pub(crate) fn module_types<'a>(
         &parts.scopes,
         reached,
         by_name,
+        hint,
     )
 }

@@ -13,6 +13,7 @@ ghost use Rattle.ob_board.specs.Found.{IsAtHand};
 use crate::laws::reached_by_names;
 use crate::made::Making;
 use crate::named_index::NamedIndex;
+use crate::ordering::order_hint;
 use crate::written::{WrittenRecord, record_module};
 use board_workers::Work;
 use ob_interface::Interface;
@@ -86,13 +87,14 @@ impl<F: NamedIndex> WorkEntry for Recorded<F> {
 }
 
 /// The entry of a module by its parts and the interfaces of what it reaches, told whether it is known that the names of these
-/// ascend.
+/// ascend, with a hint of their order.
 fn recorded_in<F: NamedIndex>(
     alloc: Global,
     source: &Source,
     parts: &ModuleParts,
     reached: &[Arc<Interface>],
     by_name: bool,
+    hint: &[u32],
     package_name: &str,
 ) -> Result<Recorded<F>, AllocError>
     requires at_hand { IsAtHand F.files source.now parts.now (map arc_value reached.now) }
@@ -108,6 +110,7 @@ fn recorded_in<F: NamedIndex>(
         parts,
         reached,
         by_name,
+        hint,
         package_name,
     )?;
     let name = String::from_str(alloc, parts.scopes.name())?;
@@ -131,12 +134,14 @@ impl<F: NamedIndex> Work for Making<'_, F, Recorded<F>> {
     fn make(&self, number: u32, parts: &[Arc<Interface>]) -> Result<Recorded<F>, AllocError> {
         reached_by_names();
         let place = number as usize;
+        let hint = order_hint(self.alloc, self.graph, number, parts.len(), self.by_name)?;
         let recorded = recorded_in(
             self.alloc,
             &self.sources[place],
             &self.modules[place],
             parts,
             self.by_name,
+            hint.as_slice(),
             self.package_name,
         )?;
         Ok(recorded)

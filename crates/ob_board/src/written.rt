@@ -61,13 +61,14 @@ fn written_by(
 }
 
 /// What is written of a module, by its parts and the interfaces of what it reaches, told whether it is known that the names of
-/// these ascend.
+/// these ascend, with a hint of their order.
 pub(crate) fn write_module(
     alloc: Global,
     source: &Source,
     parts: &ModuleParts,
     reached: &[Arc<Interface>],
     by_name: bool,
+    hint: &[u32],
     package_name: &str,
 ) -> Result<Written, AllocError>
     requires spelled { IsOutcome source.now.bytes.items (Ok parts.now.tokens) }
@@ -80,7 +81,7 @@ pub(crate) fn write_module(
 {
     tokens_in_text();
     names_of_scopes();
-    let types = module_types(alloc, source, parts, reached, by_name)?;
+    let types = module_types(alloc, source, parts, reached, by_name, hint)?;
     let written = written_by(alloc, source.path.as_str(), &types, package_name);
     drop(types);
     written
@@ -120,13 +121,14 @@ fn recorded_by(
 }
 
 /// The record of a module, by its parts and the interfaces of what it reaches, told whether it is known that the names of these
-/// ascend. No message is made on the way: what `write_module` answers, as bytes.
+/// ascend, with a hint of their order. No message is made on the way: what `write_module` answers, as bytes.
 pub(crate) fn record_module(
     alloc: Global,
     source: &Source,
     parts: &ModuleParts,
     reached: &[Arc<Interface>],
     by_name: bool,
+    hint: &[u32],
     package_name: &str,
 ) -> Result<WrittenRecord, AllocError>
     requires spelled { IsOutcome source.now.bytes.items (Ok parts.now.tokens) }
@@ -139,7 +141,7 @@ pub(crate) fn record_module(
 {
     tokens_in_text();
     names_of_scopes();
-    let types = module_types(alloc, source, parts, reached, by_name)?;
+    let types = module_types(alloc, source, parts, reached, by_name, hint)?;
     let recorded = recorded_by(alloc, source.path.as_str(), &types, package_name);
     drop(types);
     recorded

@@ -1,10 +1,7 @@
 -- Rows from the last to the first.
 use Rattle.std.proofs.Common.{◌≡◌, ℕ, ◌+◌, ◌<◌, List, ◌∷◌, length, drop, get_or, Bool, true, false, cond, Option, Some, refl, sym, ap, ◌∙◌, add-one, drop-cons}
 use Rattle.std.specs.Prelude.{find}
-use Rattle.std.specs.List.{position_from}
 use Rattle.std.specs.Option.{option_map}
-use Rattle.std.specs.Str.{bytes_eq}
-use Rattle.ob_interface.specs.Interfaces.{ModuleInterface}
 
 module _ {X : Type 0} (p : X → Bool) (xs : List X) (m n : ℕ) (d : X) (next : n ≡ m + 1) (within : m < length xs) where
   opened : drop m xs ≡ get_or xs m d ∷ drop n xs
@@ -12,16 +9,6 @@ module _ {X : Type 0} (p : X → Bool) (xs : List X) (m n : ℕ) (d : X) (next :
 
   pub find_before : find p (drop m xs) ≡ cond (p (get_or xs m d)) (Some (get_or xs m d)) (find p (drop n xs))
   find_before = ap (find p) opened
-
-  pub place_before : position_from p m (drop m xs) ≡ cond (p (get_or xs m d)) (Some m) (position_from p n (drop n xs))
-  place_before = ap (position_from p m) opened ∙ ap (λ (i : ℕ). cond (p (get_or xs m d)) (Some m) (position_from p i (drop n xs))) (sym next)
-
--- one more module
-pub home_before : (xs : List ModuleInterface) (m n v : ℕ) (d : ModuleInterface) (key name : List ℕ) (old new : Option ℕ) → n ≡ m + 1 → m < length xs → v ≡ m → key ≡ (get_or xs m d).name
-    → new ≡ cond (bytes_eq key name) (Some v) old → old ≡ position_from (λ (i : ModuleInterface). bytes_eq i.name name) n (drop n xs) → new ≡ position_from (λ (i : ModuleInterface). bytes_eq i.name name) m (drop m xs)
-home_before xs m n v d key name old new next within at is more before =
-    more ∙ ap (λ (k : List ℕ). cond (bytes_eq k name) (Some v) old) is ∙ ap (λ (i : ℕ). cond (bytes_eq (get_or xs m d).name name) (Some i) old) at
-    ∙ ap (λ (o : Option ℕ). cond (bytes_eq (get_or xs m d).name name) (Some m) o) before ∙ sym (place_before (λ (i : ModuleInterface). bytes_eq i.name name) xs m n d next within)
 
 map_cond : {X Y : Type 0} (f : X → Y) (b : Bool) (x : X) (o : Option X) → option_map f (cond b (Some x) o) ≡ cond b (Some (f x)) (option_map f o)
 map_cond f true x o = refl

@@ -1,28 +1,26 @@
 //! The places of modules by their names.
-ghost use Rattle.std.specs.Prelude.{◌≡◌, ◌<◌, ◌≤◌, ◌^◌, ◌↔◌, ℕ, List, Some, IfOk, IsTrue, OnOk, if◌then◌else◌, length, map};
-ghost use Rattle.std.specs.Str.{bytes_eq};
+ghost use Rattle.std.specs.Prelude.{◌≡◌, ◌<◌, ◌≤◌, ◌^◌, ◌↔◌, ℕ, Contains, IfNone, IfOk, IfSome, IsPermutation, IsTrue, length, map};
 ghost use Rattle.std.specs.Bool.{OnTrue};
 ghost use Rattle.std.specs.Cmp.Lexicographic.{slice_cmp};
 ghost use Rattle.std.specs.Ordering.{nat_cmp};
 ghost use Rattle.std.specs.declared.cmp.Ordering.TheVariants.{Less};
 ghost use Rattle.std.specs.Arc.{arc_value};
-ghost use Rattle.std.specs.Borrow.{Bor};
-ghost use Rattle.indexmap.specs.IndexMap.{get};
-ghost use Rattle.ob_types.specs.Homes.{home_in, same_name, AreByName};
+ghost use Rattle.ob_interface.specs.Places.{rank_cmp, AreRanked, IsLeastPlace};
+ghost use Rattle.ob_types.specs.Homes.{home_in, name_at, same_place, AreAllPlaces, AreByName, IsNameOrder};
 
-use indexmap::IndexMap;
 use ob_interface::Interface;
 use std::alloc::{AllocError, Global};
+use std::cmp::Ordering;
 use std::marker::Model;
 use std::sync::Arc;
 
-/// The places of modules by their names; of several modules of one name the first. Where the names ascend they are sought by halving,
-/// and so need no table. A contract sees the modules.
+/// The places of modules by their names; of several modules of one name the first. They are sought by halving: where the names ascend,
+/// among the modules themselves, and else along their places in the order of the names. A contract sees the modules.
 #[derive(Drop)]
 pub(crate) struct Homes<'a> {
     reached: &'a [Arc<Interface>],
-    /// The places by name, where the names don't ascend.
-    table: Option<Box<IndexMap<&'a [u8], u32>>>,
+    /// The places by the names, where these don't ascend.
+    order: Option<Vec<u32>>,
 }
 
 impl<'a> Model for Homes<'a> {
@@ -35,45 +33,105 @@ impl<'a> Model for Homes<'a> {
 
     ghost view = { λ h. map arc_value h.reached.now };
 
-    ghost invariant = { λ h. AreHomes (map arc_value h.reached.now) h.table };
+    ghost invariant = { λ h. AreHomes (map arc_value h.reached.now) h.order };
 }
 
-/// Puts a module at a place before the others.
-fn add_home<'a>(
-    homes: &mut IndexMap<&'a [u8], u32>,
-    module: &'a Interface,
-    at: usize,
-) -> Result<(), AllocError>
-    requires { at < 2 ^ 32 }
-    ensures { OnOk result ((name : Bor (List ℕ)) → get same_name homes.new name ≡ (if bytes_eq module.now.name name.now then Some at else get same_name homes.old name)) }
+/// The name of the module at a place, and no letters behind the last.
+fn name_at(reached: &[Arc<Interface>], place: u32) -> &[u8]
+    ensures { result.now ≡ name_at (map arc_value reached.now) place }
 {
-    homes.insert(module.name(), at as u32)?;
-    Ok(())
-}
-
-/// The places of modules by their names, as a table.
-fn table_of<'a>(
-    alloc: Global,
-    reached: &'a [Arc<Interface>],
-) -> Result<Box<IndexMap<&'a [u8], u32>>, AllocError>
-    requires { length reached.now ≤ 2 ^ 32 }
-    ensures { IfOk result (λ homes. (name : Bor (List ℕ)) → get same_name homes.value name ≡ home_in (map arc_value reached.now) name.now) }
-{
-    let table = IndexMap::with_capacity(alloc, reached.len())?;
-    let mut homes = Box::new(alloc, table)?;
-    let mut at = reached.len();
-    'modules: while at > 0 {
-        at -= 1;
-        add_home(&mut homes, &reached[at], at)?;
+    match reached.get(place as usize) {
+        None => &[],
+        Some(module) => module.name(),
     }
-    Ok(homes)
+}
+
+/// How two places stand to each other, by the names of their modules.
+fn compare_places(reached: &[Arc<Interface>], a: u32, b: u32) -> Ordering
+    ensures { result ≡ rank_cmp (slice_cmp nat_cmp) (name_at (map arc_value reached.now)) same_place a b }
+{
+    match name_at(reached, a).cmp(&name_at(reached, b)) {
+        Ordering::Equal => a.cmp(&b),
+        Ordering::Less => Ordering::Less,
+        Ordering::Greater => Ordering::Greater,
+    }
+}
+
+/// Puts places in the order of the names, and those of one name in that of the places. Where they stand so, one pass sees it.
+fn put_by_name(reached: &[Arc<Interface>], places: &mut Vec<u32>)
+    ensures sorted { AreRanked (slice_cmp nat_cmp) (name_at (map arc_value reached.now)) same_place places.new.items }
+    ensures same { IsPermutation places.old.items places.new.items }
+{
+    places.sort_unstable_by(|a, b| compare_places(reached, *a, *b));
+}
+
+/// Whether each of so many places is among these, and no other number.
+fn are_all(alloc: Global, places: &[u32], count: usize) -> Result<bool, AllocError>
+    ensures { IfOk result (λ all. OnTrue all (AreAllPlaces count places.now)) }
+{
+    if places.len() != count {
+        return Ok(false);
+    }
+    let mut marks = vec![in alloc; false; count]?;
+    for place in places {
+        if *place as usize >= count {
+            return Ok(false);
+        }
+        marks[*place as usize] = true;
+    }
+    Ok(!marks.contains(&false))
+}
+
+/// All of so many places.
+fn all_places(alloc: Global, count: usize) -> Result<Vec<u32>, AllocError>
+    requires { count ≤ 2 ^ 32 }
+    ensures { IfOk result (λ places. AreAllPlaces count places.items) }
+{
+    let mut places = Vec::with_capacity(alloc, count)?;
+    for place in 0..count {
+        places.push(place as u32)?;
+    }
+    Ok(places)
+}
+
+/// The places of modules by their names. The hint has them, as far as is known: where it has all places, and in that order, nothing is
+/// exchanged.
+fn order_of(alloc: Global, reached: &[Arc<Interface>], hint: &[u32]) -> Result<Vec<u32>, AllocError>
+    requires { length reached.now ≤ 2 ^ 32 }
+    ensures { IfOk result (λ order. IsNameOrder (map arc_value reached.now) order.items) }
+{
+    let mut places = if are_all(alloc, hint, reached.len())? {
+        hint.to_vec(alloc)?
+    } else {
+        all_places(alloc, reached.len())?
+    };
+    put_by_name(reached, &mut places);
+    Ok(places)
+}
+
+/// The least place of a module of this name, along the places by name.
+fn place_along(reached: &[Arc<Interface>], order: &[u32], name: &[u8]) -> Option<u32>
+    requires { IsNameOrder (map arc_value reached.now) order.now }
+    ensures found { IfSome result (IsLeastPlace (name_at (map arc_value reached.now)) same_place order.now name.now) }
+    ensures none { IfNone result ((p : ℕ) → Contains order.now p → name_at (map arc_value reached.now) p ≡ name.now → ⊥) }
+{
+    let at = order.partition_point(|place| name_at(reached, *place).cmp(&name).is_lt());
+    if at >= order.len() {
+        return None;
+    }
+    let place = order[at];
+    if name_at(reached, place).cmp(&name).is_eq() {
+        Some(place)
+    } else {
+        None
+    }
 }
 
 /// Whether the name of a module stands before that of another.
-fn is_before(module: &Interface, other: &Interface) -> bool
-    ensures { IsTrue result ↔ (slice_cmp nat_cmp module.now.name other.now.name ≡ Less) }
+fn is_before(first: &Interface, other: &Interface) -> bool
+    ensures { IsTrue result ↔ (slice_cmp nat_cmp first.now.name other.now.name ≡ Less) }
 {
-    module.name().cmp(&other.name()).is_lt()
+    first.name().cmp(&other.name()).is_lt()
 }
 
 /// Whether the names of modules ascend, none of them twice.
@@ -99,11 +157,13 @@ fn place_in_order(reached: &[Arc<Interface>], name: &[u8]) -> Option<usize>
 }
 
 impl<'a> Homes<'a> {
-    /// The places of these modules, whose names are compared where it isn't known that they ascend.
+    /// The places of these modules, whose names are compared where it isn't known that they ascend. The hint has the places by the names,
+    /// as far as is known.
     pub(crate) fn new(
         alloc: Global,
         reached: &'a [Arc<Interface>],
         by_name: bool,
+        hint: &[u32],
     ) -> Result<Homes<'a>, AllocError>
         requires few { length reached.now ≤ 2 ^ 32 }
         requires by_name { OnTrue by_name (AreByName (map arc_value reached.now)) }
@@ -112,13 +172,13 @@ impl<'a> Homes<'a> {
         if by_name || ascend(reached) {
             return Ok(Homes {
                 reached,
-                table: None,
+                order: None,
             });
         }
-        let table = table_of(alloc, reached)?;
+        let order = order_of(alloc, reached, hint)?;
         Ok(Homes {
             reached,
-            table: Some(table),
+            order: Some(order),
         })
     }
 
@@ -126,8 +186,8 @@ impl<'a> Homes<'a> {
     pub(crate) fn place(&self, name: &[u8]) -> Option<u32>
         ensures { result ≡ home_in self.now name.now }
     {
-        match &self.table {
-            Some(table) => table.get(name).copied(),
+        match &self.order {
+            Some(order) => place_along(self.reached, order.as_slice(), name),
             None => match place_in_order(self.reached, name) {
                 Some(place) => Some(place as u32),
                 None => None,

@@ -90,11 +90,13 @@ pub(crate) fn known(shape: Option<Shape<Node, Named, Record>>) -> Shape<Node, Na
 }
 
 impl<'a> Indexed<'a> {
-    /// The same with its indexes, told whether it is known that the names of the modules that are reached ascend.
+    /// The same with its indexes, told whether it is known that the names of the modules that are reached ascend, with a hint of
+    /// their order.
     pub(crate) fn new(
         alloc: Global,
         parts: Parts<'a>,
         by_name: bool,
+        hint: &[u32],
     ) -> Result<Indexed<'a>, AllocError>
         requires in_text { AreInText parts.bytes.now parts.tokens.now }
         requires few { length parts.reached.now ≤ 2 ^ 32 }
@@ -102,7 +104,7 @@ impl<'a> Indexed<'a> {
         ensures { IfOk result (λ i. i.parts ≡ parts.entry) }
     {
         parts.table.has_few();
-        let homes = Homes::new(alloc, parts.reached, by_name)?;
+        let homes = Homes::new(alloc, parts.reached, by_name, hint)?;
         let item_homes = item_homes(alloc, &parts, &homes)?;
         let fields = fields_of(alloc, &parts)?;
         Ok(Indexed {

@@ -61,10 +61,11 @@ impl<'a> Types<'a> {
         requires few { length reached.now ≤ 2 ^ 32 }
         ensures { IfOk result (λ t. t ≡ world bytes.now tokens.now (rows_in table.now) scopes.now (map arc_value reached.now)) }
     {
-        Types::with_order(alloc, bytes, tokens, table, scopes, reached, false)
+        Types::with_order(alloc, bytes, tokens, table, scopes, reached, false, &[])
     }
 
     /// The same, told whether it is known that the names of the modules that are reached ascend; where it isn't, they are compared.
+    /// The hint has the places of these modules by their names, as far as is known: it is for speed alone.
     pub fn with_order(
         alloc: Global,
         bytes: &'a [u8],
@@ -73,6 +74,7 @@ impl<'a> Types<'a> {
         scopes: &'a Scopes,
         reached: &'a [Arc<Interface>],
         by_name: bool,
+        hint: &[u32],
     ) -> Result<Types<'a>, AllocError>
         requires in_text { AreInText bytes.now tokens.now }
         requires few { length reached.now ≤ 2 ^ 32 }
@@ -87,7 +89,7 @@ impl<'a> Types<'a> {
             reached,
             hints: hints_of(alloc, table, tokens.len())?,
         };
-        let indexed = Indexed::new(alloc, parts, by_name)?;
+        let indexed = Indexed::new(alloc, parts, by_name, hint)?;
         Ok(Types { indexed })
     }
 
