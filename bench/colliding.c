@@ -3,8 +3,9 @@
    bytes; the name is hashed as a whole, with `each` as its length and then each of its bytes, with `text` as a whole with a byte behind.
    colliding pairs COUNT BITS FIRST STEP MOST prints, for so many numbers from FIRST on, each STEP behind the last, a number below MOST:
    those pairs of numbers of four and of eight bytes fall together.
-   colliding gaps COUNT BITS FIRST STEP prints, for so many numbers of four bytes behind FIRST, by how much more than STEP each stands
-   behind the last: those numbers begin in an eighth of a table whose numbers have so many bits.
+   colliding gaps COUNT BITS FIRST STEP UNIT [SIZE:NUMBER ..] prints, for so many numbers of four bytes behind FIRST, by how many UNITs
+   more than STEP each stands behind the last: keys of these, with such numbers in front, begin in an eighth of a table whose numbers
+   have so many bits.
    It knows how such a table hashes a key; where the table's hash changes, the keys no longer fall together, and what is told of them says
    nothing. */
 #include <stdint.h>
@@ -67,14 +68,26 @@ static int pairs(char **words) {
     return 0;
 }
 
-static int gaps(char **words) {
+/* What a key has in front, of which each word tells the bytes and the number; 0 where a word doesn't. */
+static uint64_t behind(char **words, int count) {
+    uint64_t state = BEGIN;
+    for (int at = 0; at < count; at++) {
+        char *number = strchr(words[at], ':');
+        if (number == NULL) return 0;
+        state = after_number(state, strtoull(number + 1, 0, 10), strtoull(words[at], 0, 10));
+    }
+    return state;
+}
+
+static int gaps(char **words, int fronts) {
     uint32_t mask = mask_of(words[1]);
-    uint64_t number = strtoull(words[2], 0, 10), step = strtoull(words[3], 0, 10);
+    uint64_t number = strtoull(words[2], 0, 10), step = strtoull(words[3], 0, 10), unit = strtoull(words[4], 0, 10);
+    uint64_t front = behind(words + 5, fronts);
     for (int count = atoi(words[0]); count > 0; count--) {
         int gap = 0;
-        uint64_t state = after_number(BEGIN, number + step, 4);
-        while (((uint32_t)(state ^ state >> 32) & mask) > mask / 8) state = after_number(BEGIN, number + step + ++gap, 4);
-        number += step + gap;
+        uint64_t state = after_number(front, number + step, 4);
+        while (((uint32_t)(state ^ state >> 32) & mask) > mask / 8) state = after_number(front, number + step + ++gap * unit, 4);
+        number += step + gap * unit;
         printf("%d\n", gap);
     }
     return 0;
@@ -82,15 +95,12 @@ static int gaps(char **words) {
 
 int main(int count, char **words) {
     if (count == 7 && strcmp(words[1], "pairs") == 0) return pairs(words + 2);
-    if (count == 6 && strcmp(words[1], "gaps") == 0) return gaps(words + 2);
+    if (count >= 7 && strcmp(words[1], "gaps") == 0) return gaps(words + 2, count - 7);
     if (count < 3) return 2;
     int how = count > 3 && strcmp(words[3], "each") == 0 ? EACH : count > 3 && strcmp(words[3], "text") == 0 ? TEXT : WHOLE;
-    uint64_t begin = BEGIN;
-    for (int at = 3 + (how != WHOLE); at < count; at++) {
-        char *number = strchr(words[at], ':');
-        if (number == NULL) return 2;
-        begin = after_number(begin, strtoull(number + 1, 0, 10), strtoull(words[at], 0, 10));
-    }
+    int fronts = 3 + (how != WHOLE);
+    uint64_t begin = behind(words + fronts, count > fronts ? count - fronts : 0);
+    if (begin == 0) return 2;
     uint32_t mask = mask_of(words[2]);
     char name[LENGTH + 1] = "x";
     int left = atoi(words[1]);

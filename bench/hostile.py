@@ -82,9 +82,9 @@ def colliding(count, bits, *front):
     return printed(str(count), str(bits), *front)
 
 
-def together(k, *front, bits=13):
-    """Once or twice 20,000 names that fall together in a table as large as it is with all of them."""
-    count = many(20_000)
+def together(k, *front, bits=13, part=20_000):
+    """Once or twice so many names that fall together in a table as large as it is with all of them."""
+    count = many(part)
     return colliding(2 * count, bits, *front)[: k * count]
 
 
@@ -281,6 +281,21 @@ def without_a_slot():
     return b"".join(b"module M%d\n" % it for it in range(1_000)) + b"".join(b"import M%d M%d 1\n" % it for it in ends)
 
 
+def slot_of(name):
+    """The slot of a name of seven letters among those that are remembered of a large network."""
+    mix = int.from_bytes(name[:4], "little") * (31 << 32) + int.from_bytes(name[-4:], "little") + len(name)
+    return ((mix * 0x9E3779B97F4A7C15 & 2**64 - 1) >> 32) * 32_768 >> 32
+
+
+def by_turns():
+    """A network of 8,192 modules whose names fall together, of which two that have one slot are named by turns."""
+    names, slots = colliding(8_192, 13, "text"), {}
+    for it in names[-2_500:]:
+        slots.setdefault(slot_of(it), []).append(it)
+    turns = b"".join(b"module %s\nmodule %s\n" % tuple(it[:2]) for it in slots.values() if len(it) > 1)
+    return b"".join(b"module %s\n" % it for it in names) + turns * (4_000_000 // len(turns))
+
+
 # The file, the command, and for each input its text and the most instructions that a byte may take, beyond those of an empty file.
 COUNTED = [
     (
@@ -295,6 +310,7 @@ COUNTED = [
             "empty lines behind a repeat": (lambda: apart(33_000, 33_000) + 3_000_000 * b"\n", 13),
             "short lines behind a repeat behind a long one": (lambda: b"module " + 1_000_000 * b"a" + b"\n" + TWICE + 333_000 * b"module A\n", 6.1),
             "empty lines behind a repeat of an import without a slot": (lambda: without_a_slot() + 4_000_000 * b"\n", 2),
+            "names that fall together, and two of one slot by turns": (by_turns, 40),
             "empty lines behind an import": (lambda: b"import A B 1\n" + 4_000_000 * b"\n", 27),
         },
     ),
@@ -338,8 +354,22 @@ def imported(names):
 
 def constants(k):
     """A module of constants whose first tokens, by their numbers, begin in an eighth of a table as large as it is with twice as many."""
-    gaps = printed("gaps", str(2 * many(32_768)), "13", "4", "4")[: k * many(32_768)]
+    gaps = printed("gaps", str(2 * many(32_768)), "13", "4", "4", "1")[: k * many(32_768)]
     return one(b"MODULE M; CONST " + b"".join(b"c%d = %s1; " % (at, int(gap) * b"~") for at, gap in enumerate(gaps)) + b"END M.")
+
+
+def chained_types(k):
+    """A module of types, each of which is a name of the last or a pointer to one, and a use of a field behind all: by their numbers they begin in an eighth of a table."""
+    gaps = printed("gaps", str(2 * many(8_192)), "12", "5", "4", "2", "8:0")[: k * many(8_192)]
+    types = b"".join(b"t%d = %st%d; " % (at + 1, int(gap) * b"POINTER TO ", at) for at, gap in enumerate(gaps))
+    return one(b"MODULE M; TYPE t0 = RECORD END; %sVAR v: t%d; BEGIN v.q := 1 END M." % (types, len(gaps)))
+
+
+def chained_records(k):
+    """A module of records, each with the last as its base, and uses of a name that none has: by their numbers they begin in an eighth of a table."""
+    gaps = printed("gaps", str(2 * many(8_192)), "12", "3", "8", "2", "8:0")[: k * many(8_192)]
+    types = b"".join(b"t%d = %sRECORD (t%d) END; " % (at + 1, int(gap) * b"POINTER TO ", at) for at, gap in enumerate(gaps))
+    return one(b"MODULE M; TYPE t0 = RECORD END; %sVAR v: t%d; BEGIN %s END M." % (types, len(gaps), b"; ".join(b"v.q%d := 1" % it for it in range(13))))
 
 
 def outside(names):
@@ -415,6 +445,45 @@ def small_modules(count, imported):
     return files
 
 
+def chain_of(names):
+    """Modules of these names, each of which imports the one before it, by other paths."""
+    each = [b"MODULE %s; %sVAR v*: SET; END %s." % (it, b"IMPORT %s; " % names[at - 1] if at else b"", it) for at, it in enumerate(names)]
+    return {f"t/P{at:04}.Mod": text for at, text in enumerate(each)}
+
+
+def renamed_modules(names, items):
+    """Modules of these names, and one with so many import items of the last of them."""
+    files = {f"t/A{at:04}.Mod": b"MODULE %s; END %s." % (it, it) for at, it in enumerate(names)}
+    files["t/Z.Mod"] = b"MODULE Z; IMPORT %s; END Z." % b", ".join(b"b%d := %s" % (it, names[-1 - it % 32]) for it in range(items))
+    return {**files, "t/M.Mod": b"MODULE M; END M.", "t/N.Mod": b"MODULE N; END N."}
+
+
+def bases_of_one(modules, count):
+    """A module with so many records, each with the last as its base, and so many modules that use a name which none has."""
+    types = b"".join(b"R%d* = RECORD (R%d) END; " % (it, it - 1) for it in range(1, count))
+    files = {f"t/M{it:04}.Mod": b"MODULE M%d; IMPORT A; VAR v: A.R%d; BEGIN v.g := {} END M%d." % (it, count - 1, it) for it in range(modules)}
+    files["t/A.Mod"] = b"MODULE A; TYPE R0* = RECORD f*: SET END; " + types + b"END A."
+    return files
+
+
+def bases_through_modules(modules, form):
+    """Modules, each with a type that is told by that of the module before it, and a use of a name at it."""
+    files = {}
+    for it in range(modules):
+        import_of = b"IMPORT M%d; " % (it - 1) if it else b""
+        told = form % (it - 1) if it else b"RECORD f*: SET END"
+        files[f"t/M{it:04}.Mod"] = b"MODULE M%d; %sTYPE R* = %s; VAR v: R; BEGIN v.g := {} END M%d." % (it, import_of, told, it)
+    return files
+
+
+def hubs(each, between):
+    """A network of seven modules, each of which so many import, and, where there is something between, which import as many."""
+    lines = [b"import a0 b%05d 7\n" % it for it in range(each)]
+    lines += [b"import b%05d h%d 1\n" % (it, hub) for hub in range(7) for it in range(each)]
+    lines += [b"import h%d y%05d 1\n" % (hub, it) for hub in range(7) for it in range(each)] if between else [b"import h%d zz9 %d\n" % (hub, each) for hub in range(7)]
+    return {"t/net": b"".join(lines + [b"import y%05d zz9 7\n" % it for it in range(each)] * between)}
+
+
 def crossing(count):
     """Two modules, the first of which uses the second by so many aliases and in as many statements."""
     return {
@@ -456,6 +525,8 @@ GROWN = [
             "names of fields that fall together with their record": (lambda k: fields_of(together(k, "4:6")),),
             "names that fall together with the record in which they are sought": (lambda k: one(behind_a_base(together(k, "8:0", "4:11", bits=14))),),
             "types that fall together with their procedures": (inner_types,),
+            "types that begin in an eighth of a table, each a name of the last": (chained_types,),
+            "records that begin in an eighth of a table, each with the last as its base": (chained_records,),
             "pointers to records that are declared behind all": (lambda k: forward(many(20_000) * k),),
             "pointers in procedures to what no block declares": (lambda k: inner_forward(many(20_000) * k),),
             "aliases of a module that isn't in the tree": (lambda k: aliases(many(20_000) * k),),
@@ -464,6 +535,11 @@ GROWN = [
             "names of 200 letters": (lambda k: declared(long_names(many(5_000) * k)),),
             "modules that declare a few names": (lambda k: small_modules(many(2_048) * k, lambda it: ()),),
             "modules that declare a few names, each of which imports the one before it": (lambda k: small_modules(many(2_048) * k, lambda it: (it - 1,) if it else ()), 3.4),
+            "modules whose names fall together, each of which imports the one before it": (lambda k: chain_of(together(k, "each", part=1_024)), 3.4),
+            "modules whose names fall, each of which imports the one before it": (lambda k: chain_of([b"M%d" % (9_999 - it) for it in range(many(2_048) * k)]), 3.4),
+            "uses of 1,000 modules behind 10,000 bases of one": (lambda k: bases_of_one(many(500) * k, many(5_000) * k), 4.3),
+            "records through 2,048 modules, each with the last as its base": (lambda k: bases_through_modules(many(1_024) * k, b"RECORD (M%d.R) END"), 4.3),
+            "names of one record through 2,048 modules": (lambda k: bases_through_modules(many(1_024) * k, b"M%d.R"), 4.3),
             "190 parentheses in one another, again and again": (lambda k: one(b"MODULE M; BEGIN " + b"; ".join(many(400) * k * [190 * b"h(" + b"x" + 190 * b")"]) + b" END M."),),
         },
     ),
@@ -504,6 +580,15 @@ GROWN = [
         {
             "aliases of one module of a cut": (lambda k: crossing(many(20_000) * k),),
             "names that fall together beside a cut": (lambda k: exporting(together(k)),),
+            "modules whose names fall together, of which one imports the last by many aliases": (lambda k: renamed_modules(together(k, "text", part=2_000), many(25_000) * k),),
+        },
+    ),
+    (
+        ["cut-net", "t/net", "a0", "zz9"],
+        False,
+        {
+            "seven modules that 4,000 import, and that import 4,000": (lambda k: hubs(many(2_000) * k, 1),),
+            "seven modules that 8,000 import": (lambda k: hubs(many(4_000) * k, 0),),
         },
     ),
     (
