@@ -3,6 +3,7 @@
 //! Its contract: a small table has the seed of all texts, and a large one that which its text's digest gives; a name is hashed by its bytes at once. Of how keys spread no clause speaks.
 #![tactic(auto)]
 
+mod digest;
 mod name;
 mod seed;
 

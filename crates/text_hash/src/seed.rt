@@ -1,10 +1,11 @@
 //! The seed of a table's hashers.
 ghost use Rattle.std.specs.Prelude.{◌≡◌, ◌≤◌, ◌<◌, fold};
 ghost use Rattle.std.specs.Hash as fed;
-ghost use Rattle.std.specs.Hash.DefaultHasher as sip;
 ghost use Rattle.std.specs.Hash.FoldHasher as folding;
+ghost use Rattle.text_hash.specs.Digest.{digest};
 
-use std::hash::{BuildHasher, DefaultHasher, FoldHasher, Hasher};
+use crate::digest::digest;
+use std::hash::{BuildHasher, FoldHasher, Hasher};
 
 /// The most keys of a table that has the seed of all texts: so many that fall together are looked up in some hundred steps.
 const FEW: usize = 1024;
@@ -17,15 +18,13 @@ pub struct Seed {
 }
 
 impl Seed {
-    /// The seed that a text gives by its digest (SipHash-1-3; Aumasson and Bernstein 2012). It has no secret, but what an author writes so
-    /// that it falls together with one seed changes the seed.
+    /// The seed that a text gives by its digest. It has no secret, but what an author writes so that it falls together with one seed changes
+    /// the seed.
     fn of(text: &[u8]) -> Seed
-        ensures { result.hasher ≡ fold folding.write folding.initial (fed.u64 (sip.finish (sip.write sip.initial text.now))) }
+        ensures { result.hasher ≡ fold folding.write folding.initial (fed.u64 (digest text.now)) }
     {
-        let mut digest = DefaultHasher::new();
-        digest.write(text);
         let mut hasher = FoldHasher::default();
-        hasher.write_u64(digest.finish());
+        hasher.write_u64(digest(text));
         Seed { hasher }
     }
 
@@ -33,7 +32,7 @@ impl Seed {
     /// text's digest gives for a large one.
     pub fn for_keys(text: &[u8], count: usize) -> Seed
         ensures few { count ≤ 1024 → result.hasher ≡ folding.initial }
-        ensures many { 1024 < count → result.hasher ≡ fold folding.write folding.initial (fed.u64 (sip.finish (sip.write sip.initial text.now))) }
+        ensures many { 1024 < count → result.hasher ≡ fold folding.write folding.initial (fed.u64 (digest text.now)) }
     {
         if count > FEW {
             return Seed::of(text);
