@@ -11,10 +11,15 @@ use crate::NetFault;
 use crate::lines::{Line, line_in};
 use indexmap::{IndexMap, IndexSet};
 use std::alloc::{AllocError, AllocFailed, Global};
+use text_hash::Seed;
+use texts::fields::cut_at_byte;
 
 pub(crate) const MOST_NAMES: usize = 8192;
 
 pub(crate) const MOST_IMPORTS: usize = 65536;
+
+/// A line has at least so many bytes for each of its names.
+const BYTES_A_NAME: usize = 6;
 
 /// What is wrong with a line.
 pub(crate) enum NetLineFault {
@@ -66,14 +71,32 @@ impl<T: Drop> From<AllocFailed<T>> for NetLineFault {
 /// The names of the lines so far, and their imports with weights.
 #[derive(Drop)]
 pub(crate) struct NetDraft {
-    pub(crate) names: IndexSet<String>,
-    pub(crate) imports: IndexMap<(usize, usize), u64>,
+    pub(crate) names: IndexSet<String, Seed>,
+    pub(crate) imports: IndexMap<(usize, usize), u64, Seed>,
+}
+
+/// The bytes that are read into tables: none where the first line is bad, so that a text that begins so costs no digest and no slots.
+pub(crate) fn text_read(bytes: &[u8]) -> &[u8] {
+    let first = match cut_at_byte(bytes, b'\n') {
+        Some((piece, _)) => piece,
+        None => bytes,
+    };
+    if first.is_empty() || line_in(first).is_some() {
+        return bytes;
+    }
+    &bytes[..0]
+}
+
+/// The seed of the tables of a text: where names or imports were chosen to fall together with one seed, the text has another.
+pub(crate) fn seed_of(bytes: &[u8]) -> Seed {
+    let text = text_read(bytes);
+    Seed::for_keys(text, text.len() / BYTES_A_NAME)
 }
 
 /// The place of a name among those that came, where it is now if it is new.
 pub(crate) fn note_name(
     alloc: Global,
-    names: &mut IndexSet<String>,
+    names: &mut IndexSet<String, Seed>,
     name: &str,
 ) -> Result<usize, AllocError>
     ensures names { OnOk result (texts names.new.keys ≡ noted (texts names.old.keys) name.now) }
@@ -89,7 +112,7 @@ pub(crate) fn note_name(
 
 /// Puts an import behind the others, unless it is there; says whether it is there.
 fn put_import(
-    imports: &mut IndexMap<(usize, usize), u64>,
+    imports: &mut IndexMap<(usize, usize), u64, Seed>,
     ends: (usize, usize),
     weight: u64,
 ) -> Result<bool, NetLineFault>
@@ -103,13 +126,13 @@ fn put_import(
 }
 
 impl NetDraft {
-    /// The tables of no lines.
-    pub(crate) fn new(alloc: Global) -> NetDraft
+    /// The tables of no lines, with a seed.
+    pub(crate) fn new(alloc: Global, seed: Seed) -> NetDraft
         ensures { IsDraft [] result }
     {
         NetDraft {
-            names: IndexSet::new(alloc),
-            imports: IndexMap::new(alloc),
+            names: IndexSet::with_hasher(alloc, seed),
+            imports: IndexMap::with_hasher(alloc, seed),
         }
     }
 

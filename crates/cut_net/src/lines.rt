@@ -8,6 +8,7 @@ use texts::ahead::{amount_ahead, behind_byte, name_ahead};
 use texts::fields::{cut_at_byte, name_in, number_in};
 
 /// What a line says.
+#[derive(Drop)]
 pub(crate) enum Line<'a> {
     /// There is a module of this name.
     Module(&'a str),

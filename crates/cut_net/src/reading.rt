@@ -10,7 +10,7 @@ ghost use Rattle.cut_net.specs.Cuts.{Any, Imports};
 ghost use Rattle.cut_net.specs.WellFormed.{AreBetween, IsAcyclic};
 
 use crate::cycle::cycle_of;
-use crate::draft::NetDraft;
+use crate::draft::{NetDraft, seed_of};
 use crate::numbering::{fits, lists_of, names_at};
 use crate::straight::straight_lists;
 use crate::{Net, NetFault, Priced};
@@ -57,12 +57,13 @@ fn lists_in(alloc: Global, bytes: &[u8]) -> Result<(Vec<String>, Vec<Priced>), N
     ensures fault { IfErr result (λ fault. UnlessMemory fault (λ refusal. IsNetOutcome bytes.now (Err refusal))) }
 {
     // Where memory for these lists is refused, the tables tell the fault of a line all the same.
-    match straight_lists(alloc, bytes) {
+    let seed = seed_of(bytes);
+    match straight_lists(alloc, bytes, seed) {
         Ok(Some(lists)) => return Ok(lists),
         Err(NetFault::TwiceImport { line }) => return Err(NetFault::TwiceImport { line }),
         _ => {}
     }
-    let mut draft = NetDraft::new(alloc);
+    let mut draft = NetDraft::new(alloc, seed);
     lists_by(alloc, bytes, &mut draft)
 }
 

@@ -11,6 +11,7 @@ use crate::Priced;
 use crate::draft::note_name;
 use indexmap::IndexSet;
 use std::alloc::{AllocError, Global};
+use text_hash::Seed;
 
 /// There is a slot for so many bytes of a text, which have some three lines, up to a number of slots.
 const BYTES_A_SLOT: usize = 64;
@@ -80,7 +81,7 @@ fn slots_of(alloc: Global, count: usize) -> Vec<u16> {
 }
 
 /// The place, where this name stands there.
-fn place_if_same(names: &IndexSet<String>, at: usize, name: &str) -> Option<usize>
+fn place_if_same(names: &IndexSet<String, Seed>, at: usize, name: &str) -> Option<usize>
     ensures within { IfSome result (λ at. at < length (texts names.now.keys)) }
     ensures place { IfSome result (λ at. slice_index_or (texts names.now.keys) at [] ≡ name.now) }
 {
@@ -122,7 +123,7 @@ impl Recent {
     pub(crate) fn note(
         &mut self,
         alloc: Global,
-        names: &mut IndexSet<String>,
+        names: &mut IndexSet<String, Seed>,
         name: &str,
     ) -> Result<usize, AllocError>
         ensures names { OnOk result (texts names.new.keys ≡ noted (texts names.old.keys) name.now) }

@@ -9,7 +9,7 @@ ghost use Rattle.cut_net.specs.WellFormed.{AreBetween};
 ghost use Rattle.cut_net.specs.declared.straight.Stop.TheVariants.{Twice};
 ghost use Rattle.cut_net.specs.declared.straight.Filled.TheVariants as filled;
 
-use crate::draft::{MOST_IMPORTS, MOST_NAMES};
+use crate::draft::{MOST_IMPORTS, MOST_NAMES, text_read};
 use crate::lines::{Line, line_in, line_within};
 use crate::numbering::{numbers_of, put_in_order, renumbered, sorted};
 use crate::ordering::{is_ascending, seem_apart};
@@ -17,6 +17,7 @@ use crate::recent::{Met, Recent};
 use crate::{NetFault, Priced};
 use indexmap::IndexSet;
 use std::alloc::{AllocError, AllocFailed, Global};
+use text_hash::Seed;
 use texts::ahead::behind_byte;
 use texts::fields::cut_at_byte;
 
@@ -66,38 +67,25 @@ const FIRST_LOOK: usize = 4096;
 /// The names of the lines so far, and their imports by the places of the names.
 #[derive(Drop)]
 pub(crate) struct LineList {
-    pub(crate) names: IndexSet<String>,
+    pub(crate) names: IndexSet<String, Seed>,
     pub(crate) imports: Vec<Priced>,
     recent: Recent,
     met: Met,
-    /// How many bytes the text has.
-    bytes: usize,
     /// How many bytes are read before the imports are looked at.
     look: usize,
 }
 
 impl LineList {
-    /// The list of no lines, for those of a text of so many bytes.
-    fn new(alloc: Global, bytes: usize) -> LineList
+    /// The list of no lines, for those of a text of so many bytes, with a seed of the table of names.
+    fn new(alloc: Global, bytes: usize, seed: Seed) -> LineList
         ensures { IsList [] result }
     {
         LineList {
-            names: IndexSet::new(alloc),
+            names: IndexSet::with_hasher(alloc, seed),
             imports: Vec::new(alloc),
-            recent: Recent::new(alloc, 0),
-            met: Met::new(alloc, 0),
-            bytes,
+            recent: Recent::new(alloc, bytes),
+            met: Met::new(alloc, bytes),
             look: FIRST_LOOK,
-        }
-    }
-
-    /// Makes the slots with the first line, so that none are made for a text that begins with a bad one.
-    fn make_slots(&mut self, alloc: Global)
-        ensures { (lines : List NetLine) → IsList lines self.old → IsList lines self.new }
-    {
-        if self.names.is_empty() {
-            self.recent = Recent::new(alloc, self.bytes);
-            self.met = Met::new(alloc, self.bytes);
         }
     }
 
@@ -144,7 +132,6 @@ impl LineList {
         ensures listed { OnOk result ((before : List NetLine) → IsList before self.old → IsNetLine (line_said line.entry) → IsList (before ++ line_said line.entry ∷ []) self.new) }
         ensures twice { IfErr result (λ stop. stop ≡ Twice → (before : List NetLine) → IsList before self.old → IsRepeat before (line_said line.entry) self.new) }
     {
-        self.make_slots(alloc);
         match line {
             Line::Module(name) => self.add_module(alloc, name),
             Line::Import(importer, imported, weight) => {
@@ -303,13 +290,14 @@ fn ordered(alloc: Global, list: &LineList) -> Result<Option<(Vec<String>, Vec<Pr
 pub(crate) fn straight_lists(
     alloc: Global,
     bytes: &[u8],
+    seed: Seed,
 ) -> Result<Option<(Vec<String>, Vec<Priced>)>, NetFault>
     ensures text { IfOk result (λ found. IfSome found (λ lists. NetText bytes.now (net_of lists.0.items lists.1.items))) }
     ensures few_names { IfOk result (λ found. IfSome found (λ lists. length lists.0.items ≤ 8192)) }
     ensures few_imports { IfOk result (λ found. IfSome found (λ lists. length lists.1.items ≤ 65536)) }
     ensures fault { IfErr result (λ fault. UnlessMemory fault (λ refusal. IsNetOutcome bytes.now (Err refusal))) }
 {
-    let mut list = LineList::new(alloc, bytes.len());
+    let mut list = LineList::new(alloc, text_read(bytes).len(), seed);
     match fill(alloc, bytes, &mut list) {
         Filled::Whole => Ok(ordered(alloc, &list)?),
         Filled::Twice(line) => {

@@ -3,4 +3,4 @@ use Rattle.cut_net.proofs.Listed.{listed_none}
 use Rattle.cut_net.proofs.straight.LineList.new.Goals as goal
 
 pub returns : goal.returns
-returns c = rw (nil_from_length _ c.new.ensures.len, c.new-2.ensures.items) listed_none
+returns c = rw (nil_from_length _ c.with_hasher.ensures.len, c.new.ensures.items) listed_none
