@@ -1,7 +1,7 @@
 //! What a push or a relabel of a preflow would do.
-ghost use Rattle.std.specs.Prelude.{◌≡◌, ◌<◌, ◌≤◌, ◌↔◌, ℕ, Some, None, IfSome, IsNone, IsSome, true, length, if◌then◌else◌};
+ghost use Rattle.std.specs.Prelude.{◌≡◌, ◌*◌, ◌<◌, ◌≤◌, ◌↔◌, ℕ, All, Some, None, IfSome, IsNone, IsSome, true, false, length, if◌then◌else◌};
 ghost use Rattle.cut_preflow.specs.FlowGraphs.{IsArcFrom, out_arc_number};
-ghost use Rattle.cut_preflow.specs.Preflow.{applies, can_push, is_active, push_amount, relabel_target, smaller};
+ghost use Rattle.cut_preflow.specs.Preflow.{applies, can_push, count, is_active, push_amount, relabel_target, smaller, tail};
 ghost use Rattle.cut_preflow.specs.Kept.{IsQuiet};
 ghost use Rattle.cut_preflow.specs.Bound.{most_changes};
 ghost use Rattle.cut_preflow.specs.Trace.{carried_in, state_of};
@@ -73,14 +73,63 @@ impl PreflowCore {
         }
     }
 
-    /// Whether a push over an arc of an active node applies.
+    /// Whether a push over an arc of a node applies, where the node is active.
     fn can_push(&self, out: OutArc, node: u32) -> bool
         requires out { IsArcFrom (carried_in self.now.net (state_of self.now)) node out }
-        requires active { is_active self.now.net (state_of self.now) node ≡ true }
         requires node { node < self.now.net.nodes }
-        ensures { result ≡ can_push self.now.net (state_of self.now) (out_arc_number out) }
+        ensures { is_active self.now.net (state_of self.now) node ≡ true → result ≡ can_push self.now.net (state_of self.now) (out_arc_number out) }
     {
         out.residual > 0 && u64::from(self.label(node)) == u64::from(self.label(out.head)) + 1
+    }
+
+    /// How many arcs of a node may be passed by a push over this one of them: those that still are, and from there on those over which
+    /// no push goes, up to this one.
+    pub(crate) fn arcs_passed(&self, node: u32, arc: u32) -> usize
+        requires { node < self.now.net.nodes }
+    {
+        let outs = self.outs_from(node);
+        for place in self.passed(node)..outs.len() {
+            let out = outs[place];
+            if self.can_push(out, node) {
+                return place;
+            }
+            if out.step.arc == (arc / 2) as usize && out.step.forward == (arc % 2 == 0) {
+                return place + 1;
+            }
+        }
+        outs.len()
+    }
+
+    /// The first of these arcs of an active node over which a push applies.
+    fn first_push(&self, node: u32, outs: &[OutArc]) -> Option<u32>
+        requires each { All (IsArcFrom (carried_in self.now.net (state_of self.now)) node) outs.now }
+        requires active { is_active self.now.net (state_of self.now) node ≡ true }
+        requires node { node < self.now.net.nodes }
+        requires few { count self.now.net ≤ 65536 }
+        ensures some { IfSome result (λ arc. can_push self.now.net (state_of self.now) arc ≡ true) }
+        ensures none { IsNone result → All (λ out. can_push self.now.net (state_of self.now) (out_arc_number out) ≡ false) outs.now }
+    {
+        for out in outs {
+            if self.can_push(*out, node) {
+                return Some(arc_number(out.step));
+            }
+        }
+        None
+    }
+
+    /// The first arc of an active node over which a push applies: first of those that aren't passed.
+    fn push_from(&self, node: u32) -> Option<u32>
+        requires active { is_active self.now.net (state_of self.now) node ≡ true }
+        requires node { node < self.now.net.nodes }
+        ensures some { IfSome result (λ arc. can_push self.now.net (state_of self.now) arc ≡ true) }
+        ensures none { IsNone result → (a : ℕ) → a < 2 * count self.now.net → tail self.now.net a ≡ node → can_push self.now.net (state_of self.now) a ≡ false }
+    {
+        let outs = self.outs_from(node);
+        let (passed, ahead) = outs.split_at(self.passed(node).min(outs.len()));
+        match self.first_push(node, ahead) {
+            Some(arc) => Some(arc),
+            None => self.first_push(node, passed),
+        }
     }
 
     /// A step that applies, unless the preflow is quiet: a push of an active node, or else its relabel.
@@ -92,13 +141,9 @@ impl PreflowCore {
         let node = self.next_node()?;
         self.keeps();
         let _ = self.history();
-        for out in self.outs_from(node) {
-            if self.can_push(*out, node) {
-                return Some(Step::Push {
-                    arc: arc_number(out.step),
-                });
-            }
+        match self.push_from(node) {
+            Some(arc) => Some(Step::Push { arc }),
+            None => Some(Step::Relabel { node }),
         }
-        Some(Step::Relabel { node })
     }
 }

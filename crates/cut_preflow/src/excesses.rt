@@ -6,6 +6,7 @@ ghost use Rattle.cut_preflow.specs.Indexed.{AreActive, brought, carried};
 
 use crate::ends::Ends;
 use crate::node_set::NodeSet;
+use crate::tour::Tour;
 use cut_net::Priced;
 use std::alloc::{AllocError, Global};
 
@@ -91,11 +92,12 @@ fn saturate(ends: Ends, imports: &[Priced], excesses: &mut Vec<u64>, active: &mu
     }
 }
 
-/// The excess of each node at the opening, and the active nodes. Fails where memory is refused.
+/// The excess of each node at the opening, and the active nodes, with their tour. Fails where memory is refused.
 pub(crate) fn excesses_opened(
     alloc: Global,
     ends: Ends,
     imports: &[Priced],
+    tour: Tour,
 ) -> Result<Excesses, AllocError>
     requires nodes { (i : ℕ) → i < length imports.now → (import_in imports.now i).to < ends.nodes }
     requires weights { total (length imports.now) (λ i. (import_in imports.now i).amount) < 2 ^ 64 }
@@ -103,7 +105,7 @@ pub(crate) fn excesses_opened(
     ensures active { IfOk result (λ e. AreActive ends e.each.items e.active) }
 {
     let mut each = vec![in alloc; 0u64; ends.nodes as usize]?;
-    let mut active = NodeSet::new(alloc, ends.nodes)?;
+    let mut active = NodeSet::new(alloc, ends.nodes, tour)?;
     saturate(ends, imports, &mut each, &mut active);
     Ok(Excesses { each, active })
 }

@@ -81,7 +81,9 @@ impl FlowGraph {
     }
 
     /// The nodes in an order along the imports.
-    pub(crate) fn order(&self, alloc: Global) -> Result<Vec<u32>, AllocError> {
+    pub(crate) fn order(&self, alloc: Global) -> Result<Vec<u32>, AllocError>
+        ensures { IfOk result (λ order. All (λ v. v < self.now.nodes) order.items) }
+    {
         order_of(alloc, &self.graph)
     }
 

@@ -4,11 +4,13 @@
 #![tactic(auto)]
 
 mod admissible;
+mod current_arcs;
 mod ends;
 mod event;
 mod excesses;
 mod flow_graph;
 pub mod laws;
+mod marks;
 mod node_set;
 mod preflow;
 mod preflow_core;

@@ -3,16 +3,18 @@ ghost use Rattle.std.specs.Prelude.{◌≡◌, ◌<◌, ℕ, true, false, IfOk, 
 ghost use Rattle.std.specs.List.{range_with_len};
 ghost use Rattle.cut_preflow.specs.NodeSets.{AreInverse, exchanged};
 
+use crate::tour::Tour;
 use std::alloc::{AllocError, Global};
 use std::marker::Model;
 
-/// A set of the nodes of a network. Contracts see for each node whether it is a member. It has all nodes in an order of which the
-/// first are the members, and the place of each node in that order.
+/// A set of the nodes of a network, whose members take turns. Contracts see for each node whether it is a member. It has all nodes in an
+/// order of which the first are the members, and the place of each node in that order; and the tour, in which the members have turns.
 #[derive(Drop)]
 pub(crate) struct NodeSet {
     order: Vec<u32>,
     place: Vec<u32>,
     size: u32,
+    tour: Tour,
 }
 
 impl Model for NodeSet {
@@ -50,14 +52,15 @@ fn exchange(order: &mut [u32], place: &mut [u32], first: u32, second: u32)
 }
 
 impl NodeSet {
-    /// The empty set of this many nodes. Fails where memory is refused.
-    pub(crate) fn new(alloc: Global, nodes: u32) -> Result<NodeSet, AllocError>
+    /// The empty set of this many nodes, with a tour in which none has turns. Fails where memory is refused.
+    pub(crate) fn new(alloc: Global, nodes: u32, tour: Tour) -> Result<NodeSet, AllocError>
         ensures { IfOk result (λ s. s ≡ replicate nodes false) }
     {
         Ok(NodeSet {
             order: numbers(alloc, nodes)?,
             place: numbers(alloc, nodes)?,
             size: 0,
+            tour,
         })
     }
 
@@ -75,6 +78,7 @@ impl NodeSet {
                 self.size,
             );
             self.size += 1;
+            self.tour.enter(node);
         }
     }
 
@@ -93,6 +97,7 @@ impl NodeSet {
                 last,
             );
             self.size = last;
+            self.tour.leave(node);
         }
     }
 
@@ -105,5 +110,17 @@ impl NodeSet {
             return None;
         }
         Some(self.order[(self.size - 1) as usize])
+    }
+
+    /// Goes on to a member's turn, if one has turns.
+    pub(crate) fn go_on(&mut self)
+        ensures { self.new ≡ self.old }
+    {
+        self.tour.go_on();
+    }
+
+    /// The node whose turn it is, a member where one has turns.
+    pub(crate) fn turn(&self) -> Option<u32> {
+        self.tour.node()
     }
 }

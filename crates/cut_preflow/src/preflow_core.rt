@@ -8,6 +8,7 @@ ghost use Rattle.cut_preflow.specs.Flows.{AreEnds, AreNear, AreReached, HasFlow,
 ghost use Rattle.cut_preflow.specs.Side.{has};
 ghost use Rattle.cut_preflow.specs.Trace.{carried_in, state_of, step_outcome, history_after, IsSound, IsWithinLimits, flow_network};
 
+use crate::current_arcs::CurrentArcs;
 use crate::ends::Ends;
 use crate::excesses::{excesses_opened, move_excess};
 use crate::flow_graph::FlowGraph;
@@ -22,7 +23,7 @@ use std::marker::Model;
 /// A preflow on a network between two of its modules (Goldberg and Tarjan 1988, section 3): a flow for each import and a label for each
 /// module, with the events that were applied. Contracts see the network and the events: flows and labels are what these lead to.
 /// The imports and their flows are a residual graph, in which the arcs of a node stand together, so a step goes over these alone. It also
-/// has the excess of each node but the source, and the nodes that are active; and an order in which these take their turns.
+/// has the excess of each node but the source, the nodes that are active with the tour of their turns, and the current arc of each node.
 #[derive(Drop)]
 pub(crate) struct PreflowCore {
     ends: Ends,
@@ -31,7 +32,7 @@ pub(crate) struct PreflowCore {
     history: Vec<Event>,
     excesses: Vec<u64>,
     active: NodeSet,
-    tour: Tour,
+    current: CurrentArcs,
 }
 
 impl Model for PreflowCore {
@@ -64,7 +65,9 @@ fn before_turns(alloc: Global, ends: Ends, imports: Vec<Priced>) -> Result<Prefl
     let graph = FlowGraph::opened(alloc, ends, imports.as_slice())?;
     let labels = opening_labels(alloc, ends)?;
     let order = graph.order(alloc)?;
-    let excesses = excesses_opened(alloc, ends, imports.as_slice())?;
+    let tour = Tour::through(alloc, order, ends.nodes)?;
+    let excesses = excesses_opened(alloc, ends, imports.as_slice(), tour)?;
+    let current = CurrentArcs::new(alloc, ends.nodes)?;
     Ok(PreflowCore {
         ends,
         graph,
@@ -72,7 +75,7 @@ fn before_turns(alloc: Global, ends: Ends, imports: Vec<Priced>) -> Result<Prefl
         history: Vec::new(alloc),
         excesses: excesses.each,
         active: excesses.active,
-        tour: Tour::through(order),
+        current,
     })
 }
 
@@ -122,11 +125,12 @@ impl PreflowCore {
         ensures state { result ≢ Outcome.Refused → state_of self.new ≡ after self.old.net (state_of self.old) event.step }
     {
         let outcome = self.take(event);
+        self.pass_arcs(event.step);
         self.go_on();
         outcome
     }
 
-    /// The same, with the turn left as it is.
+    /// The same, with the turn and the arcs that are passed left as they are.
     fn take(&mut self, event: Event) -> Outcome
         ensures stale { (result ≡ Outcome.Stale) ↔ (applies self.old.net (state_of self.old) event.step ≡ false) }
         ensures outcome { result ≢ Outcome.Refused → result ≡ step_outcome self.old.net (state_of self.old) event.step }
@@ -143,19 +147,34 @@ impl PreflowCore {
     fn go_on(&mut self)
         ensures { self.new ≡ self.old }
     {
-        for _ in 0..self.tour.len() {
-            if self.turn().is_some() {
-                return;
-            }
-            self.tour.go_on();
+        self.active.go_on();
+    }
+
+    /// After a push, passes arcs of the node that it left from.
+    fn pass_arcs(&mut self, step: Step)
+        ensures { self.new ≡ self.old }
+    {
+        let Step::Push { arc } = step else {
+            return;
+        };
+        if (arc / 2) as usize >= self.graph.count() {
+            return;
         }
+        let node = self.tail(arc);
+        let passed = self.arcs_passed(node, arc);
+        self.current.pass(node, passed);
+    }
+
+    /// How many arcs of a node were passed since its last relabel, by their order.
+    pub(crate) fn passed(&self, node: u32) -> usize {
+        self.current.passed(node)
     }
 
     /// The node whose turn it is, where it is active.
     fn turn(&self) -> Option<u32>
         ensures { IfSome result (λ v. is_active self.now.net (state_of self.now) v ≡ true) }
     {
-        let node = self.tour.node()?;
+        let node = self.active.turn()?;
         if self.is_active(node) {
             Some(node)
         } else {
@@ -362,6 +381,7 @@ impl PreflowCore {
         };
         let at = node as usize;
         self.labels[at] = label;
+        self.current.pass(node, 0);
         Outcome::Raised { label }
     }
 }

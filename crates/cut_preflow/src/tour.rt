@@ -1,21 +1,33 @@
 //! The order in which nodes take their turns. No clause says it: it decides how many steps a preflow takes.
+ghost use Rattle.std.specs.Prelude.{◌<◌, All};
 
-/// The nodes of a network, of which it is one's turn.
+use crate::marks::Marks;
+use cut_residual::places_of;
+use std::alloc::{AllocError, Global};
+
+/// The nodes of a network in an order, with the place of each, marks of those that have turns, and the place of which it is one's turn.
 #[derive(Drop)]
 pub(crate) struct Tour {
     nodes: Vec<u32>,
+    places: Vec<u32>,
+    marks: Marks,
     at: usize,
 }
 
 impl Tour {
-    /// The nodes in this order. Where it goes along the imports, what comes to a node comes before its turn, where no flow has to go back.
-    pub(crate) fn through(nodes: Vec<u32>) -> Tour {
-        Tour { nodes, at: 0 }
-    }
-
-    /// How many nodes have turns.
-    pub(crate) fn len(&self) -> usize {
-        self.nodes.len()
+    /// The nodes in this order, of which none has turns yet. Where it goes along the imports, what comes to a node comes before its turn,
+    /// where no flow has to go back. Fails where memory is refused.
+    pub(crate) fn through(alloc: Global, order: Vec<u32>, nodes: u32) -> Result<Tour, AllocError>
+        requires { All (λ v. v < nodes) order.items }
+    {
+        let places = places_of(alloc, &order, nodes)?;
+        let marks = Marks::new(alloc, order.len())?;
+        Ok(Tour {
+            nodes: order,
+            places,
+            marks,
+            at: 0,
+        })
     }
 
     /// The node whose turn it is.
@@ -23,9 +35,35 @@ impl Tour {
         self.nodes.get(self.at).copied()
     }
 
-    /// Goes on to the next node, and from the last to the first.
+    /// Where a node stands, if it has a place: on a way round it has none.
+    fn place(&self, node: u32) -> Option<usize> {
+        let place = self.places.get(node as usize).copied()? as usize;
+        let stands = self.nodes.get(place).copied()?;
+        if stands == node { Some(place) } else { None }
+    }
+
+    /// Gives a node turns.
+    pub(crate) fn enter(&mut self, node: u32) {
+        if let Some(place) = self.place(node) {
+            self.marks.put(place);
+        }
+    }
+
+    /// Takes its turns from a node.
+    pub(crate) fn leave(&mut self, node: u32) {
+        if let Some(place) = self.place(node) {
+            self.marks.take(place);
+        }
+    }
+
+    /// Goes on to the next node that has turns, from where it is, and from the last to the first. Where none has, it stays.
     pub(crate) fn go_on(&mut self) {
-        let next = self.at.saturating_add(1);
-        self.at = if next < self.nodes.len() { next } else { 0 };
+        if let Some(place) = self.marks.next(self.at) {
+            self.at = place;
+            return;
+        }
+        if let Some(place) = self.marks.next(0) {
+            self.at = place;
+        }
     }
 }

@@ -17,8 +17,8 @@ invariant_of-result c =
     let state : record { flow = opening_flows ends.source imports; label = c.in_ok-labels.labels.items } ≡ opening net = λ i. record { flow = opening_flows ends.source imports; label = labels i } in
     let at = opening_indexed ends imports ends.nodes c.in_ok-excesses.excesses.each.items c.in_ok-excesses.excesses.active refl
     (λ v ne. c.in_ok-excesses.ensures.each v ne ∙ ap (λ xs. into xs (opening_flows ends.source xs) v) c.as_slice-2.ensures.value) c.in_ok-excesses.ensures.active in
-    subst (λ (g : Carried). IsTrace (flow_network ends g.imports) g.flow c.in_ok-labels.labels.items c.new.result.items × IsIndexed (flow_network ends g.imports) (state_with g.flow c.in_ok-labels.labels.items) g.nodes c.in_ok-excesses.excesses.each.items c.in_ok-excesses.excesses.active) (sym opened)
-    (rw (c.new.ensures.items) (
+    subst (λ (g : Carried). IsTrace (flow_network ends g.imports) g.flow c.in_ok-labels.labels.items c.new-2.result.items × IsIndexed (flow_network ends g.imports) (state_with g.flow c.in_ok-labels.labels.items) g.nodes c.in_ok-excesses.excesses.each.items c.in_ok-excesses.excesses.active) (sym opened)
+    (rw (c.new-2.ensures.items) (
       (record { network = c.requires.network; limits = c.requires.limits; flows_are = refl; labels_are = labels; legal = refl }),
       (subst (λ s. IsIndexed net s ends.nodes c.in_ok-excesses.excesses.each.items c.in_ok-excesses.excesses.active) (sym state) at),
     ))

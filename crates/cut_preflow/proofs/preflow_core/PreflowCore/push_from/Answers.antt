@@ -1,0 +1,40 @@
+use Rattle.std.proofs.Common.{◌≡◌, ◌∙◌, ◌<◌, ◌+◌, ℕ, List, false, get_or, map, length, refl, sym, ap, subst, arith}
+use Rattle.std.specs.Prelude.{All, Contains}
+use Rattle.std.proofs.lemmas.List.{get_or-drop, get_or-map, get_or-take, length-map}
+use Rattle.std.proofs.lemmas.List.Elements.{All-append}
+use Rattle.cut_residual.specs.declared.arc.OutArc.{OutArc}
+use Rattle.cut_residual.specs.OutArcs.{no_out_arc}
+use Rattle.cut_preflow.specs.FlowGraphs.{IsArcFrom, out_arc_number}
+use Rattle.cut_preflow.specs.Preflow.{can_push}
+use Rattle.cut_preflow.specs.Trace.{carried_in, state_of}
+use Rattle.cut_preflow.proofs.preflow_core.PreflowCore.push_from.Goals as goal
+
+-- what is so of each arc's number is so of each number
+of_number : (P : ℕ → Type 0) (outs : List OutArc) → All (λ out. P (out_arc_number out)) outs → (a : ℕ) → Contains (map out_arc_number outs) a → P a
+of_number P outs each a (j, in_map, at) =
+    let len = length-map outs out_arc_number in
+    let in_outs : j < length outs = omega arith in
+    subst P (sym (get_or-map out_arc_number outs j no_out_arc a in_outs) ∙ at) (each j no_out_arc in_outs)
+
+pub first_push-requires-clause-each : goal.first_push-requires-clause-each
+first_push-requires-clause-each c k d low =
+    let outs = c.outs_from-outs.result.now in
+    let within : c.min.result + k < length outs = omega (arith, low, c.split_at.ensures.back_len) in
+    subst (IsArcFrom (carried_in c.args.self.now.net (state_of c.args.self.now)) c.args.node)
+    (sym (ap (λ xs. get_or xs k d) c.split_at.ensures.back ∙ get_or-drop c.min.result outs k d))
+    (c.outs_from-outs.ensures.each (c.min.result + k) d within)
+
+pub first_push-requires-in-None-clause-each : goal.first_push-requires-in-None-clause-each
+first_push-requires-in-None-clause-each c k d low =
+    let outs = c.outs_from-outs.result.now in
+    let mid : k < c.min.result = omega (arith, low, c.split_at.ensures.front_len) in
+    let within : k < length outs = omega (arith, mid, c.split_at.ensures.back_len) in
+    subst (IsArcFrom (carried_in c.args.self.now.net (state_of c.args.self.now)) c.args.node)
+    (sym (ap (λ xs. get_or xs k d) c.split_at.ensures.front ∙ get_or-take c.min.result outs k d mid))
+    (c.outs_from-outs.ensures.each k d within)
+
+pub returns-in-None-clause-none : goal.returns-in-None-clause-none
+returns-in-None-clause-none c none a low leaves =
+    let rests = λ (n : ℕ). can_push c.args.self.now.net (state_of c.args.self.now) n ≡ false in
+    let both = All-append (λ out. rests (out_arc_number out)) c.split_at.result.0.now c.split_at.result.1.now (c.first_push-in-None.ensures.none none) (c.in-None.ensures.none refl) in
+    of_number rests c.outs_from-outs.result.now (subst (All (λ out. rests (out_arc_number out))) (sym c.split_at.ensures.by_index.0) both) a ((c.outs_from-outs.ensures.arcs a).1 (low, leaves))
