@@ -1,5 +1,5 @@
 -- Records and their bases.
-use Rattle.std.proofs.Common.{◌≡◌, ℕ, zero, suc, ◌+◌, List, [], Bool, true, false, Option, Some, None, refl, sym, ap, ◌∙◌, subst, arith, cond, Bor}
+use Rattle.std.proofs.Common.{◌≡◌, ℕ, zero, suc, ◌+◌, List, [], Bool, true, false, Option, Some, None, refl, sym, ap, ◌∙◌, subst, arith, cond, Bor, ◌⊎◌, inl, inr}
 use Rattle.std.specs.Map.{lookup}
 use Rattle.std.specs.Option.{option_copied}
 use Rattle.std.specs.Str.{bytes_eq}
@@ -12,8 +12,11 @@ use Rattle.std.proofs.lemmas.List.Folds.{Any-from_list_any}
 use Rattle.text_hash.specs.declared.name.Name.{Name}
 use Rattle.type_search.specs.declared.shape.Shape.{Shape}
 use Rattle.type_search.specs.Searches.{IsMetAgain}
+use Rattle.type_search.specs.declared.kept.Kept.{Kept}
+use Rattle.type_search.specs.Keeping.{IsKept, Adds}
 use Rattle.type_search.specs.Leading.{IsTypeEnd, TypeLeadsTo}
-use Rattle.type_search.specs.Extending.{shape_record, base_field, marked, own_field, risen, came_back, unmarked, Extends, Has, HasField, AreAbove, AreFieldsOf, AreFound, IsAbove, IsFieldIn, IsNextAbove, IsPassed, Lacks, LeadsToRecord, IsRecordOf, Rises, nowhere, higher, Use, same_use}
+use Rattle.type_search.specs.Progress.{marked, unmarked, IsPassed}
+use Rattle.type_search.specs.Extending.{shape_record, base_field, own_field, risen, came_back, Extends, Has, HasField, AreAbove, AreFieldsOf, AreFound, IsAbove, IsFieldIn, IsNextAbove, Lacks, LeadsToRecord, IsRecordOf, Rises, nowhere, higher, Use, same_use}
 use Rattle.type_search.proofs.Leading.{leads_to_once}
 
 -- what holds anyway holds of what there is
@@ -225,26 +228,21 @@ module _ {N D R : Type 0} (shape : N → Shape N D R) where
 
   -- ---- what is kept
 
-  module _ (base : R → Option N) {S : Type 0} (same : R → R → Bool) (apart : (r s : R) → same r s ≡ true → r ≡ s) where
-    pub above_more : (old new : IndexMap R (Option R) S) (r : R) (o : Option R) → AreAbove shape base same old →
-        ((s : R) → get same new s ≡ cond (same r s) (Some o) (get same old s)) → IsAbove shape base r o → AreAbove shape base same new
-    above_more old new r o are adds is = record { each = λ s v e. at s v (same r s) refl (sym (adds s) ∙ e) }
+  module _ (base : R → Option N) (same : R → R → Bool) (apart : (r s : R) → same r s ≡ true → r ≡ s) where
+    pub above_more : (old new : Kept R (Option R)) (r : R) (o : Option R) → AreAbove shape base same old → Adds same r o old new → IsAbove shape base r o → AreAbove shape base same new
+    above_more old new r o are adds is = record { each = λ s v told. at s v (adds s v told) }
       where
-        at : (s : R) (v : Option R) (b : Bool) → same r s ≡ b → cond b (Some o) (get same old s) ≡ Some v → IsAbove shape base s v
-        at s v false t e = are.each s v e
-        at s v true t e =
-            let one : o ≡ v = cc in
-            subst (λ (x : Option R). IsAbove shape base s x) one (subst (λ (x : R). IsAbove shape base x o) (apart r s t) is)
+        at : (s : R) (v : Option R) → IsKept same old s v ⊎ ((same r s ≡ true) × (o ≡ v)) → IsAbove shape base s v
+        at s v (inl told) = are.each s v told
+        at s v (inr one) =
+            subst (λ (x : Option R). IsAbove shape base s x) one.1 (subst (λ (x : R). IsAbove shape base x o) (apart r s one.0) is)
 
-    pub above_all : (old new : IndexMap R (Option R) S) → new.entries ≡ old.entries → AreAbove shape base same old → AreAbove shape base same new
-    above_all old new e are = record { each = λ r o is. are.each r o (sym (ap (lookup (same r)) e) ∙ is) }
-
-    pub above_none : (kept : IndexMap R (Option R) S) → kept.entries ≡ [] → AreAbove shape base same kept
-    above_none kept e = record { each = λ r o is. absurd (let f : None ≡ Some o = sym (ap (lookup (same r)) e) ∙ is in cc) }
+    pub above_none : (kept : Kept R (Option R)) → ((r : R) (o : Option R) → IsKept same kept r o → ⊥) → AreAbove shape base same kept
+    above_none kept empty = record { each = λ r o told. absurd (empty r o told) }
 
     -- what is told of a record by what is kept
-    pub above_is : (kept : IndexMap R (Option R) S) (r : R) (v : Option (Bor (Option R))) (o : Bor (Option R)) → AreAbove shape base same kept → option_copied v ≡ get same kept r → v ≡ Some o → IsAbove shape base r o.now
-    above_is kept r v o are e is = are.each r o.now (sym (sym (ap option_copied is) ∙ e))
+    pub above_is : (kept : Kept R (Option R)) (r : R) (v : Option (Option R)) (o : Option R) → AreAbove shape base same kept → IfSome v (IsKept same kept r) → v ≡ Some o → IsAbove shape base r o
+    above_is kept r v o are told is = are.each r o (subst (λ (x : Option (Option R)). IfSome x (IsKept same kept r)) is told)
 
   module _ (base : R → Option N) {F S : Type 0} (field : R → List ℕ → Option F) (same : R → R → Bool) (apart : (r s : R) → same r s ≡ true → r ≡ s) where
     pub found_more : (old new : IndexMap (Use shape base) (Option F) S) (r : R) (name : Name) (o : Option F) → AreFound shape base field same old →

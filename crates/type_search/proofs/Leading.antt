@@ -1,16 +1,17 @@
 -- Types that lead to others.
-use Rattle.std.proofs.Common.{◌∷◌, [], ◌≡◌, ℕ, zero, suc, ◌+◌, List, Bool, true, false, cond, Option, Some, None, refl, sym, ap, ◌∙◌, subst, arith, ◌⊎◌, inl, inr, ◌-◌, ◌*◌, ◌^◌, ◌<◌, length, length-append}
+use Rattle.std.specs.Prelude.{IfSome}
+use Rattle.std.proofs.Common.{[], ◌≡◌, ℕ, zero, suc, ◌+◌, List, Bool, true, false, cond, Option, Some, None, refl, sym, ap, ◌∙◌, subst, arith, ◌⊎◌, inl, inr, ◌-◌, ◌*◌, ◌^◌, ◌<◌}
 use Rattle.std.proofs.Math.Nat.{mul_comm}
 use Rattle.std.proofs.lemmas.Nat.{mul-add-lt}
-use Rattle.std.specs.List.{All}
-use Rattle.std.specs.Map.{lookup}
+use Rattle.std.specs.List.{All, list_any}
 use Rattle.std.proofs.lemmas.List.Elements.{All-push}
 use Rattle.std.proofs.lemmas.List.Folds.{Any-from_list_any}
-use Rattle.indexmap.specs.IndexMap.{get, IndexMap}
+use Rattle.type_search.specs.declared.kept.Kept.{Kept}
 use Rattle.type_search.specs.declared.shape.Shape.{Shape}
 use Rattle.type_search.specs.declared.shape.Shape.TheVariants as shapes
 use Rattle.type_search.specs.Leading.{next_of, ends, on, AreEnded, AreTypeEnds, IsTypeEnd, IsTypeEndOf, TypeLeads, TypeLeadsTo}
-use Rattle.type_search.specs.Searches.{IsMet, IsMetAgain, IsNewlyMet}
+use Rattle.type_search.specs.Keeping.{IsKept, Adds}
+use Rattle.type_search.specs.Progress.{marked, unmarked, IsPassed}
 
 -- fewer declarations are left, whatever the depth
 fewer : (k j h x y : ℕ) → k < j → x < h → k * h + x < j * h + y
@@ -20,12 +21,8 @@ fewer k j h x y l m =
     omega (arith, s, t)
 
 -- so each name leaves less to do
-pub met_less : {D : Type 0} (same : D → D → Bool) (met after : List D) (d : D) (b : Bool) (h x y : ℕ) → b ≡ true → IsMet same d met after b → x < h → (2 ^ 63 - length after) * h + x < (2 ^ 63 - length met) * h + y
-met_less same met after d b h x y is noted deep =
-    let fresh : IsNewlyMet same d met after = subst (IsMet same d met after) is noted in
-    let few : length met < 2 ^ 63 = fresh.few in
-    let grown : length after ≡ length met + 1 = ap length fresh.last ∙ length-append met (d ∷ []) in
-    fewer (2 ^ 63 - length after) (2 ^ 63 - length met) h x y (omega (arith, grown, few)) deep
+pub passed_less : (before after h x y : ℕ) → before < after → after < 2 ^ 65 → x < h → (2 ^ 65 - after) * h + x < (2 ^ 65 - before) * h + y
+passed_less before after h x y goes_on few deep = fewer (2 ^ 65 - after) (2 ^ 65 - before) h x y (omega (arith, goes_on, few)) deep
 
 module _ {N D R : Type 0} (shape : N → Shape N D R) (pointers : Bool) where
   -- a type leads to one, in one number of steps
@@ -95,87 +92,82 @@ module _ {N D R : Type 0} (shape : N → Shape N D R) (pointers : Bool) where
 
   module _ (same : D → D → Bool) (named : (n m x y : N) (c d : D) → shape n ≡ shapes.Named c x → shape m ≡ shapes.Named d y → same c d ≡ true → x ≡ y) where
     -- a declaration was passed on the way to this type
-    pub record IsPassed (node : N) (d : D) : Type 0 where
+    pub record IsBehind (node : N) (d : D) : Type 0 where
       pub of : N
       pub next : N
       pub is : shape of ≡ shapes.Named d next
       pub steps : ℕ
       pub passes : Passes steps next node
 
-    -- a walk from the first type has come to the second
-    pub record Walks (from node : N) (met : List D) : Type 0 where
+    -- a walk from the first type has come to the second, and passed these declarations
+    pub record Walks (from node : N) (passed : List D) : Type 0 where
       pub steps : ℕ
       pub passes : Passes steps from node
-      pub each : All (IsPassed node) met
+      pub each : All (IsBehind node) passed
 
-    pub walks_nowhere : (from : N) (met : List D) → met ≡ [] → Walks from from met
-    walks_nowhere from met e = record { steps = zero; passes = none; each = subst (λ (ds : List D). All (IsPassed from) ds) (sym e) (λ k d l. absurd (omega (arith, l))) }
+    pub walks_nowhere : (from : N) (passed : List D) → passed ≡ [] → Walks from from passed
+    walks_nowhere from passed e = record { steps = zero; passes = none; each = subst (λ (ds : List D). All (IsBehind from) ds) (sym e) (λ k d l. absurd (omega (arith, l))) }
 
-    passed_on : (node next : N) → next_of pointers (shape node) ≡ Some next → (d : D) → IsPassed node d → IsPassed next d
-    passed_on node next e d p = record { of = p.of; next = p.next; is = p.is; steps = suc p.steps; passes = more p.passes e }
+    behind_on : (node next : N) → next_of pointers (shape node) ≡ Some next → (d : D) → IsBehind node d → IsBehind next d
+    behind_on node next e d p = record { of = p.of; next = p.next; is = p.is; steps = suc p.steps; passes = more p.passes e }
 
     -- one pointer more
-    pub walks_on : (from node next : N) (met : List D) → next_of pointers (shape node) ≡ Some next → Walks from node met → Walks from next met
-    walks_on from node next met e w = record { steps = suc w.steps; passes = more w.passes e; each = λ k d l. passed_on node next e _ (w.each k d l) }
+    pub walks_on : (from node next : N) (passed : List D) → next_of pointers (shape node) ≡ Some next → Walks from node passed → Walks from next passed
+    walks_on from node next passed e w = record { steps = suc w.steps; passes = more w.passes e; each = λ k d l. behind_on node next e _ (w.each k d l) }
 
     -- one name more
-    pub walks_through : (from node next : N) (met after : List D) (d : D) (b : Bool) → shape node ≡ shapes.Named d next → b ≡ true → IsMet same d met after b → Walks from node met → Walks from next after
-    walks_through from node next met after d b e is noted w =
-        let fresh : IsNewlyMet same d met after = subst (IsMet same d met after) is noted in
-        let led : next_of pointers (shape node) ≡ Some next = ap (next_of pointers) e in
-        let here : IsPassed next d = record { of = node; next = next; is = e; steps = zero; passes = none } in
+    pub walks_through : (from node next : N) (before after : List D) (d : D) → shape node ≡ shapes.Named d next → IsPassed d before after → Walks from node before → Walks from next after
+    walks_through from node next before after d is (marked e) w =
+        let led : next_of pointers (shape node) ≡ Some next = ap (next_of pointers) is in
+        let here : IsBehind next d = record { of = node; next = next; is = is; steps = zero; passes = none } in
         record {
           steps = suc w.steps;
           passes = more w.passes led;
-          each = subst (λ (ds : List D). All (IsPassed next) ds) (sym fresh.last) (All-push (IsPassed next) met d (λ k c l. passed_on node next led _ (w.each k c l)) here);
+          each = subst (λ (ds : List D). All (IsBehind next) ds) (sym e) (All-push (IsBehind next) before d (λ k c l. behind_on node next led _ (w.each k c l)) here);
         }
+    walks_through from node next before after d is (unmarked e) w =
+        subst (λ (ds : List D). Walks from next ds) (sym e) (walks_on from node next before (ap (next_of pointers) is) w)
 
-    passed_ends : (node : N) (end : Option N) → IsTypeEnd shape pointers node end → (d : D) → IsPassed node d → IsTypeEndOf shape pointers same end d
+    passed_ends : (node : N) (end : Option N) → IsTypeEnd shape pointers node end → (d : D) → IsBehind node d → IsTypeEndOf shape pointers same end d
     passed_ends node end e d p c n m is_same is =
         let one : p.next ≡ m = named p.of n p.next m d c p.is is is_same in
         subst (λ (x : N). IsTypeEnd shape pointers x end) one (same_end p.steps p.next node end p.passes e)
 
     -- where the last leads all lead that were passed
-    pub ended : (from node : N) (met : List D) (end : Option N) → Walks from node met → IsTypeEnd shape pointers node end → AreEnded shape pointers same from met end
-    ended from node met end w e = record { is = same_end w.steps from node end w.passes e; each = λ k d l. passed_ends node end e _ (w.each k d l) }
+    pub ended : (from node : N) (passed : List D) (end : Option N) → Walks from node passed → IsTypeEnd shape pointers node end → AreEnded shape pointers same from passed end
+    ended from node passed end w e = record { is = same_end w.steps from node end w.passes e; each = λ k d l. passed_ends node end e _ (w.each k d l) }
 
     -- a type that leads no further
-    pub ended_here : (from node : N) (met : List D) → next_of pointers (shape node) ≡ None → Walks from node met → AreEnded shape pointers same from met (Some node)
-    ended_here from node met e w = ended from node met (Some node) w (here_end node e)
+    pub ended_here : (from node : N) (passed : List D) → next_of pointers (shape node) ≡ None → Walks from node passed → AreEnded shape pointers same from passed (Some node)
+    ended_here from node passed e w = ended from node passed (Some node) w (here_end node e)
 
     -- a name whose declaration is kept
-    pub ended_kept : {S : Type 0} (kept : IndexMap D (Option N) S) (from node next : N) (met : List D) (d : D) (end : Option N) → AreTypeEnds shape pointers same kept → shape node ≡ shapes.Named d next →
-        get same kept d ≡ Some end → Walks from node met → AreEnded shape pointers same from met end
-    ended_kept kept from node next met d end are e is w =
-        ended from node met end w (same_end 1 node next end (more none (ap (next_of pointers) e)) (are.each d end is node next e))
+    pub ended_kept : (kept : Kept D (Option N)) (from node next : N) (passed : List D) (d : D) (o : Option (Option N)) (end : Option N) → AreTypeEnds shape pointers same kept → shape node ≡ shapes.Named d next →
+        o ≡ Some end → IfSome o (IsKept same kept d) → Walks from node passed → AreEnded shape pointers same from passed end
+    ended_kept kept from node next passed d o end are e is told w =
+        let there : IsKept same kept d end = subst (λ (v : Option (Option N)). IfSome v (IsKept same kept d)) is told in
+        ended from node passed end w (same_end 1 node next end (more none (ap (next_of pointers) e)) (are.each d end there node next e))
 
-    -- a declaration that is met again
-    pub ended_again : (from node next : N) (met after : List D) (d : D) (b : Bool) → shape node ≡ shapes.Named d next → b ≡ false → IsMet same d met after b → Walks from node met → AreEnded shape pointers same from after None
-    ended_again from node next met after d b e is noted w =
-        let again : IsMetAgain same d met after = subst (IsMet same d met after) is noted in
-        let a = Any-from_list_any (same d) met again.among in
-        let p : IsPassed node a.1 = subst (IsPassed node) a.3 (w.each a.0 a.1 a.2) in
+    -- a declaration to which the walk comes back
+    pub ended_again : (from node next : N) (passed : List D) (d : D) → shape node ≡ shapes.Named d next → list_any (same d) passed ≡ true → Walks from node passed → AreEnded shape pointers same from passed None
+    ended_again from node next passed d e among w =
+        let a = Any-from_list_any (same d) passed among in
+        let p : IsBehind node a.1 = subst (IsBehind node) a.3 (w.each a.0 a.1 a.2) in
         let one : next ≡ p.next = named node p.of next p.next d a.1 e p.is a.4 in
         let led : next_of pointers (shape node) ≡ Some next = ap (next_of pointers) e in
         let goes_round : Passes (suc p.steps) next next = subst (λ (x : N). Passes (suc p.steps) x next) (sym one) (more p.passes led) in
-        subst (λ (ds : List D). AreEnded shape pointers same from ds None) (sym again.unchanged)
-        (ended from node met None w (same_end 1 node next None (more none led) (round_end p.steps next goes_round)))
+        ended from node passed None w (same_end 1 node next None (more none led) (round_end p.steps next goes_round))
 
-  -- one declaration more is kept
-  pub keeps_more : {S : Type 0} (same : D → D → Bool) (old new : IndexMap D (Option N) S) (d : D) (end : Option N) → AreTypeEnds shape pointers same old →
-      ((c : D) → get same new c ≡ cond (same d c) (Some end) (get same old c)) → IsTypeEndOf shape pointers same end d → AreTypeEnds shape pointers same new
-  keeps_more same old new d end are adds is = record { each = λ c kept e. at c kept (same d c) refl (sym (adds c) ∙ e) }
+  -- where one declaration more leads is kept, or nothing is
+  pub keeps_more : (same : D → D → Bool) (old new : Kept D (Option N)) (d : D) (end : Option N) → AreTypeEnds shape pointers same old → Adds same d end old new → IsTypeEndOf shape pointers same end d → AreTypeEnds shape pointers same new
+  keeps_more same old new d end are adds is = record { each = λ c kept told. at c kept (adds c kept told) }
     where
-      at : (c : D) (kept : Option N) (b : Bool) → same d c ≡ b → cond b (Some end) (get same old c) ≡ Some kept → (n m : N) → shape n ≡ shapes.Named c m → IsTypeEnd shape pointers m kept
-      at c kept false s e n m h = are.each c kept e n m h
-      at c kept true s e n m h = let one : end ≡ kept = cc in subst (λ (o : Option N). IsTypeEnd shape pointers m o) one (is c n m s h)
+      at : (c : D) (kept : Option N) → IsKept same old c kept ⊎ ((same d c ≡ true) × (end ≡ kept)) → (n m : N) → shape n ≡ shapes.Named c m → IsTypeEnd shape pointers m kept
+      at c kept (inl told) n m h = are.each c kept told n m h
+      at c kept (inr one) n m h = subst (λ (o : Option N). IsTypeEnd shape pointers m o) one.1 (is c n m one.0 h)
 
-  -- what is kept stays kept, and at first nothing is
-  pub keeps_all : {S : Type 0} (same : D → D → Bool) (old new : IndexMap D (Option N) S) → new.entries ≡ old.entries → AreTypeEnds shape pointers same old → AreTypeEnds shape pointers same new
-  keeps_all same old new e are = record { each = λ d end is. are.each d end (sym (ap (lookup (same d)) e) ∙ is) }
-
-  pub keeps_none : {S : Type 0} (same : D → D → Bool) (kept : IndexMap D (Option N) S) → kept.entries ≡ [] → AreTypeEnds shape pointers same kept
-  keeps_none same kept e = record { each = λ d end is. absurd (let f : None ≡ Some end = sym (ap (lookup (same d)) e) ∙ is in cc) }
+  pub keeps_none : (same : D → D → Bool) (kept : Kept D (Option N)) → ((d : D) (end : Option N) → IsKept same kept d end → ⊥) → AreTypeEnds shape pointers same kept
+  keeps_none same kept empty = record { each = λ d end told. absurd (empty d end told) }
 
 -- one of these four shapes leads no further
 pub no_further : {N D R : Type 0} (pointers : Bool) (s : Shape N D R) → (((x : N) × s ≡ shapes.Array x) ⊎ (((x : R) × s ≡ shapes.Record x) ⊎ ((s ≡ shapes.Procedure) ⊎ (s ≡ shapes.Unknown)))) → next_of pointers s ≡ None

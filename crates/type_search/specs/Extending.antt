@@ -1,12 +1,15 @@
 -- Records to which types lead, and the fields that they have of their own or by their bases.
-use Rattle.std.specs.Prelude.{◌≡◌, ℕ, zero, suc, List, [], ◌∷◌, ◌++◌, Bool, true, ◌&&◌, Option, Some, None, IfSome, IfNone}
+use Rattle.std.specs.Prelude.{◌≡◌, ℕ, zero, suc, List, Bool, true, ◌&&◌, Option, Some, None, IfSome, IfNone}
 use Rattle.std.specs.List.{All}
 use Rattle.std.specs.Str.{bytes_eq}
 use Rattle.indexmap.specs.IndexMap.{get, IndexMap}
 use Rattle.text_hash.specs.declared.name.Name.{Name}
 use Rattle.type_search.specs.declared.shape.Shape.{Shape}
 use Rattle.type_search.specs.declared.shape.Shape.TheVariants as shapes
+use Rattle.type_search.specs.Keeping.{IsKept}
+use Rattle.type_search.specs.declared.kept.Kept.{Kept}
 use Rattle.type_search.specs.Leading.{TypeLeadsTo}
+use Rattle.type_search.specs.Progress.{IsPassed}
 use Rattle.type_search.specs.Searches.{IsMetAgain}
 
 -- the record that a type is
@@ -17,11 +20,6 @@ shape_record (shapes.Record r) = Some r
 shape_record shapes.Procedure = None
 shape_record (shapes.Named d n) = None
 shape_record shapes.Unknown = None
-
--- a record is passed: it is the last that is marked, or the marks are as they were
-pub data IsPassed {R : Type 0} (r : R) (before after : List R) : Type 0 where
-  marked : after ≡ before ++ r ∷ [] → IsPassed r before after
-  unmarked : after ≡ before → IsPassed r before after
 
 module _ {N D R : Type 0} (shape : N → Shape N D R) where
   -- a type leads to a record by names and pointers
@@ -46,8 +44,8 @@ module _ {N D R : Type 0} (shape : N → Shape N D R) where
       pub none : IfNone o ((above : R) → Extends r above → ⊥)
 
     -- what is kept of records is above them
-    pub record AreAbove {S : Type 0} (same : R → R → Bool) (kept : IndexMap R (Option R) S) : Type 0 where
-      pub each : (r : R) (o : Option R) → get same kept r ≡ Some o → IsAbove r o
+    pub record AreAbove (same : R → R → Bool) (kept : Kept R (Option R)) : Type 0 where
+      pub each : (r : R) (o : Option R) → IsKept same kept r o → IsAbove r o
 
     module _ {F : Type 0} (field : R → Option F) where
       -- the field that a name means in a record: its own, or else that of its base, so many bases up

@@ -1,9 +1,10 @@
 -- Where types lead by names, and by pointers too where these are followed.
 use Rattle.std.specs.Prelude.{◌≡◌, ℕ, zero, suc, List, Bool, true, Option, Some, None, if◌then◌else◌, IfSome, IfNone}
 use Rattle.std.specs.List.{All}
-use Rattle.indexmap.specs.IndexMap.{get, IndexMap}
+use Rattle.type_search.specs.declared.kept.Kept.{Kept}
 use Rattle.type_search.specs.declared.shape.Shape.{Shape}
 use Rattle.type_search.specs.declared.shape.Shape.TheVariants as shapes
+use Rattle.type_search.specs.Keeping.{IsKept}
 
 -- the type to which a name leads, or a pointer where pointers are followed
 abbrev pub next_of : {N D R : Type 0} → Bool → Shape N D R → Option N
@@ -34,11 +35,11 @@ module _ {N D R : Type 0} (shape : N → Shape N D R) (pointers : Bool) where
     abbrev pub IsTypeEndOf : Option N → D → Type 0
     IsTypeEndOf end d = (c : D) (n m : N) → same d c ≡ true → shape n ≡ shapes.Named c m → IsTypeEnd m end
 
-    -- where a type leads all declarations lead that were met on the way
-    pub record AreEnded (n : N) (met : List D) (end : Option N) : Type 0 where
+    -- where a type leads these declarations lead, which were passed on the way
+    pub record AreEnded (n : N) (passed : List D) (end : Option N) : Type 0 where
       pub is : IsTypeEnd n end
-      pub each : All (IsTypeEndOf end) met
+      pub each : All (IsTypeEndOf end) passed
 
     -- what is kept of declarations is where they lead
-    pub record AreTypeEnds {S : Type 0} (kept : IndexMap D (Option N) S) : Type 0 where
-      pub each : (d : D) (end : Option N) → get same kept d ≡ Some end → (n m : N) → shape n ≡ shapes.Named d m → IsTypeEnd m end
+    pub record AreTypeEnds (kept : Kept D (Option N)) : Type 0 where
+      pub each : (d : D) (end : Option N) → IsKept same kept d end → (n m : N) → shape n ≡ shapes.Named d m → IsTypeEnd m end

@@ -4,3 +4,4 @@ pub mod Extending
 pub mod ToldFields
 pub mod Lines
 pub mod Progress
+pub mod Keeping

@@ -1,5 +1,5 @@
 -- Types followed through their names (Oberon-07 report, sections 6 and 8.1).
-use Rattle.std.specs.Prelude.{◌≡◌, List, [], ◌∷◌, ◌++◌, ◌<◌, ◌^◌, length, Bool, true, false, Option, Some, None}
+use Rattle.std.specs.Prelude.{◌≡◌, List, [], ◌∷◌, ◌++◌, Bool, true, false, Option, Some, None}
 use Rattle.std.specs.List.{list_any}
 use Rattle.type_search.specs.declared.shape.Shape.{Shape}
 use Rattle.type_search.specs.declared.shape.Shape.TheVariants as shapes
@@ -30,21 +30,10 @@ target_of shapes.Procedure = None
 target_of (shapes.Named d n) = None
 target_of shapes.Unknown = None
 
--- a declaration wasn't met before, and is the last that was met
-pub record IsNewlyMet {D : Type 0} (same : D → D → Bool) (d : D) (before after : List D) : Type 0 where
-  pub new : list_any (same d) before ≡ false
-  pub last : after ≡ before ++ d ∷ []
-  pub few : length before < 2 ^ 63
-
 -- a declaration was met before, and none is met anew
 pub record IsMetAgain {D : Type 0} (same : D → D → Bool) (d : D) (before after : List D) : Type 0 where
   pub among : list_any (same d) before ≡ true
   pub unchanged : after ≡ before
-
--- a declaration is met for the first time, behind those that were met before, or it was among them
-abbrev pub IsMet : {D : Type 0} → (D → D → Bool) → D → List D → List D → Bool → Type 0
-IsMet same d before after true = IsNewlyMet same d before after
-IsMet same d before after false = IsMetAgain same d before after
 
 module _ {N D R : Type 0} (same : D → D → Bool) (shape : N → Shape N D R) where
   -- from a type names lead through type declarations that weren't met before to a type that is no name; with what was met before and is met after

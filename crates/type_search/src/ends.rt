@@ -4,34 +4,35 @@ ghost use Rattle.std.specs.List.{All};
 ghost use Rattle.type_search.specs.Leading.{AreEnded, AreTypeEnds, IsTypeEnd, IsTypeEndOf};
 
 use crate::graph::TypeGraph;
-use crate::meet::meet;
+use crate::kept::Kept;
 use crate::shape::Shape;
-use indexmap::{IndexMap, IndexSet};
+use crate::way::{Way, comes_back, no_way, pass};
 use std::alloc::AllocError;
 
-/// Where a type leads by names, and by pointers where these are followed, and the declarations that are met on the way there or to
-/// one that is kept.
+/// Where a type leads by names, and by pointers where these are followed, and some of the declarations that are passed on the way there or
+/// to one that is kept.
 fn walk<G: TypeGraph>(
     graph: &G,
     pointers: bool,
-    kept: &IndexMap<G::Declaration, Option<G::Node>>,
-    met: &mut IndexSet<G::Declaration>,
+    kept: &Kept<G::Declaration, Option<G::Node>>,
+    way: &mut Way<G::Declaration>,
     from: G::Node,
 ) -> Result<Option<G::Node>, AllocError>
     requires kept { AreTypeEnds (G.shape graph.now) pointers G.Declaration.eq kept.now }
-    requires none_met { met.old.keys ≡ [] }
-    ensures { IfOk result (AreEnded (G.shape graph.now) pointers G.Declaration.eq from met.new.keys) }
+    requires none_passed { way.old.marks.items ≡ [] }
+    ensures { IfOk result (AreEnded (G.shape graph.now) pointers G.Declaration.eq from way.new.marks.items) }
 {
     let mut node = from;
     'types: loop {
         match graph.shape(node) {
             Shape::Named(declaration, next) => {
-                if let Some(end) = kept.get(&declaration) {
-                    return Ok(*end);
+                if let Some(end) = kept.get(declaration) {
+                    return Ok(end);
                 }
-                if !meet(met, declaration)? {
+                if comes_back(way, declaration) {
                     return Ok(None);
                 }
+                pass(way, declaration)?;
                 node = next;
             }
             Shape::Pointer(next) => {
@@ -47,39 +48,39 @@ fn walk<G: TypeGraph>(
     }
 }
 
-/// Keeps where declarations lead.
+/// Keeps where these declarations lead.
 fn keep<G: TypeGraph>(
     graph: &G,
     pointers: bool,
-    kept: &mut IndexMap<G::Declaration, Option<G::Node>>,
-    met: &[G::Declaration],
+    kept: &mut Kept<G::Declaration, Option<G::Node>>,
+    marks: &[G::Declaration],
     end: Option<G::Node>,
 ) -> Result<(), AllocError>
     requires kept { AreTypeEnds (G.shape graph.now) pointers G.Declaration.eq kept.old }
-    requires met { All (IsTypeEndOf (G.shape graph.now) pointers G.Declaration.eq end) met.now }
+    requires marks { All (IsTypeEndOf (G.shape graph.now) pointers G.Declaration.eq end) marks.now }
     ensures { AreTypeEnds (G.shape graph.now) pointers G.Declaration.eq kept.new }
 {
-    for declaration in met {
+    for declaration in marks {
         kept.insert(*declaration, end)?;
     }
     Ok(())
 }
 
-/// Where a type leads, which is kept of all declarations that are met.
-fn end_met<G: TypeGraph>(
+/// Where a type leads, which is kept of some of the declarations that are passed.
+fn end_passed<G: TypeGraph>(
     graph: &G,
     pointers: bool,
-    kept: &mut IndexMap<G::Declaration, Option<G::Node>>,
-    met: &mut IndexSet<G::Declaration>,
+    kept: &mut Kept<G::Declaration, Option<G::Node>>,
+    way: &mut Way<G::Declaration>,
     from: G::Node,
 ) -> Result<Option<G::Node>, AllocError>
     requires kept { AreTypeEnds (G.shape graph.now) pointers G.Declaration.eq kept.old }
-    requires none_met { met.old.keys ≡ [] }
+    requires none_passed { way.old.marks.items ≡ [] }
     ensures kept { AreTypeEnds (G.shape graph.now) pointers G.Declaration.eq kept.new }
     ensures end { IfOk result (IsTypeEnd (G.shape graph.now) pointers from) }
 {
-    let end = walk(graph, pointers, kept, met, from)?;
-    keep(graph, pointers, kept, met.as_slice(), end)?;
+    let end = walk(graph, pointers, kept, way, from)?;
+    keep(graph, pointers, kept, way.marks.as_slice(), end)?;
     Ok(end)
 }
 
@@ -87,13 +88,13 @@ fn end_met<G: TypeGraph>(
 pub(crate) fn end_of<G: TypeGraph>(
     graph: &G,
     pointers: bool,
-    kept: &mut IndexMap<G::Declaration, Option<G::Node>>,
+    kept: &mut Kept<G::Declaration, Option<G::Node>>,
     from: G::Node,
 ) -> Result<Option<G::Node>, AllocError>
     requires { AreTypeEnds (G.shape graph.now) pointers G.Declaration.eq kept.old }
     ensures kept { AreTypeEnds (G.shape graph.now) pointers G.Declaration.eq kept.new }
     ensures end { IfOk result (IsTypeEnd (G.shape graph.now) pointers from) }
 {
-    let mut met = IndexSet::new(*kept.allocator());
-    end_met(graph, pointers, kept, &mut met, from)
+    let mut way = no_way(kept.allocator());
+    end_passed(graph, pointers, kept, &mut way, from)
 }

@@ -3,6 +3,7 @@ ghost use Rattle.std.specs.Prelude.{◌≡◌, [], IfOk, IfSome, IfNone};
 ghost use Rattle.type_search.specs.Searches.{Finds, HasElement, HasTarget};
 
 use crate::graph::TypeGraph;
+use crate::kept::Kept;
 use crate::lay::lay_if_due;
 use crate::line::Line;
 use crate::parts::{element_in, target_in};
@@ -13,17 +14,18 @@ use std::alloc::{AllocError, Global};
 use std::marker::Model;
 use text_hash::{Name, Seed};
 
-/// Searches in a graph of types. What they come to by names and pointers is kept, so that each declaration is passed once, however many
-/// searches come to it. Once searches for fields climbed far, all records are put in a line, along which they hop. A contract sees the graph.
+/// Searches in a graph of types. What they come to by names and pointers is kept of the declaration in which a search began, and of those
+/// that it passed second, fourth, eighth and so on, so few searches pass the same declarations. Once searches for fields climbed far, all
+/// records are put in a line, along which they hop. A contract sees the graph.
 #[derive(Drop)]
 pub struct Finder<'a, G: TypeGraph> {
     graph: &'a G,
     /// Where declarations lead by names.
-    by_names: IndexMap<G::Declaration, Option<G::Node>>,
+    by_names: Kept<G::Declaration, Option<G::Node>>,
     /// Where they lead by names and pointers.
-    by_pointers: IndexMap<G::Declaration, Option<G::Node>>,
+    by_pointers: Kept<G::Declaration, Option<G::Node>>,
     /// The records to which the bases of records lead.
-    aboves: IndexMap<G::Record, Option<G::Record>>,
+    aboves: Kept<G::Record, Option<G::Record>>,
     /// All records in a line, once searches climbed far.
     line: Option<Box<Line<'a, G::Record>>>,
     /// What names mean in records.
@@ -53,9 +55,9 @@ impl<'a, G: TypeGraph> Finder<'a, G> {
     {
         Finder {
             graph,
-            by_names: IndexMap::new(alloc),
-            by_pointers: IndexMap::new(alloc),
-            aboves: IndexMap::new(alloc),
+            by_names: Kept::none(alloc),
+            by_pointers: Kept::none(alloc),
+            aboves: Kept::none(alloc),
             line: None,
             found: IndexMap::with_hasher(alloc, Seed::for_keys(text, most)),
             sought: Sought::none(alloc),

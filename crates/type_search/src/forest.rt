@@ -3,6 +3,7 @@
 use indexmap::IndexSet;
 use std::alloc::{AllocError, Global};
 use std::hash::Hash;
+use text_hash::Seed;
 
 /// A record in the forest with those below it, by the places of others.
 #[derive(Clone, Copy, Drop)]
@@ -150,7 +151,7 @@ fn on_path(subtrees: &[Subtree], at: usize) -> Option<usize> {
 
 /// Puts a path into the line, from its lowest record up.
 fn add_path<R: Copy + Eq + Hash + Drop>(
-    line: &mut IndexSet<R>,
+    line: &mut IndexSet<R, Seed>,
     records: &[R],
     subtrees: &[Subtree],
     lowest: usize,
@@ -169,15 +170,16 @@ fn add_path<R: Copy + Eq + Hash + Drop>(
     Ok(())
 }
 
-/// The records path by path, by the places of those above them. Of those right below a record the one with the largest tree stands on its
-/// path, so whoever climbs from a record leaves a path no oftener than its tree doubles (Sleator and Tarjan 1983).
+/// The records path by path, by the places of those above them, in a table with this seed. Of those right below a record the one with the
+/// largest tree stands on its path, so whoever climbs from a record leaves a path no oftener than its tree doubles (Sleator and Tarjan 1983).
 pub(crate) fn in_paths<R: Copy + Eq + Hash + Drop>(
     alloc: Global,
+    seed: Seed,
     records: &[R],
     aboves: &[Option<usize>],
-) -> Result<IndexSet<R>, AllocError> {
+) -> Result<IndexSet<R, Seed>, AllocError> {
     let subtrees = forest(alloc, aboves)?;
-    let mut line = IndexSet::with_capacity(alloc, records.len())?;
+    let mut line = IndexSet::with_capacity_and_hasher(alloc, records.len(), seed)?;
     for at in 0..subtrees.len() {
         if subtrees[at].heavy.is_none() {
             add_path(&mut line, records, subtrees.as_slice(), at)?;

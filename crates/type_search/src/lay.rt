@@ -7,19 +7,35 @@ ghost use Rattle.type_search.specs.Lines.{AddsField, StandByName, AreEnds, AreOw
 
 use crate::forest::in_paths;
 use crate::graph::TypeGraph;
+use crate::kept::Kept;
 use crate::line::Line;
 use crate::owned::{Owned, put_by_name};
 use crate::records::above_kept;
 use crate::sought::Sought;
 use crate::told::OwnField;
-use indexmap::{IndexMap, IndexSet};
+use indexmap::IndexSet;
 use std::alloc::{AllocError, Global};
-use std::hash::Hash;
+use std::hash::{DefaultHasher, Hash, Hasher};
+use text_hash::Seed;
+
+/// The seed that records give by their digest (SipHash-1-3; Aumasson and Bernstein 2012), for a table of just these: records that fall
+/// together with one seed change the seed, whatever module's they are.
+fn seed_of<R: Hash>(records: &[R]) -> Seed {
+    let mut digest = DefaultHasher::new();
+    for record in records {
+        record.hash(&mut digest);
+    }
+    Seed::for_keys(&digest.finish().to_le_bytes(), records.len())
+}
 
 /// The records that a graph tells, each once.
-fn records_of<G: TypeGraph>(graph: &G, alloc: Global) -> Result<IndexSet<G::Record>, AllocError> {
+fn records_of<G: TypeGraph>(
+    graph: &G,
+    alloc: Global,
+) -> Result<IndexSet<G::Record, Seed>, AllocError> {
     let told = graph.records(alloc)?;
-    let mut records = IndexSet::with_capacity(alloc, told.len())?;
+    let seed = seed_of(told.as_slice());
+    let mut records = IndexSet::with_capacity_and_hasher(alloc, told.len(), seed)?;
     for record in &told {
         records.insert(*record)?;
     }
@@ -29,16 +45,16 @@ fn records_of<G: TypeGraph>(graph: &G, alloc: Global) -> Result<IndexSet<G::Reco
 /// The places of the records above these.
 fn places_above<G: TypeGraph>(
     graph: &G,
-    kept: &mut IndexMap<G::Declaration, Option<G::Node>>,
-    aboves: &mut IndexMap<G::Record, Option<G::Record>>,
-    records: &IndexSet<G::Record>,
+    kept: &mut Kept<G::Declaration, Option<G::Node>>,
+    aboves: &mut Kept<G::Record, Option<G::Record>>,
+    records: &IndexSet<G::Record, Seed>,
 ) -> Result<Vec<Option<usize>>, AllocError>
     requires kept { AreTypeEnds (G.shape graph.now) true G.Declaration.eq kept.old }
     requires aboves { AreAbove (G.shape graph.now) (G.base_of graph.now) G.Record.eq aboves.old }
     ensures kept { AreTypeEnds (G.shape graph.now) true G.Declaration.eq kept.new }
     ensures aboves { AreAbove (G.shape graph.now) (G.base_of graph.now) G.Record.eq aboves.new }
 {
-    let mut places = Vec::with_capacity(*kept.allocator(), records.len())?;
+    let mut places = Vec::with_capacity(kept.allocator(), records.len())?;
     for record in records.as_slice() {
         let above = above_kept(graph, kept, aboves, *record)?;
         let place = match above {
@@ -53,7 +69,7 @@ fn places_above<G: TypeGraph>(
 /// Whether the base of the record at a place leads to the next.
 fn leads_on<G: TypeGraph>(
     graph: &G,
-    aboves: &IndexMap<G::Record, Option<G::Record>>,
+    aboves: &Kept<G::Record, Option<G::Record>>,
     line: &[G::Record],
     place: usize,
 ) -> bool
@@ -61,8 +77,8 @@ fn leads_on<G: TypeGraph>(
     requires within { suc place < length line.now }
     ensures { OnTrue result (LeadsOn (G.shape graph.now) (G.base_of graph.now) line.now place) }
 {
-    match aboves.get(&line[place]) {
-        Some(Some(above)) => *above == line[place + 1],
+    match aboves.get(line[place]) {
+        Some(Some(above)) => above == line[place + 1],
         _ => false,
     }
 }
@@ -70,7 +86,7 @@ fn leads_on<G: TypeGraph>(
 /// The last place of the run of a place, by those of the places behind it.
 fn end_at<G: TypeGraph>(
     graph: &G,
-    aboves: &IndexMap<G::Record, Option<G::Record>>,
+    aboves: &Kept<G::Record, Option<G::Record>>,
     line: &[G::Record],
     ends: &[usize],
     place: usize,
@@ -96,7 +112,7 @@ fn end_at<G: TypeGraph>(
 fn ends_of<G: TypeGraph>(
     graph: &G,
     alloc: Global,
-    aboves: &IndexMap<G::Record, Option<G::Record>>,
+    aboves: &Kept<G::Record, Option<G::Record>>,
     line: &[G::Record],
 ) -> Result<Vec<usize>, AllocError>
     requires { AreAbove (G.shape graph.now) (G.base_of graph.now) G.Record.eq aboves.now }
@@ -114,7 +130,7 @@ fn ends_of<G: TypeGraph>(
 
 /// Adds a field whose record stands in the line.
 fn add_field<'a, R: Copy + Eq + Hash + Drop>(
-    line: &IndexSet<R>,
+    line: &IndexSet<R, Seed>,
     owned: &mut Vec<Owned<'a>>,
     field: &OwnField<'a, R>,
 ) -> Result<(), AllocError>
@@ -136,7 +152,7 @@ fn add_field<'a, R: Copy + Eq + Hash + Drop>(
 fn owned_in<'a, G: TypeGraph>(
     graph: &'a G,
     alloc: Global,
-    line: &IndexSet<G::Record>,
+    line: &IndexSet<G::Record, Seed>,
 ) -> Result<Vec<Owned<'a>>, AllocError>
     ensures { IfOk result (λ owned. AreOwned (G.shape graph.now) (G.base_of graph.now) (G.field_of graph.now) line.now.keys owned.items) }
 {
@@ -152,7 +168,7 @@ fn owned_in<'a, G: TypeGraph>(
 fn owned_by_name<'a, G: TypeGraph>(
     graph: &'a G,
     alloc: Global,
-    line: &IndexSet<G::Record>,
+    line: &IndexSet<G::Record, Seed>,
 ) -> Result<Vec<Owned<'a>>, AllocError>
     ensures owned { IfOk result (λ owned. AreOwned (G.shape graph.now) (G.base_of graph.now) (G.field_of graph.now) line.now.keys owned.items) }
     ensures by_name { IfOk result (λ owned. StandByName owned.items) }
@@ -165,25 +181,30 @@ fn owned_by_name<'a, G: TypeGraph>(
 /// The records that a graph tells, in a line.
 fn line_of<G: TypeGraph>(
     graph: &G,
-    kept: &mut IndexMap<G::Declaration, Option<G::Node>>,
-    aboves: &mut IndexMap<G::Record, Option<G::Record>>,
-) -> Result<IndexSet<G::Record>, AllocError>
+    kept: &mut Kept<G::Declaration, Option<G::Node>>,
+    aboves: &mut Kept<G::Record, Option<G::Record>>,
+) -> Result<IndexSet<G::Record, Seed>, AllocError>
     requires kept { AreTypeEnds (G.shape graph.now) true G.Declaration.eq kept.old }
     requires aboves { AreAbove (G.shape graph.now) (G.base_of graph.now) G.Record.eq aboves.old }
     ensures kept { AreTypeEnds (G.shape graph.now) true G.Declaration.eq kept.new }
     ensures aboves { AreAbove (G.shape graph.now) (G.base_of graph.now) G.Record.eq aboves.new }
 {
-    let alloc = *kept.allocator();
+    let alloc = kept.allocator();
     let records = records_of(graph, alloc)?;
     let places = places_above(graph, kept, aboves, &records)?;
-    in_paths(alloc, records.as_slice(), places.as_slice())
+    in_paths(
+        alloc,
+        *records.hasher(),
+        records.as_slice(),
+        places.as_slice(),
+    )
 }
 
 /// The line of a graph.
 fn lay<'a, G: TypeGraph>(
     graph: &'a G,
-    kept: &mut IndexMap<G::Declaration, Option<G::Node>>,
-    aboves: &mut IndexMap<G::Record, Option<G::Record>>,
+    kept: &mut Kept<G::Declaration, Option<G::Node>>,
+    aboves: &mut Kept<G::Record, Option<G::Record>>,
 ) -> Result<Box<Line<'a, G::Record>>, AllocError>
     requires kept { AreTypeEnds (G.shape graph.now) true G.Declaration.eq kept.old }
     requires aboves { AreAbove (G.shape graph.now) (G.base_of graph.now) G.Record.eq aboves.old }
@@ -191,7 +212,7 @@ fn lay<'a, G: TypeGraph>(
     ensures aboves { AreAbove (G.shape graph.now) (G.base_of graph.now) G.Record.eq aboves.new }
     ensures line { IfOk result (λ line. IsLine (G.shape graph.now) (G.base_of graph.now) (G.field_of graph.now) line.value.records.keys line.value.ends.items line.value.owned.items) }
 {
-    let alloc = *kept.allocator();
+    let alloc = kept.allocator();
     let records = line_of(graph, kept, aboves)?;
     let ends = ends_of(graph, alloc, aboves, records.as_slice())?;
     let owned = owned_by_name(graph, alloc, &records)?;
@@ -206,8 +227,8 @@ fn lay<'a, G: TypeGraph>(
 /// Puts the records of a graph in a line, once that is due. Where memory for it is refused there is none, and searches climb on.
 pub(crate) fn lay_if_due<'a, G: TypeGraph>(
     graph: &'a G,
-    kept: &mut IndexMap<G::Declaration, Option<G::Node>>,
-    aboves: &mut IndexMap<G::Record, Option<G::Record>>,
+    kept: &mut Kept<G::Declaration, Option<G::Node>>,
+    aboves: &mut Kept<G::Record, Option<G::Record>>,
     line: &mut Option<Box<Line<'a, G::Record>>>,
     sought: &mut Sought,
 )

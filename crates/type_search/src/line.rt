@@ -7,12 +7,13 @@ use crate::hop::Hop;
 use crate::owned::{Owned, next_place};
 use indexmap::IndexSet;
 use std::hash::Hash;
+use text_hash::Seed;
 
 /// Records in one line, in runs in which the base of each leads to the next. A search for a field passes a run, or comes to the first
 /// record there that has the field, by one look-up, as it would by climbing from base to base: for none of those between has it.
 #[derive(Drop)]
 pub(crate) struct Line<'a, R: Copy + Eq + Hash + Drop> {
-    pub(crate) records: IndexSet<R>,
+    pub(crate) records: IndexSet<R, Seed>,
     /// For each place the last of its run.
     pub(crate) ends: Vec<usize>,
     /// The fields that the records have themselves.

@@ -5,8 +5,8 @@ ghost use Rattle.type_search.specs.Searches.{element_of, target_of, HasElement, 
 
 use crate::ends::end_of;
 use crate::graph::TypeGraph;
+use crate::kept::Kept;
 use crate::shape::Shape;
-use indexmap::IndexMap;
 use std::alloc::AllocError;
 
 /// The type of an array's elements.
@@ -40,7 +40,7 @@ fn target_of<N: Copy + Drop, D: Copy + Drop, R: Copy + Drop>(shape: Shape<N, D, 
 /// The type of the elements of the array that a type opens to.
 pub(crate) fn element_in<G: TypeGraph>(
     graph: &G,
-    kept: &mut IndexMap<G::Declaration, Option<G::Node>>,
+    kept: &mut Kept<G::Declaration, Option<G::Node>>,
     from: G::Node,
 ) -> Result<Option<G::Node>, AllocError>
     requires { AreTypeEnds (G.shape graph.now) false G.Declaration.eq kept.old }
@@ -57,7 +57,7 @@ pub(crate) fn element_in<G: TypeGraph>(
 /// The target of the pointer that a type opens to.
 pub(crate) fn target_in<G: TypeGraph>(
     graph: &G,
-    kept: &mut IndexMap<G::Declaration, Option<G::Node>>,
+    kept: &mut Kept<G::Declaration, Option<G::Node>>,
     from: G::Node,
 ) -> Result<Option<G::Node>, AllocError>
     requires { AreTypeEnds (G.shape graph.now) false G.Declaration.eq kept.old }

@@ -10,6 +10,7 @@ ghost use Rattle.type_search.specs.Searches.{Finds};
 use crate::ends::end_of;
 use crate::graph::TypeGraph;
 use crate::hop::Hop;
+use crate::kept::Kept;
 use crate::line::{Line, hop};
 use crate::shape::Shape;
 use crate::sought::Sought;
@@ -35,7 +36,7 @@ fn shape_record<N: Copy + Drop, D: Copy + Drop, R: Copy + Drop>(shape: Shape<N, 
 /// The record to which a type leads by names and pointers.
 fn record_of<G: TypeGraph>(
     graph: &G,
-    kept: &mut IndexMap<G::Declaration, Option<G::Node>>,
+    kept: &mut Kept<G::Declaration, Option<G::Node>>,
     from: G::Node,
 ) -> Result<Option<G::Record>, AllocError>
     requires { AreTypeEnds (G.shape graph.now) true G.Declaration.eq kept.old }
@@ -51,7 +52,7 @@ fn record_of<G: TypeGraph>(
 /// The record to which the base of a record leads.
 fn record_above<G: TypeGraph>(
     graph: &G,
-    kept: &mut IndexMap<G::Declaration, Option<G::Node>>,
+    kept: &mut Kept<G::Declaration, Option<G::Node>>,
     record: G::Record,
 ) -> Result<Option<G::Record>, AllocError>
     requires { AreTypeEnds (G.shape graph.now) true G.Declaration.eq kept.old }
@@ -92,8 +93,8 @@ fn field_here<'a, G: TypeGraph>(
 /// The record to which the base of a record leads, which is kept: each search behind that base comes by here.
 pub(crate) fn above_kept<G: TypeGraph>(
     graph: &G,
-    kept: &mut IndexMap<G::Declaration, Option<G::Node>>,
-    aboves: &mut IndexMap<G::Record, Option<G::Record>>,
+    kept: &mut Kept<G::Declaration, Option<G::Node>>,
+    aboves: &mut Kept<G::Record, Option<G::Record>>,
     record: G::Record,
 ) -> Result<Option<G::Record>, AllocError>
     requires kept { AreTypeEnds (G.shape graph.now) true G.Declaration.eq kept.old }
@@ -102,8 +103,8 @@ pub(crate) fn above_kept<G: TypeGraph>(
     ensures aboves { AreAbove (G.shape graph.now) (G.base_of graph.now) G.Record.eq aboves.new }
     ensures is { IfOk result (IsAbove (G.shape graph.now) (G.base_of graph.now) «record») }
 {
-    if let Some(above) = aboves.get(&record) {
-        return Ok(*above);
+    if let Some(above) = aboves.get(record) {
+        return Ok(above);
     }
     let above = record_above(graph, kept, record)?;
     aboves.insert(record, above)?;
@@ -131,8 +132,8 @@ fn hop_from<'a, G: TypeGraph>(
 /// search came back.
 fn climb<'a, G: TypeGraph>(
     graph: &G,
-    kept: &mut IndexMap<G::Declaration, Option<G::Node>>,
-    aboves: &mut IndexMap<G::Record, Option<G::Record>>,
+    kept: &mut Kept<G::Declaration, Option<G::Node>>,
+    aboves: &mut Kept<G::Record, Option<G::Record>>,
     line: &Option<Box<Line<'a, G::Record>>>,
     way: &mut Way<G::Record>,
     record: G::Record,
@@ -161,8 +162,8 @@ fn climb<'a, G: TypeGraph>(
 /// the records that are passed on the way.
 fn field_of<'a, G: TypeGraph>(
     graph: &G,
-    kept: &mut IndexMap<G::Declaration, Option<G::Node>>,
-    aboves: &mut IndexMap<G::Record, Option<G::Record>>,
+    kept: &mut Kept<G::Declaration, Option<G::Node>>,
+    aboves: &mut Kept<G::Record, Option<G::Record>>,
     line: &Option<Box<Line<'a, G::Record>>>,
     found: &IndexMap<(G::Record, Name<'a>), Option<G::Field>, Seed>,
     is_kept: bool,
@@ -212,8 +213,8 @@ fn keep_field<'a, G: TypeGraph>(
 /// The field that a name means in a record, which is kept of it and of some of the records that are passed.
 fn field_passed<'a, G: TypeGraph>(
     graph: &G,
-    kept: &mut IndexMap<G::Declaration, Option<G::Node>>,
-    aboves: &mut IndexMap<G::Record, Option<G::Record>>,
+    kept: &mut Kept<G::Declaration, Option<G::Node>>,
+    aboves: &mut Kept<G::Record, Option<G::Record>>,
     line: &Option<Box<Line<'a, G::Record>>>,
     found: &mut IndexMap<(G::Record, Name<'a>), Option<G::Field>, Seed>,
     sought: &mut Sought,
@@ -231,7 +232,7 @@ fn field_passed<'a, G: TypeGraph>(
     ensures found { AreFound (G.shape graph.now) (G.base_of graph.now) (G.field_of graph.now) G.Record.eq found.new }
     ensures is { IfOk result (IsFieldIn (G.shape graph.now) (G.base_of graph.now) (λ r. G.field_of graph.now r name.now) from) }
 {
-    let is_kept = sought.note(*kept.allocator(), name);
+    let is_kept = sought.note(kept.allocator(), name);
     let field = field_of(graph, kept, aboves, line, found, is_kept, way, from, name)?;
     sought.add(way.passed);
     keep_field(graph, found, way.marks.as_slice(), name, field)?;
@@ -241,8 +242,8 @@ fn field_passed<'a, G: TypeGraph>(
 /// The field that a name means in a record: its own, or else one that is kept for the searches that follow.
 fn field_kept<'a, G: TypeGraph>(
     graph: &G,
-    kept: &mut IndexMap<G::Declaration, Option<G::Node>>,
-    aboves: &mut IndexMap<G::Record, Option<G::Record>>,
+    kept: &mut Kept<G::Declaration, Option<G::Node>>,
+    aboves: &mut Kept<G::Record, Option<G::Record>>,
     line: &Option<Box<Line<'a, G::Record>>>,
     found: &mut IndexMap<(G::Record, Name<'a>), Option<G::Field>, Seed>,
     sought: &mut Sought,
@@ -261,7 +262,7 @@ fn field_kept<'a, G: TypeGraph>(
     if let Some(field) = graph.field(from, name) {
         return Ok(Some(field));
     }
-    let mut way = no_way(*kept.allocator());
+    let mut way = no_way(kept.allocator());
     field_passed(
         graph, kept, aboves, line, found, sought, &mut way, from, name,
     )
@@ -270,8 +271,8 @@ fn field_kept<'a, G: TypeGraph>(
 /// The field that a name means at a type: of the record to which it leads, or else of its base.
 pub(crate) fn find_in<'a, G: TypeGraph>(
     graph: &G,
-    kept: &mut IndexMap<G::Declaration, Option<G::Node>>,
-    aboves: &mut IndexMap<G::Record, Option<G::Record>>,
+    kept: &mut Kept<G::Declaration, Option<G::Node>>,
+    aboves: &mut Kept<G::Record, Option<G::Record>>,
     line: &Option<Box<Line<'a, G::Record>>>,
     found: &mut IndexMap<(G::Record, Name<'a>), Option<G::Field>, Seed>,
     sought: &mut Sought,

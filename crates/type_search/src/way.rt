@@ -1,23 +1,22 @@
-//! The way of a search along records.
+//! The way of a search along records or declarations.
 ghost use Rattle.std.specs.Prelude.{◌≡◌, ◌<◌, ◌^◌, [], true, OnOk};
 ghost use Rattle.std.specs.List.{list_any};
-ghost use Rattle.type_search.specs.Extending.{IsPassed};
-ghost use Rattle.type_search.specs.Progress.{progress};
+ghost use Rattle.type_search.specs.Progress.{progress, IsPassed};
 
 use std::alloc::{AllocError, Global};
 
-/// The way of a search: the records that it passed first, second, fourth, eighth and so on. A search that comes back to a record comes
-/// to the last of these too, which is known without a table of all (Brent 1980).
+/// The way of a search: the records, or the declarations, that it passed first, second, fourth, eighth and so on. A search that comes back
+/// to one comes to the last of these too, which is known without a table of all (Brent 1980).
 #[derive(Drop)]
 pub(crate) struct Way<R: Copy + Drop> {
     pub(crate) marks: Vec<R>,
-    /// How many records were passed, or 2^64 - 1.
+    /// How many were passed, or 2^64 - 1.
     pub(crate) passed: u64,
     /// How many are passed before the next mark.
     pub(crate) due: u64,
 }
 
-/// No record was passed.
+/// None was passed.
 pub(crate) fn no_way<R: Copy + Drop>(alloc: Global) -> Way<R>
     ensures { result.marks.items ≡ [] }
 {
@@ -28,7 +27,7 @@ pub(crate) fn no_way<R: Copy + Drop>(alloc: Global) -> Way<R>
     }
 }
 
-/// Whether this record is the last that was marked.
+/// Whether this one is the last that was marked.
 pub(crate) fn comes_back<R: Copy + Eq + Drop>(way: &Way<R>, record: R) -> bool
     ensures { result ≡ true → list_any (R.eq «record») way.now.marks.items ≡ true }
 {
@@ -38,7 +37,7 @@ pub(crate) fn comes_back<R: Copy + Eq + Drop>(way: &Way<R>, record: R) -> bool
     }
 }
 
-/// Passes a record. At 2^64 - 1 the count stays, and each record is marked from then on.
+/// Passes one. At 2^64 - 1 the count stays, and each is marked from then on.
 pub(crate) fn pass<R: Copy + Drop>(way: &mut Way<R>, record: R) -> Result<(), AllocError>
     ensures marks { OnOk result (IsPassed «record» way.old.marks.items way.new.marks.items) }
     ensures goes_on { OnOk result (progress way.old < progress way.new) }

@@ -1,9 +1,10 @@
-use Rattle.std.proofs.Common.{◌+◌, ◌-◌, ◌*◌, ◌^◌, length}
+use Rattle.std.proofs.Common.{◌+◌, ◌-◌, ◌*◌, ◌^◌}
+use Rattle.type_search.specs.Progress.{progress}
 use Rattle.type_search.proofs.Leading.{Walks}
 use Rattle.type_search.proofs.ends.walk.Given as goal
 
 abbrev pub invariant-types : goal.invariant-types
-invariant-types g l = Walks (g.G.TypeGraph.shape l.graph) l.pointers g.G.Declaration.PartialEq.eq (g.met.G.TypeGraph.named l.graph) l.fn.from l.node l.met.keys
+invariant-types g l = Walks (g.G.TypeGraph.shape l.graph) l.pointers g.G.Declaration.PartialEq.eq (g.met.G.TypeGraph.named l.graph) l.fn.from l.node l.way.marks.items
 
 abbrev pub decreases-types : goal.decreases-types
-decreases-types g l = (2 ^ 63 - length l.met.keys) * g.G.TypeGraph.height l.graph + g.G.TypeGraph.depth l.graph l.node
+decreases-types g l = (2 ^ 65 - progress l.way) * g.G.TypeGraph.height l.graph + g.G.TypeGraph.depth l.graph l.node

@@ -7,9 +7,9 @@ pub invariant_of-result : goal.invariant_of-result
 invariant_of-result g c =
     let shape = g.G.TypeGraph.shape c.args.graph.now in
     let same = g.G.Declaration.PartialEq.eq in (
-      keeps_none shape false same c.new.result c.new.ensures.empty,
-      keeps_none shape true same c.new-2.result c.new-2.ensures.empty,
-      above_none shape (g.G.TypeGraph.base_of c.args.graph.now) g.G.Record.PartialEq.eq g.met.G.TypeGraph.told_apart c.new-3.result c.new-3.ensures.empty,
+      keeps_none shape false same c.none.result c.none.ensures,
+      keeps_none shape true same c.none-2.result c.none-2.ensures,
+      above_none shape (g.G.TypeGraph.base_of c.args.graph.now) g.G.Record.PartialEq.eq g.met.G.TypeGraph.told_apart c.none-3.result c.none-3.ensures,
       tt,
       found_none shape (g.G.TypeGraph.base_of c.args.graph.now) (g.G.TypeGraph.field_of c.args.graph.now) g.G.Record.PartialEq.eq g.met.G.TypeGraph.told_apart c.with_hasher.result c.with_hasher.ensures.empty,
     )
