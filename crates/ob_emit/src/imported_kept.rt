@@ -1,5 +1,5 @@
 //! The texts of the symbols of what other modules declare, each made once. Where one stands is a hint, that is tried against the places
-//! that are kept with it: those that were met last are remembered, so that most aren't sought in the table.
+//! that are kept with it: those that were met last are remembered, so that most aren't sought among all.
 ghost use Rattle.std.specs.Prelude.{◌≡◌, ◌<◌, [], List, ℕ, IfOk, IfSome, OnOk};
 ghost use Rattle.std.specs.Option.{option_map};
 ghost use Rattle.std.specs.String.{string_bytes};
@@ -13,6 +13,7 @@ use crate::imported_texts::imported_text;
 use indexmap::IndexMap;
 use ob_types::Types;
 use std::alloc::{AllocError, Global};
+use std::collections::BTreeMap;
 
 /// The text of a declaration of a module that is reached, with the places of both; what has no symbol has none.
 #[derive(Drop)]
@@ -22,12 +23,19 @@ pub(crate) struct ImportedText {
     pub(crate) text: Option<String>,
 }
 
+/// Where texts stand, by both places in one number. The first are in a table, and all behind these in order, where a look-up takes no more
+/// steps for numbers that an author chose so that they fall together in a table.
+#[derive(Drop)]
+struct Slots {
+    few: IndexMap<u64, usize>,
+    more: BTreeMap<u64, usize>,
+}
+
 /// Such texts, and where they stand.
 #[derive(Drop)]
 pub(crate) struct ImportedTexts {
     pub(crate) texts: Vec<ImportedText>,
-    /// By both places in one number.
-    slots: IndexMap<u64, usize>,
+    slots: Slots,
     /// Of those that were met last, by some bits of both places.
     recent: Vec<usize>,
 }
@@ -35,7 +43,10 @@ pub(crate) struct ImportedTexts {
 /// How many are remembered.
 const RECENT: usize = 128;
 
-/// Both places in one number, which is hashed as one.
+/// The most that stand in the table: so many that fall together are looked up in some hundred steps.
+const FEW: usize = 1024;
+
+/// Both places in one number.
 fn key_of(reached: u32, declaration: u32) -> u64 {
     u64::from(reached) * 4_294_967_296 + u64::from(declaration)
 }
@@ -45,6 +56,34 @@ fn spot_of(reached: u32, declaration: u32) -> usize {
     reached.wrapping_mul(31).wrapping_add(declaration) as usize % RECENT
 }
 
+impl Slots {
+    /// Nothing stands anywhere.
+    fn none(alloc: Global) -> Slots {
+        Slots {
+            few: IndexMap::new(alloc),
+            more: BTreeMap::new(alloc),
+        }
+    }
+
+    /// Where a text stands.
+    fn get(&self, key: u64) -> Option<usize> {
+        match self.few.get(&key) {
+            Some(slot) => Some(*slot),
+            None => self.more.get(&key).copied(),
+        }
+    }
+
+    /// Notes where a text stands.
+    fn insert(&mut self, key: u64, slot: usize) -> Result<(), AllocError> {
+        if self.few.len() < FEW {
+            self.few.insert(key, slot)?;
+        } else {
+            self.more.insert(key, slot)?;
+        }
+        Ok(())
+    }
+}
+
 impl ImportedTexts {
     /// No texts.
     pub(crate) fn new(alloc: Global) -> Result<ImportedTexts, AllocError>
@@ -52,7 +91,7 @@ impl ImportedTexts {
     {
         Ok(ImportedTexts {
             texts: Vec::new(alloc),
-            slots: IndexMap::new(alloc),
+            slots: Slots::none(alloc),
             recent: vec![in alloc; 0; RECENT]?,
         })
     }
@@ -72,9 +111,9 @@ impl ImportedTexts {
         Some(&row.text)
     }
 
-    /// Where it stands by the table, if it is kept.
+    /// Where it stands, if it is kept.
     fn slot_of(&self, reached: u32, declaration: u32) -> Option<usize> {
-        self.slots.get(&key_of(reached, declaration)).copied()
+        self.slots.get(key_of(reached, declaration))
     }
 
     /// Where it may stand, as it is remembered.
@@ -127,7 +166,7 @@ impl ImportedTexts {
         Ok(slot)
     }
 
-    /// Where the text of a declaration stands, by the table; it is added if it isn't kept.
+    /// Where the text of a declaration stands among all; it is added if it isn't kept.
     fn sought(
         &mut self,
         alloc: Global,
