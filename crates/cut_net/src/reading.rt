@@ -57,13 +57,12 @@ fn lists_in(alloc: Global, bytes: &[u8]) -> Result<(Vec<String>, Vec<Priced>), N
     ensures fault { IfErr result (λ fault. UnlessMemory fault (λ refusal. IsNetOutcome bytes.now (Err refusal))) }
 {
     // Where memory for these lists is refused, the tables tell the fault of a line all the same.
-    let seed = seed_of(bytes);
-    match straight_lists(alloc, bytes, seed) {
+    match straight_lists(alloc, bytes) {
         Ok(Some(lists)) => return Ok(lists),
         Err(NetFault::TwiceImport { line }) => return Err(NetFault::TwiceImport { line }),
         _ => {}
     }
-    let mut draft = NetDraft::new(alloc, seed);
+    let mut draft = NetDraft::new(alloc, seed_of(bytes));
     lists_by(alloc, bytes, &mut draft)
 }
 

@@ -9,7 +9,7 @@ ghost use Rattle.cut_net.specs.WellFormed.{AreBetween};
 ghost use Rattle.cut_net.specs.declared.straight.Stop.TheVariants.{Twice};
 ghost use Rattle.cut_net.specs.declared.straight.Filled.TheVariants as filled;
 
-use crate::draft::{MOST_IMPORTS, MOST_NAMES, text_read};
+use crate::draft::{MOST_IMPORTS, MOST_NAMES, seed_of, text_read};
 use crate::lines::{Line, line_in, line_within};
 use crate::numbering::{numbers_of, put_in_order, renumbered, sorted};
 use crate::ordering::{is_ascending, seem_apart};
@@ -25,6 +25,8 @@ use texts::fields::cut_at_byte;
 pub(crate) enum Stop {
     /// The import of the next line stands in a line before it.
     Twice,
+    /// There are more names than the list may have.
+    Many,
     /// The tables are to tell: there is another fault, an import before it may stand twice, or memory was refused.
     Unread,
 }
@@ -57,12 +59,17 @@ pub(crate) enum Filled {
     Whole,
     /// To the line of this number, whose import stands in a line before it.
     Twice(u64),
+    /// To where there are more names than the list may have.
+    Many,
     /// To where the tables are to tell.
     Unread,
 }
 
 /// How many bytes are read before the imports are first looked at for one that stands twice.
 const FIRST_LOOK: usize = 4096;
+
+/// How many names at most stand in a table with the seed of all texts.
+const FEW_NAMES: usize = 1024;
 
 /// The names of the lines so far, and their imports by the places of the names.
 #[derive(Drop)]
@@ -73,11 +80,13 @@ pub(crate) struct LineList {
     met: Met,
     /// How many bytes are read before the imports are looked at.
     look: usize,
+    /// How many names the list may have.
+    most: usize,
 }
 
 impl LineList {
-    /// The list of no lines, for those of a text of so many bytes, with a seed of the table of names.
-    fn new(alloc: Global, bytes: usize, seed: Seed) -> LineList
+    /// The list of no lines, for those of a text of so many bytes, with a seed of the table of names, and at most so many of these.
+    fn new(alloc: Global, bytes: usize, seed: Seed, most: usize) -> LineList
         ensures { IsList [] result }
     {
         LineList {
@@ -86,6 +95,7 @@ impl LineList {
             recent: Recent::new(alloc, bytes),
             met: Met::new(alloc, bytes),
             look: FIRST_LOOK,
+            most,
         }
     }
 
@@ -95,6 +105,9 @@ impl LineList {
         ensures twice { IfErr result (λ stop. stop ≡ Twice → (before : List NetLine) → IsList before self.old → IsRepeat before (Module name.now) self.new) }
     {
         self.recent.note(alloc, &mut self.names, name)?;
+        if self.names.len() > self.most {
+            return Err(Stop::Many);
+        }
         if self.names.len() > MOST_NAMES {
             return Err(Stop::Unread);
         }
@@ -114,6 +127,9 @@ impl LineList {
     {
         let from = self.recent.note(alloc, &mut self.names, importer)?;
         let to = self.recent.note(alloc, &mut self.names, imported)?;
+        if self.names.len() > self.most {
+            return Err(Stop::Many);
+        }
         if self.names.len() > MOST_NAMES || self.imports.len() >= MOST_IMPORTS {
             return Err(Stop::Unread);
         }
@@ -235,10 +251,27 @@ fn fill(alloc: Global, bytes: &[u8], list: &mut LineList) -> Filled
         match list.take_next(alloc, rest, read) {
             Ok(behind) => rest = behind,
             Err(Stop::Twice) => return Filled::Twice(line),
+            Err(Stop::Many) => return Filled::Many,
             Err(Stop::Unread) => return Filled::Unread,
         }
     }
     Filled::Whole
+}
+
+/// The same, with the seed of all texts for a few names, and behind these anew, with that which the text gives: so few lines are read twice,
+/// and a text that is told before it has more names costs no digest.
+fn fill_anew(alloc: Global, bytes: &[u8], list: &mut LineList) -> Filled
+    requires { IsList [] list.old }
+    ensures whole { result ≡ filled.Whole → IsListOf bytes.now list.new }
+    ensures twice { (line : ℕ) → result ≡ filled.Twice line → IsRepeatAt bytes.now line list.new }
+{
+    match fill(alloc, bytes, list) {
+        Filled::Many => {
+            *list = LineList::new(alloc, bytes.len(), seed_of(bytes), MOST_NAMES);
+            fill(alloc, bytes, list)
+        }
+        ended => ended,
+    }
 }
 
 /// Whether the imports of a list are apart.
@@ -290,15 +323,15 @@ fn ordered(alloc: Global, list: &LineList) -> Result<Option<(Vec<String>, Vec<Pr
 pub(crate) fn straight_lists(
     alloc: Global,
     bytes: &[u8],
-    seed: Seed,
 ) -> Result<Option<(Vec<String>, Vec<Priced>)>, NetFault>
     ensures text { IfOk result (λ found. IfSome found (λ lists. NetText bytes.now (net_of lists.0.items lists.1.items))) }
     ensures few_names { IfOk result (λ found. IfSome found (λ lists. length lists.0.items ≤ 8192)) }
     ensures few_imports { IfOk result (λ found. IfSome found (λ lists. length lists.1.items ≤ 65536)) }
     ensures fault { IfErr result (λ fault. UnlessMemory fault (λ refusal. IsNetOutcome bytes.now (Err refusal))) }
 {
-    let mut list = LineList::new(alloc, text_read(bytes).len(), seed);
-    match fill(alloc, bytes, &mut list) {
+    let seed = Seed::for_keys(&[], 0);
+    let mut list = LineList::new(alloc, text_read(bytes).len(), seed, FEW_NAMES);
+    match fill_anew(alloc, bytes, &mut list) {
         Filled::Whole => Ok(ordered(alloc, &list)?),
         Filled::Twice(line) => {
             if are_apart(alloc, &list)? {
@@ -307,6 +340,6 @@ pub(crate) fn straight_lists(
                 Ok(None)
             }
         }
-        Filled::Unread => Ok(None),
+        Filled::Many | Filled::Unread => Ok(None),
     }
 }
