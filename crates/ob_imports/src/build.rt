@@ -18,6 +18,7 @@ use crate::{Edge, Graph, GraphFault, Parsed};
 use digraph::{cycle, ranks_of, renumbered};
 use indexmap::IndexSet;
 use std::alloc::{AllocError, Global};
+use text_hash::Seed;
 
 const MOST_MODULES: usize = 4096;
 
@@ -68,7 +69,7 @@ fn cycle_in(
 fn from_names(
     alloc: Global,
     parsed: &[Parsed],
-    names: IndexSet<String>,
+    names: IndexSet<String, Seed>,
     pairs: Vec<Edge>,
 ) -> Result<Graph, GraphFault>
     requires { AreFilesOfGraph (files_of parsed.now) (graph_with names.keys (length parsed.now) pairs.items) }
@@ -85,7 +86,7 @@ fn from_names(
 fn from_nodes(
     alloc: Global,
     parsed: &[Parsed],
-    names: IndexSet<String>,
+    names: IndexSet<String, Seed>,
 ) -> Result<Graph, GraphFault>
     requires files { AreFiles (files_of parsed.now) }
     requires nodes { AreNodes (files_of parsed.now) (texts names.keys) }

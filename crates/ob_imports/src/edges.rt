@@ -13,18 +13,19 @@ use crate::{Edge, Parsed};
 use digraph::put_in_order;
 use indexmap::IndexSet;
 use std::alloc::{AllocError, Global};
+use text_hash::Seed;
 
 fn add_pairs(
     pairs: &mut Vec<Edge>,
     file: &Parsed,
-    table: &IndexSet<String>,
+    table: &IndexSet<String, Seed>,
 ) -> Result<(), AllocError>
     requires few { length table.now.keys ≤ 8192 }
     requires known { (n : List ℕ) → IsNode (files_of (file.now ∷ [])) n → Contains (texts table.now.keys) n }
     ensures { OnOk result (pairs.new.items ≡ pairs.old.items ++ pairs_from (texts table.now.keys) (string_bytes file.now.name) (texts file.now.imports.items)) }
 {
+    let from = number_of(table, file.name.as_str());
     for import in &file.imports {
-        let from = number_of(table, file.name.as_str());
         let to = number_of(table, import.as_str());
         pairs.push(Edge { from, to })?;
     }
@@ -34,7 +35,7 @@ fn add_pairs(
 fn all_of(
     alloc: Global,
     parsed: &[Parsed],
-    table: &IndexSet<String>,
+    table: &IndexSet<String, Seed>,
 ) -> Result<Vec<Edge>, AllocError>
     requires few { length table.now.keys ≤ 8192 }
     requires known { (n : List ℕ) → IsNode (files_of parsed.now) n → Contains (texts table.now.keys) n }
@@ -51,7 +52,7 @@ fn all_of(
 pub(crate) fn pairs_of(
     alloc: Global,
     parsed: &[Parsed],
-    table: &IndexSet<String>,
+    table: &IndexSet<String, Seed>,
 ) -> Result<Vec<Edge>, AllocError>
     requires few { length table.now.keys ≤ 8192 }
     requires once { IsDistinct bytes_eq (texts table.now.keys) }

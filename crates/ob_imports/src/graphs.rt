@@ -11,12 +11,13 @@ use digraph::{flipped, rows_of};
 use indexmap::IndexSet;
 use std::alloc::{AllocError, Global};
 use std::marker::Model;
+use text_hash::Seed;
 
 /// The modules of a tree and the external ones that they import, by numbers, and what each imports. The modules of the
 /// tree are numbered in the order of their files, and the external ones follow by name.
 #[derive(Drop)]
 pub struct Graph {
-    pub(crate) names: IndexSet<String>,
+    pub(crate) names: IndexSet<String, Seed>,
     pub(crate) modules: u32,
     pub(crate) pairs: Vec<Edge>,
     /// The numbers of the modules by ascending name.
@@ -66,7 +67,7 @@ impl Graph {
     /// The graph of names and imports that keep what every graph keeps.
     pub(crate) fn of(
         alloc: Global,
-        names: IndexSet<String>,
+        names: IndexSet<String, Seed>,
         modules: u32,
         pairs: Vec<Edge>,
         order: Vec<u32>,

@@ -8,8 +8,10 @@ ghost use Rattle.ob_imports.specs.Numbering.{all_lacked, lacked, place_of};
 ghost use Rattle.ob_imports.specs.Outcomes.{AreFiles, HasManyNodes};
 
 use crate::Parsed;
+use crate::seeds::seed_of;
 use indexmap::IndexSet;
 use std::alloc::{AllocError, Global};
+use text_hash::Seed;
 
 const MOST_NODES: usize = 8192;
 
@@ -26,7 +28,7 @@ pub(crate) fn module_names(alloc: Global, parsed: &[Parsed]) -> Result<Vec<Strin
 /// Puts new names behind the others.
 pub(crate) fn put_names(
     alloc: Global,
-    table: &mut IndexSet<String>,
+    table: &mut IndexSet<String, Seed>,
     names: &[String],
 ) -> Result<(), AllocError>
     requires { IsDistinct bytes_eq (texts table.old.keys ++ texts names.now) }
@@ -43,7 +45,7 @@ fn add_lacked(
     alloc: Global,
     others: &mut Vec<String>,
     names: &[String],
-    table: &IndexSet<String>,
+    table: &IndexSet<String, Seed>,
 ) -> Result<(), AllocError>
     ensures { OnOk result (texts others.new.items ≡ texts others.old.items ++ lacked (texts table.now.keys) (texts names.now)) }
 {
@@ -59,7 +61,7 @@ fn add_lacked(
 fn all_others(
     alloc: Global,
     parsed: &[Parsed],
-    table: &IndexSet<String>,
+    table: &IndexSet<String, Seed>,
 ) -> Result<Vec<String>, AllocError>
     ensures { IfOk result (λ others. texts others.items ≡ all_lacked (texts table.now.keys) (files_of parsed.now)) }
 {
@@ -80,12 +82,12 @@ fn put_in_order(names: &mut Vec<String>)
 }
 
 /// The names of the files' modules.
-fn of_files(alloc: Global, parsed: &[Parsed]) -> Result<IndexSet<String>, AllocError>
+fn of_files(alloc: Global, parsed: &[Parsed]) -> Result<IndexSet<String, Seed>, AllocError>
     requires { DifferInName (files_of parsed.now) }
     ensures { IfOk result (λ table. texts table.keys ≡ names_of (files_of parsed.now)) }
 {
     let names = module_names(alloc, parsed)?;
-    let mut table = IndexSet::new(alloc);
+    let mut table = IndexSet::with_hasher(alloc, seed_of(alloc, parsed)?);
     put_names(alloc, &mut table, names.as_slice())?;
     Ok(table)
 }
@@ -94,7 +96,7 @@ fn of_files(alloc: Global, parsed: &[Parsed]) -> Result<IndexSet<String>, AllocE
 fn others_in_order(
     alloc: Global,
     parsed: &[Parsed],
-    table: &IndexSet<String>,
+    table: &IndexSet<String, Seed>,
 ) -> Result<Vec<String>, AllocError>
     ensures ascending { IfOk result (λ others. AreAscending (texts others.items)) }
     ensures same { IfOk result (λ others. (n : List ℕ) → Contains (texts others.items) n ↔ Contains (all_lacked (texts table.now.keys) (files_of parsed.now)) n) }
@@ -109,7 +111,7 @@ fn others_in_order(
 pub(crate) fn nodes_of(
     alloc: Global,
     parsed: &[Parsed],
-) -> Result<Option<IndexSet<String>>, AllocError>
+) -> Result<Option<IndexSet<String, Seed>>, AllocError>
     requires { AreFiles (files_of parsed.now) }
     ensures named { IfOk result (λ nodes. IfSome nodes (λ table. AreNodes (files_of parsed.now) (texts table.keys))) }
     ensures few { IfOk result (λ nodes. IfSome nodes (λ table. length table.keys ≤ 8192)) }
@@ -128,7 +130,7 @@ pub(crate) fn nodes_of(
 }
 
 /// The place of a name that the table has.
-pub(crate) fn number_of(table: &IndexSet<String>, name: &str) -> u32
+pub(crate) fn number_of(table: &IndexSet<String, Seed>, name: &str) -> u32
     requires few { length table.now.keys ≤ 8192 }
     requires known { Contains (texts table.now.keys) name.now }
     ensures { result ≡ place_of (texts table.now.keys) name.now }
