@@ -24,6 +24,9 @@ fn add_pairs(
     requires known { (n : List ℕ) → IsNode (files_of (file.now ∷ [])) n → Contains (texts table.now.keys) n }
     ensures { OnOk result (pairs.new.items ≡ pairs.old.items ++ pairs_from (texts table.now.keys) (string_bytes file.now.name) (texts file.now.imports.items)) }
 {
+    if file.imports.is_empty() {
+        return Ok(());
+    }
     let from = number_of(table, file.name.as_str());
     for import in &file.imports {
         let to = number_of(table, import.as_str());

@@ -126,6 +126,11 @@ impl Graph {
         Some(place as u32)
     }
 
+    /// The seed of the table of names, for other tables of them. It is a matter of speed alone.
+    pub fn seed(&self) -> Seed {
+        *self.names.hasher()
+    }
+
     /// The numbers of all modules, by ascending name.
     pub fn by_name(&self) -> &[u32]
         ensures { IsByName self.now.names result.now }

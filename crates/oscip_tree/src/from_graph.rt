@@ -13,13 +13,18 @@ use indexmap::IndexMap;
 use ob_imports::Graph;
 use ob_scope::Scopes;
 use std::alloc::{AllocError, Global};
+use text_hash::Seed;
 
-/// Per imported module how many uses all its aliases qualify.
-fn sums_of<'a>(alloc: Global, scopes: &'a Scopes) -> Result<IndexMap<&'a str, u64>, AllocError>
+/// Per imported module how many uses all its aliases qualify, in a table with a seed.
+fn sums_of<'a>(
+    alloc: Global,
+    scopes: &'a Scopes,
+    seed: Seed,
+) -> Result<IndexMap<&'a str, u64, Seed>, AllocError>
     ensures { IfOk result (λ sums. (name : List ℕ) → sum_in sums name ≡ uses_across scopes.now.aliases name) }
 {
     scopes.keeps();
-    let mut sums = IndexMap::new(alloc);
+    let mut sums = IndexMap::with_hasher(alloc, seed);
     for alias in scopes.aliases() {
         let name = alias.module.as_str();
         let before = sums.get(name).copied().unwrap_or(0);
@@ -28,7 +33,7 @@ fn sums_of<'a>(alloc: Global, scopes: &'a Scopes) -> Result<IndexMap<&'a str, u6
     Ok(sums)
 }
 
-fn sum_of(sums: &IndexMap<&str, u64>, name: &str) -> u64
+fn sum_of(sums: &IndexMap<&str, u64, Seed>, name: &str) -> u64
     ensures { result ≡ sum_in sums.now name.now }
 {
     sums.get(name).copied().unwrap_or(0)
@@ -48,7 +53,7 @@ fn add_imports(
     ensures last { OnOk result (imports.new.items ≡ imports.old.items ++ map (ranked ranks.now) (map (entry_to graph.now scopes.now from) (imported graph.now.pairs from))) }
 {
     graph.keeps();
-    let sums = sums_of(alloc, scopes)?;
+    let sums = sums_of(alloc, scopes, graph.seed())?;
     for to in graph.imports_of(from) {
         let amount = sum_of(&sums, graph.name(*to));
         imports.push(Priced {
