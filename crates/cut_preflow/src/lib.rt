@@ -4,7 +4,6 @@
 #![tactic(auto)]
 
 mod admissible;
-mod current_arcs;
 mod ends;
 mod event;
 mod excesses;

@@ -8,7 +8,6 @@ ghost use Rattle.cut_preflow.specs.Flows.{AreEnds, AreNear, AreReached, HasFlow,
 ghost use Rattle.cut_preflow.specs.Side.{has};
 ghost use Rattle.cut_preflow.specs.Trace.{carried_in, state_of, step_outcome, history_after, IsSound, IsWithinLimits, flow_network};
 
-use crate::current_arcs::CurrentArcs;
 use crate::ends::Ends;
 use crate::excesses::{excesses_opened, move_excess};
 use crate::flow_graph::FlowGraph;
@@ -16,7 +15,7 @@ use crate::node_set::NodeSet;
 use crate::tour::Tour;
 use crate::{Event, Outcome, Step};
 use cut_net::{Net, Priced};
-use cut_residual::OutArc;
+use cut_residual::{CurrentArcs, OutArc};
 use std::alloc::{AllocError, Global};
 use std::marker::Model;
 

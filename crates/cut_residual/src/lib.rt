@@ -5,6 +5,7 @@
 
 mod arc;
 mod augment;
+mod current_arcs;
 mod found;
 mod graph;
 mod groups;
@@ -14,6 +15,7 @@ mod searches;
 mod spread;
 
 pub use arc::{Arc, OutArc, ResidualArc};
+pub use current_arcs::CurrentArcs;
 pub use found::Searched;
 pub use graph::ResidualGraph;
 pub use order::{order_of, places_of};

@@ -6,17 +6,18 @@ ghost use Rattle.cut_residual.specs.OutArcs.{IsOutOf, out_at};
 ghost use Rattle.cut_trial.specs.Trials.{label_at, HasOtherFlow, LeadsDown};
 
 use crate::distances::distances_to;
-use cut_residual::{OutArc, ResidualGraph, order_of};
+use cut_residual::{CurrentArcs, OutArc, ResidualGraph, order_of};
 use std::alloc::{AllocError, Global};
 use std::marker::Model;
 
-/// A graph with its flow, and for each node its excess and its label; those that wait have excess.
+/// A graph with its flow, and for each node its excess, its label and its current arc; those that wait have excess.
 #[derive(Drop)]
 struct Trial {
     graph: ResidualGraph,
     excesses: Vec<u64>,
     labels: Vec<u32>,
     waiting: Vec<u32>,
+    current: CurrentArcs,
 }
 
 impl Model for Trial {
@@ -63,6 +64,20 @@ fn first_down(outs: &[OutArc], labels: &[u32], label: u32, start: usize) -> Down
         place: outs.len(),
         passed,
     }
+}
+
+/// The least label that the first ones of these residual arcs, so many, lead to, of those with something left; 2^32 - 1 where none has.
+fn least_label(outs: &[OutArc], labels: &[u32], count: usize) -> u32
+    requires { All (λ a. a.head < length labels.now) outs.now }
+{
+    let mut least = u32::MAX;
+    for place in 0..count.min(outs.len()) {
+        let out = &outs[place];
+        if out.residual > 0 {
+            least = least.min(labels[out.head as usize]);
+        }
+    }
+    least
 }
 
 /// The nodes with excess, the last first, without the end.
@@ -146,16 +161,25 @@ impl Trial {
         Ok(label)
     }
 
-    /// Sends on what a node has too much, one label down. Where something is left in the end, answers the least label that it could still
-    /// go to.
+    /// The least label that those residual arcs of a node lead to which are passed.
+    fn least_passed(&self, node: u32) -> u32
+        requires { node < self.now.nodes }
+    {
+        let passed = self.current.passed(node);
+        least_label(self.graph.residual_arcs(node), &self.labels, passed)
+    }
+
+    /// Sends on what a node has too much, one label down, from its current arc on: over the arcs that are passed nothing goes before its label
+    /// is raised. Where something is left in the end, answers the least label that it could still go to over the others.
     fn push_all(&mut self, node: u32) -> Result<u32, AllocError>
         requires { node < self.old.nodes }
         ensures { OnOk result (HasOtherFlow self.old self.new) }
     {
         let mut least = u32::MAX;
-        let mut next = 0;
+        let mut next = self.current.passed(node);
         for _ in 0..self.graph.residual_arcs(node).len() {
             if self.excesses[node as usize] == 0 {
+                self.current.pass(node, next);
                 return Ok(least);
             }
             let down = self.next_down(node, next);
@@ -165,7 +189,11 @@ impl Trial {
             };
             let label = self.push(node, out)?;
             least = least.min(label);
-            next = down.place.saturating_add(1);
+            next = if label == u32::MAX {
+                down.place.saturating_add(1)
+            } else {
+                down.place
+            };
         }
         Ok(least)
     }
@@ -176,11 +204,13 @@ impl Trial {
         requires { node < self.old.nodes }
         ensures { OnOk result (HasOtherFlow self.old self.new) }
     {
-        let label = self.push_all(node)?.saturating_add(1);
+        let least = self.push_all(node)?;
         if self.excesses[node as usize] == 0 {
             return Ok(false);
         }
+        let label = least.min(self.least_passed(node)).saturating_add(1);
         self.labels[node as usize] = label;
+        self.current.pass(node, 0);
         if label < self.graph.nodes() {
             self.waiting.push(node)?;
         }
@@ -212,6 +242,7 @@ impl Trial {
         let distances = distances_to(alloc, &self.graph, end)?;
         self.waiting = with_excess(alloc, &distances.reached, &self.excesses, end)?;
         self.labels = distances.labels;
+        self.current = CurrentArcs::new(alloc, self.graph.nodes())?;
         Ok(!self.waiting.is_empty())
     }
 
@@ -317,6 +348,7 @@ pub fn trial_flow(
         excesses: vec![in alloc; 0u64; nodes as usize]?,
         labels: vec![in alloc; nodes; nodes as usize]?,
         waiting: Vec::new(alloc),
+        current: CurrentArcs::new(alloc, nodes)?,
     };
     trial.settle(alloc, &order, start, end)?;
     Ok(trial.graph)
