@@ -117,13 +117,17 @@ impl PreflowCore {
         None
     }
 
-    /// The first arc of an active node over which a push applies: first of those that aren't passed.
+    /// The first arc of an active node over which a push applies: first of those that aren't passed. From a label 0 nothing leads down, which
+    /// saves a look at all arcs of a node at its first turn.
     fn push_from(&self, node: u32) -> Option<u32>
         requires active { is_active self.now.net (state_of self.now) node ≡ true }
         requires node { node < self.now.net.nodes }
         ensures some { IfSome result (λ arc. can_push self.now.net (state_of self.now) arc ≡ true) }
         ensures none { IsNone result → (a : ℕ) → a < 2 * count self.now.net → tail self.now.net a ≡ node → can_push self.now.net (state_of self.now) a ≡ false }
     {
+        if self.label(node) == 0 {
+            return None;
+        }
         let outs = self.outs_from(node);
         let (passed, ahead) = outs.split_at(self.passed(node).min(outs.len()));
         match self.first_push(node, ahead) {

@@ -18,6 +18,7 @@ pub(crate) struct Excesses {
 }
 
 /// Writes the excess of a node. The node becomes active or not by it, where it is neither end.
+#[inline(always)]
 fn write(ends: Ends, excesses: &mut Vec<u64>, active: &mut NodeSet, node: u32, excess: u64)
     requires node { node < ends.nodes }
     requires active { AreActive ends excesses.old.items active.old }

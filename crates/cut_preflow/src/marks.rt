@@ -63,6 +63,14 @@ impl Marks {
         }
     }
 
+    /// Whether a place is marked.
+    pub(crate) fn has(&self, place: usize) -> bool {
+        match self.words.get(place / 64) {
+            Some(word) => *word & mark_of(place) > 0,
+            None => false,
+        }
+    }
+
     /// The first word with a mark, from this one on.
     fn next_word(&self, word: usize) -> Option<usize> {
         let mut from = word;

@@ -42,7 +42,8 @@ impl Tour {
         if stands == node { Some(place) } else { None }
     }
 
-    /// Gives a node turns.
+    /// Gives a node turns. Not laid out at its callers, which seldom come to it.
+    #[inline(never)]
     pub(crate) fn enter(&mut self, node: u32) {
         if let Some(place) = self.place(node) {
             self.marks.put(place);
@@ -50,6 +51,7 @@ impl Tour {
     }
 
     /// Takes its turns from a node.
+    #[inline(never)]
     pub(crate) fn leave(&mut self, node: u32) {
         if let Some(place) = self.place(node) {
             self.marks.take(place);
@@ -57,7 +59,16 @@ impl Tour {
     }
 
     /// Goes on to the next node that has turns, from where it is, and from the last to the first. Where none has, it stays.
+    #[inline(always)]
     pub(crate) fn go_on(&mut self) {
+        if !self.marks.has(self.at) {
+            self.find_next();
+        }
+    }
+
+    /// Goes on to the next node that has turns.
+    #[inline(never)]
+    fn find_next(&mut self) {
         if let Some(place) = self.marks.next(self.at) {
             self.at = place;
             return;

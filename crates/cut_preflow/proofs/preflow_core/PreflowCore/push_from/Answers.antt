@@ -1,12 +1,14 @@
-use Rattle.std.proofs.Common.{◌≡◌, ◌∙◌, ◌<◌, ◌+◌, ℕ, List, false, get_or, map, length, refl, sym, ap, subst, arith}
+use Rattle.std.proofs.Common.{◌≡◌, ◌∙◌, ◌<◌, ◌+◌, ℕ, List, inl, inr, false, get_or, map, length, refl, sym, ap, subst, arith}
 use Rattle.std.specs.Prelude.{All, Contains}
 use Rattle.std.proofs.lemmas.List.{get_or-drop, get_or-map, get_or-take, length-map}
 use Rattle.std.proofs.lemmas.List.Elements.{All-append}
 use Rattle.cut_residual.specs.declared.arc.OutArc.{OutArc}
 use Rattle.cut_residual.specs.OutArcs.{no_out_arc}
 use Rattle.cut_preflow.specs.FlowGraphs.{IsArcFrom, out_arc_number}
-use Rattle.cut_preflow.specs.Preflow.{can_push}
+use Rattle.cut_preflow.specs.Preflow.{FlowNetwork, State, can_push, label_at, tail}
 use Rattle.cut_preflow.specs.Trace.{carried_in, state_of}
+use Rattle.cut_preflow.proofs.Arcs.{pushable_from}
+use Rattle.cut_preflow.proofs.Choices.{true_or_false}
 use Rattle.cut_preflow.proofs.preflow_core.PreflowCore.push_from.Goals as goal
 
 -- what is so of each arc's number is so of each number
@@ -15,6 +17,19 @@ of_number P outs each a (j, in_map, at) =
     let len = length-map outs out_arc_number in
     let in_outs : j < length outs = omega arith in
     subst P (sym (get_or-map out_arc_number outs j no_out_arc a in_outs) ∙ at) (each j no_out_arc in_outs)
+
+-- from a label 0 no push goes
+none_from_0 : (net : FlowNetwork) (s : State) (a : ℕ) → label_at s (tail net a) ≡ 0 → can_push net s a ≡ false
+none_from_0 net s a low = elim (true_or_false (can_push net s a)) [
+  | inl on ↦ absurd (omega (arith, (pushable_from net s a on).downhill, low))
+  | inr off ↦ off
+]
+
+pub returns-then-label-eq0-clause-none : goal.returns-then-label-eq0-clause-none
+returns-then-label-eq0-clause-none c none a low leaves =
+    let net = c.args.self.now.net in
+    let s = state_of c.args.self.now in
+    none_from_0 net s a (ap (label_at s) leaves ∙ sym c.label.ensures.value ∙ c.if-label-eq0.true)
 
 pub first_push-requires-clause-each : goal.first_push-requires-clause-each
 first_push-requires-clause-each c k d low =
