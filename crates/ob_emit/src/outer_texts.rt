@@ -25,9 +25,9 @@ pub(crate) struct Outer<'a> {
     pub(crate) names: IndexMap<(u32, &'a [u8]), Option<String>, Seed>,
 }
 
-/// The seed of a table of the names of modules that aren't in the tree: the author of the module chooses them.
+/// The seed of a table of modules that aren't in the tree, by their import items, and of names of such: the module's author chooses both.
 pub(crate) fn outside_seed(types: &Types<'_>, refs: &[Reference]) -> Seed {
-    let mut most: usize = 0;
+    let mut most = types.table().imports().len();
     for reference in refs {
         if let Target::External { .. } = reference.target {
             most = most.saturating_add(1);
