@@ -40,8 +40,13 @@ impl Marks {
     /// Marks a place.
     pub(crate) fn put(&mut self, place: usize) {
         let word = place / 64;
-        if let Some(marks) = self.words.get_mut(word) {
-            *marks |= mark_of(place);
+        let Some(marks) = self.words.get_mut(word) else {
+            return;
+        };
+        let first = *marks == 0;
+        *marks |= mark_of(place);
+        if !first {
+            return;
         }
         if let Some(marks) = self.above.get_mut(word / 64) {
             *marks |= mark_of(word);

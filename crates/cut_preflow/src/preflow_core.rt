@@ -124,12 +124,11 @@ impl PreflowCore {
         ensures state { result ≢ Outcome.Refused → state_of self.new ≡ after self.old.net (state_of self.old) event.step }
     {
         let outcome = self.take(event);
-        self.pass_arcs(event.step);
         self.go_on();
         outcome
     }
 
-    /// The same, with the turn and the arcs that are passed left as they are.
+    /// The same, with the turn left as it is.
     fn take(&mut self, event: Event) -> Outcome
         ensures stale { (result ≡ Outcome.Stale) ↔ (applies self.old.net (state_of self.old) event.step ≡ false) }
         ensures outcome { result ≢ Outcome.Refused → result ≡ step_outcome self.old.net (state_of self.old) event.step }
@@ -149,17 +148,11 @@ impl PreflowCore {
         self.active.go_on();
     }
 
-    /// After a push, passes arcs of the node that it left from.
-    fn pass_arcs(&mut self, step: Step)
+    /// After a push over an arc of a node, passes arcs of the node.
+    fn pass_arcs(&mut self, node: u32, arc: u32)
+        requires { node < self.old.net.nodes }
         ensures { self.new ≡ self.old }
     {
-        let Step::Push { arc } = step else {
-            return;
-        };
-        if (arc / 2) as usize >= self.graph.count() {
-            return;
-        }
-        let node = self.tail(arc);
         let passed = self.arcs_passed(node, arc);
         self.current.pass(node, passed);
     }
@@ -362,6 +355,7 @@ impl PreflowCore {
             to,
             amount,
         );
+        self.pass_arcs(from, arc);
         Outcome::Moved { amount }
     }
 

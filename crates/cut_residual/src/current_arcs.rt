@@ -10,6 +10,7 @@ use std::alloc::{AllocError, Global};
 #[derive(Drop)]
 pub struct CurrentArcs {
     passed: Vec<u32>,
+    any: bool,
 }
 
 impl CurrentArcs {
@@ -17,6 +18,7 @@ impl CurrentArcs {
     pub fn new(alloc: Global, nodes: u32) -> Result<CurrentArcs, AllocError> {
         Ok(CurrentArcs {
             passed: vec![in alloc; 0u32; nodes as usize]?,
+            any: false,
         })
     }
 
@@ -29,6 +31,15 @@ impl CurrentArcs {
     pub fn pass(&mut self, node: u32, passed: usize) {
         if let Some(written) = self.passed.get_mut(node as usize) {
             *written = u32::try_from(passed).unwrap_or(0);
+            self.any = true;
+        }
+    }
+
+    /// Passes none any more, as at first.
+    pub fn pass_none(&mut self) {
+        if self.any {
+            self.passed.as_mut_slice().fill(0);
+            self.any = false;
         }
     }
 }

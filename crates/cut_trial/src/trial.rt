@@ -10,6 +10,9 @@ use cut_residual::{CurrentArcs, OutArc, ResidualGraph, order_of};
 use std::alloc::{AllocError, Global};
 use std::marker::Model;
 
+/// Up to so many residual arcs of a node are gone over again at each discharge, which takes less than to keep how many are passed.
+const FEW_ARCS: usize = 64;
+
 /// A graph with its flow, and for each node its excess, its label and its current arc; those that wait have excess.
 #[derive(Drop)]
 struct Trial {
@@ -161,11 +164,16 @@ impl Trial {
         Ok(label)
     }
 
-    /// The least label that those residual arcs of a node lead to which are passed.
-    fn least_passed(&self, node: u32) -> u32
-        requires { node < self.now.nodes }
+    /// The least label that those residual arcs of a node lead to which were passed. None is passed then.
+    fn least_passed(&mut self, node: u32) -> u32
+        requires { node < self.old.nodes }
+        ensures { self.new ≡ self.old }
     {
         let passed = self.current.passed(node);
+        if passed == 0 {
+            return u32::MAX;
+        }
+        self.current.pass(node, 0);
         least_label(self.graph.residual_arcs(node), &self.labels, passed)
     }
 
@@ -179,7 +187,9 @@ impl Trial {
         let mut next = self.current.passed(node);
         for _ in 0..self.graph.residual_arcs(node).len() {
             if self.excesses[node as usize] == 0 {
-                self.current.pass(node, next);
+                if next > FEW_ARCS {
+                    self.current.pass(node, next);
+                }
                 return Ok(least);
             }
             let down = self.next_down(node, next);
@@ -210,7 +220,6 @@ impl Trial {
         }
         let label = least.min(self.least_passed(node)).saturating_add(1);
         self.labels[node as usize] = label;
-        self.current.pass(node, 0);
         if label < self.graph.nodes() {
             self.waiting.push(node)?;
         }
@@ -242,7 +251,7 @@ impl Trial {
         let distances = distances_to(alloc, &self.graph, end)?;
         self.waiting = with_excess(alloc, &distances.reached, &self.excesses, end)?;
         self.labels = distances.labels;
-        self.current = CurrentArcs::new(alloc, self.graph.nodes())?;
+        self.current.pass_none();
         Ok(!self.waiting.is_empty())
     }
 
