@@ -1,5 +1,6 @@
 //! Networks: modules by name, the imports between them, and what each import costs.
-//! Stands on `texts` for names and numbers and on `digraph` for cycles, with `text_hash` and `indexmap` for its tables and `thiserror` for its faults.
+//! Stands on `texts` for names and numbers and on `digraph` for cycles, with `text_hash` and `indexmap` for its tables and `thiserror` for
+//! its faults.
 //! Its contract: a network is exactly what its text says, and with prices exactly what these say of it; it keeps its limits and has no
 //! cycle; and the laws of cuts, with pins and without.
 #![tactic(auto)]

@@ -1,5 +1,5 @@
 //! A tree of Oberon-07 modules: from the bytes of its files to the network of its imports, or to the tree's fault.
-//! Stands on `ob_scan`, `ob_parse`, `ob_table`, `ob_scope` and what is below them, on `ob_interface`, `ob_imports` and `cut_net`, with `indexmap` for sums and `thiserror` for its faults.
+//! Stands on `ob_scan`, `ob_parse`, `ob_table`, `ob_scope` and what is below them, on `ob_interface`, `ob_imports` and `cut_net`, with `text_hash` and `indexmap` for sums and `thiserror` for its faults.
 //! Its contract: the network is the tree's, an import costs the qualified uses that cross it, or the fault is that of the first file that has one, or else of the imports; what is read of a tree is so; and the scopes of one module by its syntax tree.
 #![tactic(auto)]
 
