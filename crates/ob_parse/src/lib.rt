@@ -21,4 +21,4 @@ pub mod tokens;
 pub mod types;
 
 pub use fault::ParseFault;
-pub use parser::parse;
+pub use parser::{fault_in, parse};
