@@ -62,19 +62,19 @@ if step == "lines":
     sys.exit()
 
 if step == "scopes":
-    names = ["read_table", "scopes", "table_of", "parse"]
+    names = ["read_table", "scopes", "parse"]
     print("| Shape | Tokens | %s | Bytes of a table, a token |" % " | ".join("`%s`, `scan`" % name for name in names))
     print("|---" * (len(names) + 3) + "|")
     for shape in shapes:
         files = files_of(shape)
         best = least(lambda: own_times(step, files))
         ratios = ["%.2f" % (best[name] / best["scan"]) for name in names]
-        size = (memory("table", files) - memory("parse", files)) / best["tokens"]
+        size = (memory("table", files) - memory("scan", files)) / best["tokens"]
         print("| %s | %d | %s | %.0f |" % (shape, best["tokens"], " | ".join(ratios), size), flush=True)
     sys.exit()
 
 if step == "emit":
-    names = ["scan", "read_table", "scopes", "types", "references", "document", "to_bytes", "document_record", "parse", "table_of"]
+    names = ["scan", "read_table", "scopes", "types", "references", "document", "to_bytes", "document_record", "parse"]
     print("Milliseconds of each step, and bytes of documents a source byte")
     print("| Shape | %s | Bytes |" % " | ".join(names))
     print("|---" * (len(names) + 2) + "|")

@@ -1,6 +1,6 @@
 //! Tests of what is said of one module by itself, its tokens, tree, table and scopes, from outside: of what no command shows. What a command
 //! prints, tells and ends with stands in `rows/`.
-//! Stands on `ob_scan`, `ob_tree`, `ob_walk`, `ob_rows`, `ob_decls`, `ob_parse`, `ob_table`, `ob_scope` and `ob_types`, and on
+//! Stands on `ob_scan`, `ob_tree`, `ob_walk`, `ob_rows`, `ob_parse`, `ob_table`, `ob_scope` and `ob_types`, and on
 //! `oscip_tree` for the scopes of a syntax tree and the networks of graphs, with `texts`, `ob_imports` and `cut_net` for these.
 //! Its contract: none; it has nothing but tests.
 #![tactic(auto)]

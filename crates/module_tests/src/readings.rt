@@ -7,7 +7,6 @@ ghost use Rattle.ob_scan.specs.Spelling.{IsOutcome};
 ghost use Rattle.ob_scope.specs.Identified.{IsIdentifier};
 ghost use Rattle.ob_tree.specs.Derives.{spelling};
 
-use ob_decls::table_of;
 use ob_parse::{ParseFault, parse};
 use ob_rows::Table;
 use ob_scan::{Tokens, scan};
@@ -32,12 +31,10 @@ pub(crate) fn parsed(alloc: Global, text: &[u8], tokens: &Tokens) -> Result<Box<
 /// The table of a text.
 pub(crate) fn table_in(alloc: Global, text: &[u8]) -> Result<Box<Table>, Fail> {
     let tokens = scan(alloc, text)?;
-    let tree = parsed(alloc, text, &tokens)?;
-    let table = table_of(alloc, &tree)?;
-    Ok(Box::new(alloc, table)?)
+    table_by_tokens(alloc, text, &tokens)
 }
 
-/// The table of a text with these tokens, in one pass over them.
+/// The table of a text with these tokens.
 pub(crate) fn table_by_tokens(
     alloc: Global,
     text: &[u8],

@@ -15,8 +15,8 @@ use Rattle.ob_rows.specs.Parts.{Piece, token, both, tells, if_there, each, decla
 use Rattle.ob_decls.specs.Expressions.{each_after, expr_piece}
 use Rattle.ob_decls.specs.Statements.{block_piece}
 use Rattle.ob_decls.specs.Types.{declared_row, identdef_piece, parameters_piece, type_piece, var_piece}
-use Rattle.ob_decls.specs.Declaring.{procedure_end, module_end, const_piece, type_decl_piece, variable_piece, part, declarations_step, procedure_step, declarations_piece, procedure_piece, procedure_inner, import_row, import_inner, import_piece, imports_piece, module_piece}
-use Rattle.ob_rows.proofs.Steps.{added_number, each-map, after_both, after_token, after_nothing, after_declaring, steps}
+use Rattle.ob_decls.specs.Declaring.{procedure_end, module_end, const_piece, type_decl_piece, variable_piece, part, declarations_step, procedure_step, declarations_piece, procedure_piece, import_row, import_inner, import_piece, imports_piece, module_piece}
+use Rattle.ob_rows.proofs.Steps.{added_number, each-map, after_both, after_token, after_declaring, steps}
 
 pub const_out : (c : ConstDecl) → const_piece c ≡ declaring sorts.Constant (both (identdef_piece c.name) (both token (expr_piece c.value)))
 unfolding const_piece
@@ -42,17 +42,6 @@ declarations_out d =
     both (if_there (λ v. part type_decl_piece v.items) (out-Declarations d).types) (
     both (if_there (λ v. part variable_piece v.items) (out-Declarations d).variables) o))) (each-map (λ (p : Piece). both p token) _ (out-Declarations d).procedures.items)
 
-pub procedure_inner_out : (p : ProcDecl) → procedure_inner p ≡
-    both token (both (identdef_piece (out-ProcDecl p).name) (both (if_there parameters_piece (out-ProcDecl p).parameters) (both token
-    (both (declarations_piece (out-ProcDecl p).declarations) (both (if_there (λ b. both token (block_piece b.value)) (out-ProcDecl p).body)
-    (both (if_there (λ e. both token (expr_piece e.value)) (out-ProcDecl p).returned) (both token (tells procedure_end token))))))))
-unfolding procedure_inner
-procedure_inner_out p = refl
-
-pub procedure_out : (p : ProcDecl) → procedure_piece p ≡ declaring sorts.Procedure (opens_block (procedure_inner p))
-unfolding declarations_piece procedure_piece procedure_inner
-procedure_out p = fold_out-ProcDecl Piece Piece declarations_step procedure_step p
-
 pub import_inner_out : (i : ImportItem) → import_inner i ≡ tells (import_row i) (tells (declared_row false) (both token (if_there (λ m. both token token) i.of)))
 unfolding import_inner
 import_inner_out i = refl
@@ -76,11 +65,7 @@ pub module_after : (m : Module) (c : Context) (s : Stage) → after (module_piec
     (after (if_there imports_piece m.imports) c (passed (passed (passed s))))))))
 module_after m c s = simp (module_out m, after_both, after_token)
 
-pub ruleset module_made = (module_after, after_nothing)
-
-pub ruleset sections_made = (steps, after_declaring, added_number, const_out, type_decl_out, variable_out, import_inner_out, import_out, imports_out)
-
-pub ruleset declarations_made = (steps, after_declaring, added_number, declarations_out, procedure_inner_out, procedure_out)
+pub ruleset sections_made = (steps, after_declaring, added_number, import_inner_out, import_out, imports_out)
 
 abbrev pub procedure_shown : ProcDecl-F Declarations ProcDecl → Piece
 procedure_shown p = declaring sorts.Procedure (opens_block (

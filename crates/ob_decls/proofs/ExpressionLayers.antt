@@ -23,7 +23,7 @@ use Rattle.ob_rows.specs.declared.rows.Step.TheVariants as steps_of
 use Rattle.ob_rows.specs.Parts.{Piece, token, both, tells, if_there, each}
 use Rattle.ob_decls.specs.Expressions.{Phrase, Listed, Selected, Denoted, Lone, between, no_name, used, first_name, name_with, if_alone, if_bare, its_selectors, designator_row, each_after, factor_piece, designator_piece, element_piece, element_list_piece, expr_piece, expr_list_piece, sum_piece, term_piece}
 use Rattle.ob_decls.specs.Expressions.{factor_phrase, selected, denoted, expr_phrase, listed, sum_phrase, term_phrase, factor_step, selector_step, designator_step, element_step, element_list_step, expr_step, expr_list_step, sum_step, term_step}
-use Rattle.ob_rows.proofs.Steps.{each-map, steps}
+use Rattle.ob_rows.proofs.Steps.{each-map}
 
 there : (o : Option (Relation × Box SimpleExpression Global)) →
     if_there (λ c. both token c.1.value.piece) ((shapes.former-Expr-compared).map SimpleExpression Phrase sum_phrase o) ≡ if_there (λ c. both token (sum_piece c.1.value)) o
@@ -182,9 +182,6 @@ factor_of : (f : Factor) (x : Factor-F Factor Selector Designator Element Elemen
 unfolding factor_piece
 factor_of f x e = ap (λ (p : Phrase). p.piece) (factor_out f) ∙ ap (λ y. (factor_shown y).piece) e
 
-named_of : (f : Factor) (x : Factor-F Factor Selector Designator Element ElementList Expr ExprList SimpleExpression Term) (n : ℕ) → out-Factor f ≡ x → (factor_phrase f).name n ≡ (factor_shown x).name n
-named_of f x n e = ap (λ (p : Phrase). p.name n) (factor_out f) ∙ ap (λ y. (factor_shown y).name n) e
-
 pub value_made : (k : Literal) (n : ℕ) → factor_piece (factors.Value k n) ≡ token
 value_made k n = factor_of _ _ (factors.outs-Value k n)
 
@@ -223,38 +220,6 @@ target_made = selector_of _ _ selectors.outs-Target
 
 pub arguments_made : (o : Option (Box ExprList Global)) → selected (selectors.Arguments o) ≡ selector_shown (layers.Arguments o)
 arguments_made o = selector_of _ _ (selectors.outs-Arguments o)
-
--- which expressions are a name alone
-
-pub value_named : (k : Literal) (n : ℕ) (at : ℕ) → (factor_phrase (factors.Value k n)).name at ≡ None
-value_named k n at = named_of _ _ at (factors.outs-Value k n)
-
-pub nil_named : (at : ℕ) → (factor_phrase factors.Nil).name at ≡ None
-nil_named at = named_of _ _ at factors.outs-Nil
-
-pub true_named : (at : ℕ) → (factor_phrase factors.True).name at ≡ None
-true_named at = named_of _ _ at factors.outs-True
-
-pub false_named : (at : ℕ) → (factor_phrase factors.False).name at ≡ None
-false_named at = named_of _ _ at factors.outs-False
-
-pub set_named : (o : Option (Box ElementList Global)) (at : ℕ) → (factor_phrase (factors.Set o)).name at ≡ None
-set_named o at = named_of _ _ at (factors.outs-Set o)
-
-pub name_named : (d : Designator) (at : ℕ) → (factor_phrase (factors.Name d)).name at ≡ (denoted d).name at
-name_named d at = named_of _ _ at (factors.outs-Name d)
-
-pub group_named : (b : Box Expr Global) (at : ℕ) → (factor_phrase (factors.Group b)).name at ≡ None
-group_named b at = named_of _ _ at (factors.outs-Group b)
-
-pub not_named : (b : Box Factor Global) (at : ℕ) → (factor_phrase (factors.Not b)).name at ≡ None
-not_named b at = named_of _ _ at (factors.outs-Not b)
-
-pub ruleset selectors_made = (field_made, index_made, target_made, arguments_made, expr_list_count)
-
-pub ruleset names_alone = (selectors_made, expr_name, sum_name, term_name, expr_list_name, designator_name, value_named, nil_named, true_named, false_named, set_named, name_named, group_named, not_named)
-
-pub ruleset expressions_made = (steps, expr_out, sum_out, term_out, element_out, element_list_out, expr_list_out, value_made, nil_made, true_made, false_made, set_made, name_made, group_made, not_made, field_made, index_made, target_made, arguments_made)
 
 pub factor_told : (f : Factor) → factor_piece f ≡ (factor_shown (out-Factor f)).piece
 factor_told f = factor_of f (out-Factor f) refl

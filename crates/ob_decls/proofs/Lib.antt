@@ -1,6 +1,5 @@
 pub mod DeclarationLayers
 pub mod ExpressionLayers
-pub mod LoneNames
 pub mod Settled
 pub mod StatementLayers
 pub mod TypeLayers

@@ -12,7 +12,7 @@ use Rattle.ob_tree.specs.declared.expression.Designator.{Designator, Designator-
 use Rattle.ob_tree.specs.declared.expression.Element.{Element, Element-F, roll-Element, out-roll-Element, map-Element}
 use Rattle.ob_tree.specs.declared.expression.ElementList.{ElementList, ElementList-F, roll-ElementList, out-roll-ElementList, map-ElementList}
 use Rattle.ob_tree.specs.declared.expression.Expr.{Expr, Expr-F, roll-Expr, out-roll-Expr, ind-Expr, map-Expr}
-use Rattle.ob_tree.specs.declared.expression.ExprList.{ExprList, ExprList-F, roll-ExprList, out-roll-ExprList, ind-ExprList, map-ExprList}
+use Rattle.ob_tree.specs.declared.expression.ExprList.{ExprList, ExprList-F, roll-ExprList, out-roll-ExprList, map-ExprList}
 use Rattle.ob_tree.specs.declared.expression.SimpleExpression.{SimpleExpression, SimpleExpression-F, roll-SimpleExpression, out-roll-SimpleExpression, map-SimpleExpression}
 use Rattle.ob_tree.specs.declared.expression.Term.{Term, Term-F, roll-Term, out-roll-Term, map-Term}
 use Rattle.ob_tree.specs.Constructs as constructs
@@ -270,6 +270,3 @@ n-expr = ind-Expr HeldFactor HeldSelector HeldDesignator HeldElement HeldElement
 
 pub n-designator : (t : Designator) (w : Bool) → Named (designator_piece w t) (designator_outline t)
 n-designator = ind-Designator HeldFactor HeldSelector HeldDesignator HeldElement HeldElementList HeldExpr HeldExprList HeldSum HeldTerm factor_step selector_step designator_step element_step element_list_step expr_step expr_list_step sum_step term_step
-
-pub n-expr_list : (t : ExprList) → Named (expr_list_piece t) (expr_list_outline t)
-n-expr_list = ind-ExprList HeldFactor HeldSelector HeldDesignator HeldElement HeldElementList HeldExpr HeldExprList HeldSum HeldTerm factor_step selector_step designator_step element_step element_list_step expr_step expr_list_step sum_step term_step

@@ -63,9 +63,6 @@ pub record Reads {Z A : Type 0} (tell : Z → A) (show : Z → Out) (more : Out 
 pub tail_is : (x y : Mark) (r s : Out) → x ∷ r ≡ y ∷ s → r ≡ s
 tail_is x y r s e = cc
 
-pub r-word : {Z : Type 0} (k : Kind) → Reads {Z = Z} {A = Kind} (λ z. k) (λ z. word k) never k (word k)
-r-word k = record { same = λ z r s i j e. (refl, tail_is _ _ r s e) }
-
 name_is : (role : Role) (m n : ℕ) (r s : Out) → Identifier role m ∷ r ≡ Identifier role n ∷ s → m ≡ n
 name_is role m n r s e = cc
 

@@ -12,7 +12,7 @@ use Rattle.ob_tree.specs.declared.role.Role.TheVariants as roles
 use Rattle.ob_tree.specs.Marks.{Out, Mark, Begins, Ends, Identifier, Value, Word, word, completed, if_there}
 use Rattle.ob_tree.specs.Names.{qualident_outline}
 use Rattle.ob_tree.specs.Statements.{label_outline, label_range_outline}
-use Rattle.ob_decls.specs.Statements.{qualident_piece, label_range_piece}
+use Rattle.ob_decls.specs.Statements.{label_range_piece}
 use Rattle.ob_decls.proofs.Reading.{Reads, never, maybe, clash, on_word, r-use, r-name, r-until, r-both, r-past, r-at, r-made, tail_is}
 use Rattle.ob_decls.proofs.ReadingLists.{r-there}
 
@@ -86,10 +86,6 @@ pub r-qualident : (q : Qualident) → Reads {A = Qualident} (λ z. z) qualident_
 unfolding qualident_outline
 r-qualident q = r-made qualident_told (λ z. z) qualident_seen (λ z. refl) (qualident_seen q) refl
     (r-both (r-use (λ z. z.head) q.head) (r-there {f = λ m. m} {g = λ m. word kinds.Dot ++ completed m} {part = never} (on_word kinds.Dot) (λ z. z.member) q.member (λ m. r-past kinds.Dot (r-name roles.Completes (λ n. n) m)) (λ s i. refl) (λ m s. refl)))
-
--- what a name uses
-pub r-qualident_piece : (q : Qualident) → Reads qualident_piece qualident_outline (on_word kinds.Dot) (qualident_piece q) (qualident_outline q)
-r-qualident_piece q = r-so_made qualident_piece (r-qualident q)
 
 -- ---- labels
 

@@ -1,19 +1,16 @@
 -- The rows of a designator's selectors stand before those of what stands in them.
-use Rattle.std.proofs.Common.{◌≡◌, ℕ, suc, ◌+◌, Bool, false, List, [], ◌∷◌, ◌++◌, length, set, take, map, refl, sym, ap, ◌∙◌, append_assoc, length-append, get_or, ◌<◌, Option, arith}
+use Rattle.std.proofs.Common.{◌≡◌, ℕ, suc, ◌+◌, Bool, List, [], ◌∷◌, ◌++◌, length, set, map, refl, sym, ap, ◌∙◌, append_assoc, length-append, Option, arith}
 use Rattle.std.proofs.lemmas.List.{append-nil, set_at}
 use Rattle.ob_tree.specs.declared.expression.Designator.{Designator}
 use Rattle.ob_tree.specs.declared.expression.Selector.{Selector}
 use Rattle.ob_rows.specs.declared.rows.Selector.{Selector as SelectorRow}
 use Rattle.ob_rows.specs.declared.draft.Context.{Context}
-use Rattle.ob_rows.specs.declared.draft.Draft.{Draft}
 use Rattle.ob_rows.specs.Parts.{joined, no_rows, token, tells, each, these_selectors}
-use Rattle.ob_rows.specs.Drafts.{Stage, stage_of, after, added, settled, ComesTo}
+use Rattle.ob_rows.specs.Drafts.{Stage, after, added, settled}
 use Rattle.ob_decls.specs.Expressions.{Selected, used, first_name, selected, selector_rows, its_selectors, designator_row, designator_piece}
 use Rattle.ob_decls.specs.Settling.{blank, blanks, row_at, settling}
-use Rattle.ob_rows.proofs.Steps.{added_number, after_both, after_nothing, after_tells, number_of, selectors_of}
-use Rattle.std.proofs.lemmas.List.{take_all}
-use Rattle.std.proofs.lemmas.Grind.{take_at_read, common_steps}
-use Rattle.ob_decls.proofs.ExpressionLayers.{designator_out, length_map}
+use Rattle.ob_rows.proofs.Steps.{added_number, after_both, after_nothing, after_tells}
+use Rattle.ob_decls.proofs.ExpressionLayers.{designator_out}
 
 with_selectors : List SelectorRow → Stage → Stage
 with_selectors zs s = record { number = s.number; rows = record (s.rows) { selectors = zs } }
@@ -22,30 +19,13 @@ pub settling_none : (head at : ℕ) (c : Context) (s : Stage) → settling head 
 unfolding settling
 settling_none head at c s = refl
 
-pub places_none : (s : Stage) → added (these_selectors []) s ≡ s
-unfolding added joined
-places_none s = simp append-nil
-
-blanks_more : {X : Type 0} (head : ℕ) (xs : List X) (x : X) → blanks head (xs ++ x ∷ []) ≡ blanks head xs ++ blank head x ∷ []
-blanks_more head [] x = refl
-blanks_more head (y ∷ ys) x = ap (λ (zs : List SelectorRow). blank head y ∷ zs) (blanks_more head ys x)
-
 blanks_map : {X Y : Type 0} (head : ℕ) (f : X → Y) (xs : List X) → blanks head (map f xs) ≡ blanks head xs
 blanks_map head f [] = refl
 blanks_map head f (x ∷ xs) = ap (λ (zs : List SelectorRow). blank head x ∷ zs) (blanks_map head f xs)
 
-pub places_more : {X : Type 0} (head : ℕ) (xs : List X) (x : X) (s : Stage) → added (these_selectors (blanks head (xs ++ x ∷ []))) s
-    ≡ added (these_selectors (blank head x ∷ [])) (added (these_selectors (blanks head xs)) s)
-unfolding added joined
-places_more head xs x s = simp (append-nil, blanks_more, append_assoc)
-
 pub map_more : {X Y : Type 0} (f : X → Y) (xs : List X) (x : X) → map f (xs ++ x ∷ []) ≡ map f xs ++ f x ∷ []
 map_more f [] x = refl
 map_more f (y ∷ ys) x = ap (λ (zs : List _). f y ∷ zs) (map_more f ys x)
-
-pub added_selectors : (w : Bool) (c : Context) (s : Stage) → (added (designator_row w c s.number) s).rows.selectors ≡ s.rows.selectors
-unfolding added joined
-added_selectors w c s = append-nil s.rows.selectors
 
 pub settling_more : (head at : ℕ) (xs : List Selected) (x : Selected) (c : Context) (s : Stage) → settling head at (xs ++ x ∷ []) c s
     ≡ after x.piece c (settled (at + length xs) (row_at head x (settling head at xs c s)) (settling head at xs c s))
@@ -111,38 +91,3 @@ designator_after w d c s =
     unpacked w d c s
     ∙ ap (λ (u : Stage). after (each (λ (x : Selected). x.piece) ss) c u) (sym (filled (first_name ss) w ss d.selectors.items c s))
     ∙ sym (settled_all s.number (length s.rows.selectors) ss c t s.rows.selectors [] refl (opened (first_name ss) w ss d.selectors.items c s (blanks_map s.number selected d.selectors.items)))
-
-settling_taken : (head at place i : ℕ) (items : List Selector) (x : Selector) (c : Context) (s t : Stage) → i < length items → x ≡ get_or items i x →
-    place ≡ at + i → t ≡ settling head at (map selected (take i items)) c s →
-    after (selected x).piece c (settled place (row_at head (selected x) t) t) ≡ settling head at (map selected (take (i + 1) items)) c s
-settling_taken head at place i items x c s t h e p f =
-    let xs : List Selected = map selected (take i items) in
-    let w : take (i + 1) items ≡ take i items ++ x ∷ [] = grind (arith, take_at_read) in
-    let n : length xs ≡ i = length_map selected (take i items) ∙ grind (arith, common_steps) in
-    let q : at + length xs ≡ place = omega arith in
-    sym (
-    ap (λ (ys : List Selector). settling head at (map selected ys) c s) w
-    ∙ ap (λ (ys : List Selected). settling head at ys c s) (map_more selected (take i items) x)
-    ∙ settling_more head at xs (selected x) c s
-    ∙ rw (q, ← f) refl
-    )
-
-pub settling_reached : (head at place i : ℕ) (items : List Selector) (x : Selector) (c : Context) (old now given new : Draft) → i < length items → x ≡ get_or items i x →
-    (now.refused ≡ false → place ≡ at + i) → ComesTo (settling head at (map selected (take i items)) c) old now →
-    ComesTo (λ s. settled place (row_at head (selected x) s) s) now given → ComesTo (after (selected x).piece c) given new →
-    ComesTo (settling head at (map selected (take (i + 1) items)) c) old new
-settling_reached head at place i items x c old now given new h e p f g k r =
-    let behind = k r in
-    let here = g behind.0 in
-    let before = f here.0 in (
-      before.0,
-      behind.1
-          ∙ ap (λ (s : Stage). after (selected x).piece c s) here.1
-          ∙ settling_taken head at place i items x c (stage_of old) (stage_of now) h e (p here.0) before.1,
-    )
-
-pub ruleset places_made = (number_of, take_at_read, take_all, places_none, places_more)
-
-pub ruleset selectors_settled = (number_of, take_at_read, take_all, map_more, length_map, settling_none, settling_more)
-
-pub ruleset designators_settled = (number_of, selectors_of, added_selectors, designator_after)

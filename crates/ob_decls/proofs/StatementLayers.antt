@@ -18,12 +18,10 @@ use Rattle.ob_tree.specs.declared.statement.Stmt.TheVariants as statements
 use Rattle.ob_tree.specs.declared.statement.StatementSequence.{StatementSequence, fold_out-StatementSequence, out-StatementSequence}
 use Rattle.ob_tree.specs.declared.statement.Branch.{Branch, fold_out-Branch, out-Branch}
 use Rattle.ob_tree.specs.declared.statement.For.{For, fold_out-For, out-For}
-use Rattle.ob_rows.specs.declared.draft.Context.{Context}
-use Rattle.ob_rows.specs.Drafts.{Stage, after, passed}
 use Rattle.ob_rows.specs.Parts.{Piece, nothing, token, both, tells, if_there}
 use Rattle.ob_decls.specs.Expressions.{used, designator_row, each_after, expr_piece, designator_piece}
 use Rattle.ob_decls.specs.Statements.{variable_piece, qualident_piece, label_piece, label_range_piece, case_step, stmt_step, block_step, branch_step, for_step, case_piece, stmt_piece, block_piece, branch_piece, for_piece}
-use Rattle.ob_rows.proofs.Steps.{each-map, after_both, after_token, steps}
+use Rattle.ob_rows.proofs.Steps.{each-map, steps}
 
 else_there : (f : StatementSequence → Piece) (o : Option (Box StatementSequence Global)) → if_there (λ b. both token b.value) ((shapes.former-Stmt-If-2).map StatementSequence Piece f o)
     ≡ if_there (λ b. both token (f b.value)) o
@@ -153,24 +151,7 @@ repeat_made b e = stated _ _ (statements.outs-Repeat b e)
 pub for_stmt_made : (b : Box For Global) → stmt_piece (statements.For b) ≡ for_piece b.value
 for_stmt_made b = stated _ _ (statements.outs-For b)
 
--- the longest of them, one step behind the other
-
-pub if_after : (b : Box Branch Global) (v : Vec Branch Global) (o : Option (Box StatementSequence Global)) (c : Context) (s : Stage) → after (stmt_piece (statements.If b v o)) c s
-    ≡ passed (after (if_there (λ x. both token (block_piece x.value)) o) c (after (each_after branch_piece v.items) c (after (branch_piece b.value) c (passed s))))
-if_after b v o c s = simp (if_made b v o, after_both, after_token)
-
-pub case_after : (e : Expr) (b : Box Case Global) (v : Vec Case Global) (c : Context) (s : Stage) → after (stmt_piece (statements.Case e b v)) c s
-    ≡ passed (after (each_after case_piece v.items) c (after (case_piece b.value) c (passed (after (expr_piece e) c (passed s)))))
-case_after e b v c s = simp (case_made e b v, after_both, after_token)
-
-pub for_after : (f : For) (c : Context) (s : Stage) → after (for_piece f) c s
-    ≡ passed (after (block_piece (out-For f).body) c (passed (after (if_there (λ e. both token (expr_piece e)) (out-For f).by) c
-    (after (expr_piece (out-For f).to) c (passed (after (expr_piece (out-For f).from) c (passed (after variable_piece c (passed s)))))))))
-for_after f c s = simp (for_out f, after_both, after_token)
-
-pub ruleset labels_made = (steps, qualident_out, variable_out, integer_label, text_label, name_label, label_range_out)
-
-pub ruleset statements_made = (steps, block_out, branch_out, for_after, nothing_made, labelled_made, empty_made, assign_made, call_made, if_after, case_after, while_made, repeat_made, for_stmt_made)
+pub ruleset labels_made = (steps, qualident_out, variable_out)
 
 pub case_told : (c : Case) → case_piece c ≡ case_shown (out-Case c)
 case_told = case_out

@@ -1,6 +1,5 @@
 -- What types tell, layer by layer.
-use Rattle.std.proofs.Common.{◌≡◌, ℕ, zero, suc, add-one, ◌+◌, ◌<◌, List, [], ◌∷◌, ◌++◌, length, take, get_or, arith, Option, Some, None, false, refl, ap, ◌∙◌}
-use Rattle.std.proofs.lemmas.Grind.{take_at_read}
+use Rattle.std.proofs.Common.{◌≡◌, Option, Some, None, false, refl, ap, ◌∙◌}
 use Rattle.std.specs.declared.boxed.Box.{Box}
 use Rattle.std.specs.declared.alloc.Global.{Global}
 use Rattle.ob_tree.specs.declared.expression.ExprList.{ExprList, out-ExprList}
@@ -19,11 +18,11 @@ use Rattle.ob_rows.specs.declared.rows.Sort.TheVariants as sorts
 use Rattle.ob_rows.specs.declared.rows.Part.TheVariants as parts
 use Rattle.ob_rows.specs.declared.draft.Context.{Context}
 use Rattle.ob_rows.specs.Drafts.{Stage, added, after, passed}
-use Rattle.ob_rows.specs.Parts.{Piece, nothing, token, both, tells, within, if_there, if_so, each, declaring, opens_block}
+use Rattle.ob_rows.specs.Parts.{Piece, token, both, tells, within, if_there, if_so, each, declaring, opens_block}
 use Rattle.ob_decls.specs.Expressions.{each_after, expr_piece}
 use Rattle.ob_decls.specs.Statements.{qualident_piece}
 use Rattle.ob_decls.specs.Types.{declared_row, part_here, name_part, type_use, targeted, untargeted, in_record, record_row, identdef_piece, parameter_piece, open_arrays, section_inner, section_piece, parameters_piece, type_name_piece, lengths_piece, type_step, fields_step, record_step, var_step, type_piece, fields_piece, record_piece, var_piece}
-use Rattle.ob_rows.proofs.Steps.{added_number, after_each, each-map, after_token, after_tells, after_within, after_both, after_nothing, after_declaring, steps}
+use Rattle.ob_rows.proofs.Steps.{added_number, each-map, after_token, after_tells, after_within, after_both, steps}
 
 fields_there : (f : Fields → Piece) (o : Option (Box Fields Global)) → if_there (λ x. x.value) ((shapes.former-Record-fields).map Fields Piece f o)
     ≡ if_there (λ x. f x.value) o
@@ -37,17 +36,6 @@ identdef_out i = refl
 pub parameter_out : parameter_piece ≡ tells (declared_row false) token
 unfolding parameter_piece
 parameter_out = refl
-
--- one more name behind a comma
-pub after_name : (i : ℕ) (xs : List ℕ) (c : Context) (s : Stage) → i < length xs →
-    after (each_after (λ n. parameter_piece) (take (i + 1) xs)) c s ≡ after parameter_piece c (passed (after (each_after (λ n. parameter_piece) (take i xs)) c s))
-after_name i xs c s h =
-    let w : take (i + 1) xs ≡ take i xs ++ get_or xs i 0 ∷ [] = grind (arith, take_at_read) in
-    let t : Stage = after (each_after (λ n. parameter_piece) (take i xs)) c s in
-    ap (λ (ys : List ℕ). after (each_after (λ n. parameter_piece) ys) c s) w
-    ∙ after_each (λ (n : ℕ). both token parameter_piece) (take i xs) (get_or xs i 0) c s
-    ∙ after_both token parameter_piece c t
-    ∙ ap (λ (u : Stage). after parameter_piece c u) (after_token c t)
 
 pub section_inner_out : (s : ParameterSection) → section_inner s ≡
     both (if_so s.variable token) (both parameter_piece (both (each_after (λ n. parameter_piece) s.names.rest.items) (both token
@@ -72,19 +60,6 @@ type_name_out q = refl
 pub lengths_out : (l : ExprList) → lengths_piece l ≡ both (expr_piece (out-ExprList l).first) (each (λ e. both (tells (part_here parts.Array) token) (expr_piece e)) (out-ExprList l).rest.items)
 unfolding lengths_piece
 lengths_out l = refl
-
-one_array : Piece
-one_array = tells (part_here parts.Array) (both token token)
-
--- one more ARRAY OF
-pub after_arrays : (n : ℕ) (c : Context) (s : Stage) → after (open_arrays (n + 1)) c s ≡ after (tells (part_here parts.Array) (both token token)) c (after (open_arrays n) c s)
-after_arrays n c s = rw add-one (by n s)
-  where
-    by : (n : ℕ) (s : Stage) → after (open_arrays (suc n)) c s ≡ after (tells (part_here parts.Array) (both token token)) c (after (open_arrays n) c s)
-    by zero s = rw (after_both (tells (part_here parts.Array) (both token token)) nothing c s, after_nothing c (after (tells (part_here parts.Array) (both token token)) c s), after_nothing c s) refl
-    by (suc n) s =
-        rw (after_both (tells (part_here parts.Array) (both token token)) (open_arrays (suc n)) c s, after_both (tells (part_here parts.Array) (both token token)) (open_arrays n) c s)
-        (by n (after (tells (part_here parts.Array) (both token token)) c s))
 
 -- each layer, with what each part tells in its place
 
@@ -154,9 +129,7 @@ pointer_made t = formed _ _ (forms.outs-PointerTo t)
 pub procedure_type_made : (p : Option Parameters) → type_piece (forms.ProcOf p) ≡ tells (part_here parts.Procedure) (opens_block (both token (if_there parameters_piece p)))
 procedure_type_made p = formed _ _ (forms.outs-ProcOf p)
 
-pub ruleset names_made = (steps, after_declaring, added_number, after_arrays, after_name, identdef_out, parameter_out, section_inner_out, section_out, parameters_out, type_name_out, lengths_out)
-
-pub ruleset types_made = (steps, after_declaring, added_number, fields_out, record_after, var_out, named_made, array_made, record_of_made, pointer_made, procedure_type_made)
+pub ruleset names_made = (steps, added_number, identdef_out, parameter_out, type_name_out)
 
 pub type_told : (t : TypeForm) → type_piece t ≡ type_shown (out-TypeForm t)
 type_told = type_out

@@ -7,7 +7,7 @@ use Rattle.ob_tree.specs.declared.declaration.VarDecl.{VarDecl}
 use Rattle.ob_tree.specs.declared.declaration.ImportItem.{ImportItem}
 use Rattle.ob_tree.specs.declared.declaration.Module.{Module}
 use Rattle.ob_tree.specs.declared.declaration.Declarations.{Declarations, Declarations-F, fold-Declarations}
-use Rattle.ob_tree.specs.declared.declaration.ProcDecl.{ProcDecl, ProcDecl-F, fold-ProcDecl, out-ProcDecl}
+use Rattle.ob_tree.specs.declared.declaration.ProcDecl.{ProcDecl, ProcDecl-F, fold-ProcDecl}
 use Rattle.ob_rows.specs.declared.rows.Sort.TheVariants as sorts
 use Rattle.ob_rows.specs.declared.draft.Context.{Context}
 use Rattle.ob_rows.specs.Parts.{Piece, Rows, one_end, one_import, token, both, tells, if_there, each, declaring, opens_block}
@@ -61,13 +61,6 @@ declarations_piece = fold-Declarations Piece Piece declarations_step procedure_s
 
 unfoldable pub procedure_piece : ProcDecl → Piece
 procedure_piece = fold-ProcDecl Piece Piece declarations_step procedure_step
-
--- what stands in a procedure's declaration
-unfoldable pub procedure_inner : ProcDecl → Piece
-procedure_inner p =
-    both token (both (identdef_piece (out-ProcDecl p).name) (both (if_there parameters_piece (out-ProcDecl p).parameters) (both token
-    (both (declarations_piece (out-ProcDecl p).declarations) (both (if_there (λ b. both token (block_piece b.value)) (out-ProcDecl p).body)
-    (both (if_there (λ e. both token (expr_piece e.value)) (out-ProcDecl p).returned) (both token (tells procedure_end token))))))))
 
 -- what an import item names: the identifier behind :=, or else its own
 abbrev pub named_by : Option ℕ → ℕ → ℕ

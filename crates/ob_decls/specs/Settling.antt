@@ -1,4 +1,4 @@
--- How the selectors of a designator get their rows: each has its place before what stands in them is walked.
+-- How the selectors of a designator get their rows: each has its place before what stands in them is told.
 use Rattle.std.specs.Prelude.{ℕ, suc, List, [], ◌∷◌, map}
 use Rattle.ob_rows.specs.declared.rows.Selector.{Selector as SelectorRow}
 use Rattle.ob_rows.specs.declared.rows.Step.TheVariants as steps

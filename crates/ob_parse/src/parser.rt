@@ -101,8 +101,8 @@ fn fault_or_memory(parsed: &Result<Module, ParseFault>) -> ParseFault
     }
 }
 
-/// The fault that `parse` answers of the tokens of a text of these bytes, or Memory where it gives a tree: for callers that found no
-/// other way to what a tree is wanted for, as where memory was refused to them.
+/// The fault that `parse` answers of the tokens of a text of these bytes, or Memory where it gives a tree: for a caller who has no
+/// table of them, since memory was refused to it or a name after END is wrong.
 pub fn fault_in(alloc: Global, bytes: &[u8], tokens: &Tokens) -> ParseFault
     // The tokens are those of the bytes.
     requires { IsOutcome bytes.now (Ok tokens.now) }

@@ -24,7 +24,7 @@ use crate::places::{
 };
 use crate::source::Source;
 use crate::words::{pass_token, pass_word};
-use ob_decls::walk::expressions::walk_used;
+use ob_decls::walk::uses::walk_used;
 use ob_parse::cursor::Cursor;
 use ob_parse::operators::{
     add_operator, begins_expression, begins_factor, begins_selector, mul_operator, relation, sign,

@@ -27,7 +27,7 @@ use ob_rows::draft::{Context, Draft};
 use ob_scan::{Kind, Token};
 use std::alloc::Global;
 
-/// The imports, if IMPORT stands here. Their list is made, since the walk takes it.
+/// The imports, if IMPORT stands here. Their list is made, since `walk_imports` takes it.
 fn imports(
     alloc: Global,
     draft: &mut Draft,

@@ -11,8 +11,8 @@ ghost use Rattle.ob_parse.specs.ReadNames.{qualident_at, identdef_at};
 ghost use Rattle.ob_table.specs.TypeShapes.{further_outline, further_piece, list_piece};
 ghost use Rattle.ob_table.specs.Tabulating.{Tabulates};
 
-use ob_decls::walk::statements::walk_qualident;
 use ob_decls::walk::types::walk_identdef;
+use ob_decls::walk::uses::walk_qualident;
 use ob_parse::cursor::Cursor;
 use ob_parse::names::{identdef, qualident};
 use ob_parse::stop::Stop;

@@ -16,8 +16,8 @@ ghost use Rattle.ob_table.specs.Tabulating.{Tabulates};
 
 use crate::names::used_qualident;
 use crate::words::{pass_word, skip_word};
-use ob_decls::walk::statements::walk_qualident;
 use ob_decls::walk::types::{add_here, add_name, walk_parameter};
+use ob_decls::walk::uses::walk_qualident;
 use ob_parse::cursor::Cursor;
 use ob_parse::names::qualident;
 use ob_parse::stop::Stop;

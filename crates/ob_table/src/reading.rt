@@ -1,13 +1,12 @@
 //! The table of a text.
 
-ghost use Rattle.std.specs.Prelude.{◌≡◌, ◌<◌, ◌^◌, length, slice_get, ℕ, List, Some, Ok, IfOk, IfErr};
+ghost use Rattle.std.specs.Prelude.{◌≡◌, ◌<◌, ◌^◌, length, slice_get, Some, Ok, IfOk, IfErr};
 ghost use Rattle.ob_rows.specs.Tables.{rows_in};
 ghost use Rattle.ob_rows.specs.Trees.{AreTreeRows};
 ghost use Rattle.ob_scan.specs.declared.kind.Kind.TheVariants.{Ident};
 ghost use Rattle.ob_decls.specs.Declaring.{rows_of, module_piece, outermost};
 ghost use Rattle.ob_rows.specs.Drafts.{after};
 ghost use Rattle.ob_scan.specs.Spelling.{IsOutcome};
-ghost use Rattle.ob_scan.specs.declared.token.Token.{Token};
 ghost use Rattle.ob_tree.specs.Declaring.{module_outline};
 ghost use Rattle.ob_tree.specs.Leaves.{leaves_from};
 ghost use Rattle.ob_tree.specs.declared.declaration.Module.{Module};
@@ -18,41 +17,15 @@ ghost use Rattle.ob_table.specs.Ended.{EndedModule, TabulatesWhole};
 use crate::modules::whole;
 use crate::source::{Source, brackets_of};
 use ob_decls::laws::tree_rows;
-use ob_decls::{table_from, table_of};
+use ob_decls::table_from;
 use ob_parse::cursor::Cursor;
 use ob_parse::parser::{DEEPEST, fault_of};
 use ob_parse::stop::Stop;
-use ob_parse::{ParseFault, parse};
+use ob_parse::{ParseFault, fault_in};
 use ob_rows::Table;
 use ob_rows::draft::{Context, Draft};
 use ob_scan::{Token, Tokens};
-use ob_tree::declaration::Module;
 use std::alloc::Global;
-
-/// The table of what was parsed, or why there is none.
-fn table_in(alloc: Global, parsed: &Result<Module, ParseFault>) -> Result<Table, ParseFault>
-    ensures table { IfOk result (λ t. (m : Module) × (parsed.now ≡ Ok m) × (rows_in t ≡ rows_of m)) }
-    ensures fault { (bytes : List ℕ) (tokens : List Token) → IfErr parsed.now (IsFaultOf bytes tokens) → IfErr result (IsFaultOf bytes tokens) }
-{
-    match parsed {
-        Ok(module) => Ok(table_of(alloc, module)?),
-        Err(fault) => Err(*fault),
-    }
-}
-
-/// The same by way of a tree, where the pass over the tokens came to no table: a name after END is wrong, or memory was refused to
-/// a row, or to the brackets, without which the places of selectors are guessed wrong.
-fn table_by_tree(alloc: Global, bytes: &[u8], tokens: &Tokens) -> Result<Table, ParseFault>
-    requires { IsOutcome bytes.now (Ok tokens.now) }
-    ensures table { IfOk result (λ t. (m : Module) × IsTheTree bytes.now tokens.now m × (rows_in t ≡ rows_of m)) }
-    ensures fault { IfErr result (IsFaultOf bytes.now tokens.now) }
-{
-    let parsed = parse(alloc, bytes, tokens);
-    let table = table_in(alloc, &parsed);
-    // One call lets the tree go, so that its parts are no steps of this function.
-    drop(parsed);
-    table
-}
 
 /// All tokens of a text.
 fn pass_all(alloc: Global, draft: &mut Draft, bytes: &[u8], tokens: &[Token]) -> Result<(), Stop>
@@ -75,9 +48,14 @@ fn pass_all(alloc: Global, draft: &mut Draft, bytes: &[u8], tokens: &[Token]) ->
     )
 }
 
-/// The table of the module that the tokens of a text of these bytes are of, or why there is none: what `table_of` answers of
-/// the tree that `parse` answers, and the faults of `parse`. A tree is made only where a name after END is wrong, or where memory is
-/// refused to the rows or the brackets; where it is refused to the list of imports, that is told at once.
+/// The table of the module that the tokens of a text of these bytes are of, or why there is none: the rows of the tree that `parse`
+/// makes of them, and its faults. No tree is made on the way.
+///
+/// A text that is read to its end has no table only where a name after END is wrong or memory was refused. A guess of how many
+/// selectors follow, or of `:=` behind them, comes true there: its brackets pair as the pass goes through them, a selector is read as
+/// long as one begins, and a dot behind a designator has a name behind it. Only where memory is refused to the brackets guesses are
+/// wrong. So where rows are refused `fault_in` tells the name, or want of memory. Where memory is refused to the list of imports,
+/// that is told at once.
 ///
 /// It recurses a few calls for each level, so at most 200 levels deep, for which a stack of 2 MiB is enough. Lists are loops.
 pub fn read_table(alloc: Global, bytes: &[u8], tokens: &Tokens) -> Result<Table, ParseFault>
@@ -102,7 +80,7 @@ pub fn read_table(alloc: Global, bytes: &[u8], tokens: &Tokens) -> Result<Table,
     }
     if draft.refused {
         drop(draft);
-        return table_by_tree(alloc, bytes, tokens);
+        return Err(fault_in(alloc, bytes, tokens));
     }
     Ok(table_from(draft))
 }

@@ -20,7 +20,7 @@ use crate::labels::label_ranges;
 use crate::places::selectors_from;
 use crate::source::Source;
 use crate::words::pass_word;
-use ob_decls::walk::statements::walk_for_variable;
+use ob_decls::walk::uses::walk_for_variable;
 use ob_parse::cursor::Cursor;
 use ob_parse::labels::begins_label;
 use ob_parse::statements::begins_statement;

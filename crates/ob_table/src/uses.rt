@@ -7,7 +7,7 @@ ghost use Rattle.ob_parse.specs.ReadNames as readers;
 ghost use Rattle.ob_table.specs.Tabulating.{Tabulates};
 
 use crate::words::pass_token;
-use ob_decls::walk::expressions::walk_used;
+use ob_decls::walk::uses::walk_used;
 use ob_parse::cursor::Cursor;
 use ob_parse::stop::Stop;
 use ob_parse::tokens::{accept, identifier};

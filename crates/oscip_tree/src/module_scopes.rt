@@ -1,24 +1,26 @@
 //! The scopes of a module by its syntax tree.
-ghost use Rattle.std.specs.Prelude.{map, IfErr, IfOk, Ok};
+ghost use Rattle.std.specs.Prelude.{IfErr, IfOk, Ok};
 ghost use Rattle.ob_scan.specs.Spelling.{IsOutcome};
-ghost use Rattle.ob_tree.specs.Derives.{Derives};
 ghost use Rattle.ob_decls.specs.Declaring.{rows_of};
+ghost use Rattle.ob_parse.specs.Parsed.{IsTheTree};
 ghost use Rattle.ob_scope.specs.Scoped.{AreScopes, IsScopeFault};
 
-use ob_decls::laws::tree_rows;
-use ob_decls::table_of;
+use ob_decls::laws::one_table;
+use ob_parse::ParseFault;
+use ob_parse::laws::no_fault_of_a_tree;
 use ob_scan::Tokens;
 use ob_scope::{ScopeFault, Scopes, scopes_from};
+use ob_table::read_table;
 use ob_tree::declaration::Module;
 use std::alloc::Global;
 
-/// The scopes of a module, whose tree derives the tokens of these bytes: what each used name means by the scope rule, and
+/// The scopes of a module, whose tree is the one of the tokens of these bytes: what each used name means by the scope rule, and
 /// how many uses each of its aliases qualifies (Oberon-07 report, sections 4 and 11). Of two identifiers of one name in one
 /// block or record the pair whose second one stands first is told: Twice in a block, TwiceField in a record. Memory is
 /// answered where a growth of memory is refused.
 ///
-/// The walk that makes the table recurses a few calls for each level of nesting, and what opens the blocks once for each: a tree
-/// of `parse` has at most 200 levels, for which a stack of 2 MiB is enough, and a deeper one needs more in proportion.
+/// The tree is no step's input: its table is made by the pass over the tokens. That recurses a few calls for each level, at most 200
+/// levels deep, and what opens the blocks once for each: a stack of 2 MiB is enough.
 pub fn scopes(
     alloc: Global,
     module: &Module,
@@ -27,14 +29,19 @@ pub fn scopes(
 ) -> Result<Scopes, ScopeFault>
     // The tokens are those of the bytes.
     requires spelled { IsOutcome bytes.now (Ok tokens.now) }
-    // The tree derives them.
-    requires derived { Derives (map (λ t. t.kind) tokens.now) «module».now }
+    // The tree is theirs, has at most 200 levels, and right names after END.
+    requires tree { IsTheTree bytes.now tokens.now «module».now }
     // The scopes are the module's, which declares nothing twice.
     ensures scoped { IfOk result (AreScopes bytes.now tokens.now (rows_of «module».now)) }
     // The fault is so.
     ensures fault { IfErr result (IsScopeFault bytes.now tokens.now (rows_of «module».now)) }
 {
-    tree_rows();
-    let table = table_of(alloc, module)?;
-    scopes_from(alloc, &table, tokens.as_slice(), bytes)
+    no_fault_of_a_tree();
+    one_table();
+    match read_table(alloc, bytes, tokens) {
+        Ok(table) => scopes_from(alloc, &table, tokens.as_slice(), bytes),
+        Err(ParseFault::Memory) => Err(ScopeFault::Memory),
+        // Each contradicts the tree.
+        Err(_) => unreachable!(),
+    }
 }

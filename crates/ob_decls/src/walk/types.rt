@@ -1,18 +1,14 @@
-//! The rows of types and of formal parameters.
+//! The rows of declared names, and of what stands in types.
 
 ghost use Rattle.std.specs.Prelude.{◌≡◌, false};
 ghost use Rattle.ob_rows.specs.Drafts.{added, after, ComesTo};
 ghost use Rattle.ob_decls.specs.Statements.{qualident_piece};
-ghost use Rattle.ob_decls.specs.Types.{base_of, fields_piece, identdef_piece, lengths_piece, open_arrays, parameter_piece, parameters_piece, record_piece, in_record, name_part, part_here, record_row, section_inner, section_piece, type_name_piece, type_piece, var_piece};
-ghost use Rattle.ob_rows.specs.Parts.{declaring, opens_block, both, if_there, token};
-ghost use Rattle.ob_rows.specs.declared.rows.Sort.TheVariants as sorts;
+ghost use Rattle.ob_decls.specs.Types.{base_of, identdef_piece, parameter_piece, in_record, name_part, part_here, record_row, type_name_piece};
+ghost use Rattle.ob_rows.specs.Parts.{both, if_there, token};
 
-use crate::walk::expressions::{member_at, walk_expr};
-use crate::walk::statements::walk_qualident;
-use ob_rows::draft::{Context, Draft, block_from, declarer_at, declaring_from};
-use ob_rows::{Block, Declared, FormPart, Part, Record as RecordRow, Sort, TypeName, Used};
-use ob_tree::declaration::{Fields, ParameterSection, Parameters, Record, TypeForm, VarDecl};
-use ob_tree::expression::ExprList;
+use crate::walk::uses::{member_at, walk_qualident};
+use ob_rows::draft::{Context, Draft};
+use ob_rows::{Declared, FormPart, Part, Record as RecordRow, TypeName, Used};
 use ob_tree::name::{Identdef, Qualident};
 
 /// An identifier that is declared, with its star.
@@ -47,18 +43,6 @@ pub fn walk_parameter(draft: &mut Draft, inside: Context)
     draft.pass()
 }
 
-/// ARRAY OF, so many times.
-#[tactic(auto, using(crate::proofs::TypeLayers::names_made))]
-fn walk_open_arrays(draft: &mut Draft, inside: Context, count: u32)
-    ensures { ComesTo (after (open_arrays count) inside) draft.old draft.new }
-{
-    for level in 0..count {
-        add_here(draft, inside, Part::Array);
-        draft.pass();
-        draft.pass();
-    }
-}
-
 /// Adds a part of a form, which stands at the next token.
 #[tactic(auto, using(crate::proofs::TypeLayers::names_made))]
 pub fn add_here(draft: &mut Draft, inside: Context, part: Part)
@@ -84,61 +68,6 @@ pub fn add_name(draft: &mut Draft, inside: Context, name: Qualident)
         number,
         part: Part::Named(member),
     })
-}
-
-/// The names of a section, with VAR if it stands before them, and their type.
-#[tactic(auto, using(crate::proofs::TypeLayers::names_made))]
-fn walk_section_inner(draft: &mut Draft, inside: Context, section: &ParameterSection)
-    ensures { ComesTo (after (section_inner section.now) inside) draft.old draft.new }
-{
-    if section.variable {
-        draft.pass();
-    }
-    walk_parameter(draft, inside);
-    for name in &section.names.rest {
-        draft.pass();
-        walk_parameter(draft, inside);
-    }
-    draft.pass();
-    walk_open_arrays(draft, inside, section.open_arrays);
-    add_name(draft, inside, section.of);
-    walk_qualident(draft, inside, section.of)
-}
-
-#[tactic(auto, using(crate::proofs::TypeLayers::names_made))]
-fn walk_section(draft: &mut Draft, inside: Context, section: &ParameterSection)
-    ensures { ComesTo (after (section_piece section.now) inside) draft.old draft.new }
-{
-    let first = draft.number;
-    let row = declarer_at(Sort::Parameter, inside, first);
-    let at = draft.open(row);
-    walk_section_inner(draft, declaring_from(inside, first), section);
-    draft.close(at, row);
-}
-
-#[tactic(auto, using(crate::proofs::TypeLayers::names_made))]
-pub(crate) fn walk_parameters(draft: &mut Draft, inside: Context, parameters: &Parameters)
-    ensures { ComesTo (after (parameters_piece parameters.now) inside) draft.old draft.new }
-{
-    draft.pass();
-    match &parameters.sections {
-        None => {}
-        Some(sections) => {
-            walk_section(draft, inside, &sections.first);
-            for section in &sections.rest {
-                draft.pass();
-                walk_section(draft, inside, section);
-            }
-        }
-    }
-    draft.pass();
-    match parameters.result {
-        None => {}
-        Some(answer) => {
-            draft.pass();
-            walk_qualident(draft, inside, answer);
-        }
-    }
 }
 
 /// A name as a type; alone behind POINTER TO it is a target.
@@ -170,36 +99,6 @@ pub fn walk_type_name(draft: &mut Draft, inside: Context, name: Qualident)
     }
 }
 
-/// The lengths of an array.
-#[tactic(auto, using(crate::proofs::TypeLayers::names_made))]
-fn walk_lengths(draft: &mut Draft, inside: Context, lengths: &ExprList)
-    ensures { ComesTo (after (lengths_piece lengths.now) inside) draft.old draft.new }
-{
-    walk_expr(draft, inside, &lengths.first);
-    for length in &lengths.rest {
-        add_here(draft, inside, Part::Array);
-        draft.pass();
-        walk_expr(draft, inside, length);
-    }
-}
-
-/// A procedure type, which is a block.
-#[tactic(auto, using(crate::proofs::TypeLayers::names_made))]
-fn walk_procedure_type(draft: &mut Draft, inside: Context, parameters: &Option<Parameters>)
-    ensures { ComesTo (after (opens_block (both token (if_there parameters_piece parameters.now))) inside) draft.old draft.new }
-{
-    let first = draft.number;
-    draft.add_block(Block {
-        first,
-        outer: inside.block,
-    });
-    draft.pass();
-    match parameters {
-        None => {}
-        Some(parameters) => walk_parameters(draft, block_from(inside, first), parameters),
-    }
-}
-
 /// What is around a type, behind POINTER TO or elsewhere.
 pub fn type_from(inside: Context, is_target: bool) -> Context
     ensures { result ≡ record { block = inside.block; declarer = inside.declarer; of_record = inside.of_record; is_target = is_target } }
@@ -207,37 +106,6 @@ pub fn type_from(inside: Context, is_target: bool) -> Context
     Context {
         is_target,
         ..inside
-    }
-}
-
-#[cycle(types)]
-#[tactic(auto, using(crate::proofs::TypeLayers::types_made))]
-pub(crate) fn walk_type(draft: &mut Draft, inside: Context, form: &TypeForm)
-    ensures { ComesTo (after (type_piece form.now) inside) draft.old draft.new }
-{
-    match form {
-        TypeForm::Named(name) => walk_type_name(draft, inside, *name),
-        TypeForm::ArrayOf(lengths, of) => {
-            add_here(draft, inside, Part::Array);
-            draft.pass();
-            walk_lengths(draft, inside, lengths);
-            draft.pass();
-            walk_type(draft, type_from(inside, false), of);
-        }
-        TypeForm::RecordOf(form) => {
-            add_here(draft, inside, Part::Record);
-            walk_record(draft, inside, form);
-        }
-        TypeForm::PointerTo(target) => {
-            add_here(draft, inside, Part::Pointer);
-            draft.pass();
-            draft.pass();
-            walk_type(draft, type_from(inside, true), target);
-        }
-        TypeForm::ProcOf(parameters) => {
-            add_here(draft, inside, Part::Procedure);
-            walk_procedure_type(draft, inside, parameters);
-        }
     }
 }
 
@@ -298,71 +166,4 @@ pub fn walk_base(draft: &mut Draft, inside: Context, base: Option<Qualident>)
             draft.pass();
         }
     }
-}
-
-#[cycle(types)]
-#[tactic(auto, using(crate::proofs::TypeLayers::types_made))]
-fn walk_record(draft: &mut Draft, inside: Context, form: &Record)
-    ensures { ComesTo (after (record_piece form.now) inside) draft.old draft.new }
-{
-    let around = record_from(inside, draft.number);
-    add_record(draft, inside, form.base);
-    draft.pass();
-    walk_base(draft, around, form.base);
-    walk_record_fields(draft, around, &form.fields);
-    draft.pass();
-}
-
-/// The field lists of a record, if there are any.
-#[cycle(types)]
-#[tactic(auto, using(crate::proofs::TypeLayers::types_made))]
-fn walk_record_fields(draft: &mut Draft, inside: Context, fields: &Option<Box<Fields>>)
-    ensures { ComesTo (after (if_there (λ x. fields_piece x.value) fields.now) inside) draft.old draft.new }
-{
-    match fields {
-        None => {}
-        Some(fields) => walk_fields(draft, inside, fields),
-    }
-}
-
-#[cycle(types)]
-#[tactic(auto, using(crate::proofs::TypeLayers::types_made))]
-fn walk_fields(draft: &mut Draft, inside: Context, fields: &Fields)
-    ensures { ComesTo (after (fields_piece fields.now) inside) draft.old draft.new }
-{
-    walk_field(draft, inside, &fields.first);
-    for field in &fields.rest {
-        draft.pass();
-        walk_field(draft, inside, field);
-    }
-    if fields.closing_semicolon {
-        draft.pass();
-    }
-}
-
-/// A field list of a record.
-#[cycle(types)]
-#[tactic(auto, using(crate::proofs::TypeLayers::types_made))]
-fn walk_field(draft: &mut Draft, inside: Context, field: &VarDecl)
-    ensures { ComesTo (after (declaring sorts.Field (var_piece field.now)) inside) draft.old draft.new }
-{
-    let first = draft.number;
-    let row = declarer_at(Sort::Field, inside, first);
-    let at = draft.open(row);
-    walk_var(draft, declaring_from(inside, first), field);
-    draft.close(at, row);
-}
-
-#[cycle(types)]
-#[tactic(auto, using(crate::proofs::TypeLayers::types_made))]
-pub(crate) fn walk_var(draft: &mut Draft, inside: Context, variables: &VarDecl)
-    ensures { ComesTo (after (var_piece variables.now) inside) draft.old draft.new }
-{
-    walk_identdef(draft, inside, variables.names.first);
-    for name in &variables.names.rest {
-        draft.pass();
-        walk_identdef(draft, inside, *name);
-    }
-    draft.pass();
-    walk_type(draft, inside, &variables.form)
 }

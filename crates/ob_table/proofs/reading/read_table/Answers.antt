@@ -5,8 +5,6 @@ use Rattle.ob_tree.specs.Marks.{Out}
 use Rattle.ob_decls.specs.Declaring.{module_piece, outermost}
 use Rattle.ob_rows.proofs.TableRows.{rows_after}
 use Rattle.ob_parse.specs.Accords.{Fails}
-use Rattle.std.proofs.lemmas.Result.{IfOk-weaker}
-use Rattle.ob_rows.specs.Tables.{rows_in}
 use Rattle.ob_parse.specs.Parsed.{kinds_of, read_left}
 use Rattle.ob_parse.proofs.OneTree.{why_none}
 use Rattle.ob_table.proofs.WholeTables.{tree_rows_as, whole_tree}
@@ -40,11 +38,6 @@ returns-clause-table c =
       whole_tree c.args.bytes.now c.as_slice-list.result.now c.args.tokens.now c.in-Ok.ensures.out t.tree c.as_slice-list.ensures c.in-Ok.ensures.is_read t.shows,
       c.table_from.ensures ∙ rows_after (module_piece t.tree.tree) outermost _ c.pass_all.new.draft c.new-draft.ensures t.comes,
     )
-
-pub returns-then-draft-clause-rows : goal.returns-then-draft-clause-rows
-returns-then-draft-clause-rows c =
-    IfOk-weaker c.table_by_tree.result _ _ (λ t of. let (m, is, same) = of in
-    tree_rows_as c.args.tokens.now (rows_in t) m same (c.tree_rows.ensures (kinds_of c.args.tokens.now) m is.tree.derived)) c.table_by_tree.ensures.table
 
 pub returns-clause-rows : goal.returns-clause-rows
 returns-clause-rows c =
