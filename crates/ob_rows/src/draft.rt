@@ -1,6 +1,6 @@
 //! A table that is being made.
 
-ghost use Rattle.std.specs.Prelude.{◌≡◌, ◌+◌, ◌++◌, ◌∷◌, [], false, length, IfOk};
+ghost use Rattle.std.specs.Prelude.{◌≡◌, ◌+◌, ◌++◌, ◌∷◌, [], false, length};
 ghost use Rattle.ob_rows.specs.Order.{AreRowsInOrder};
 ghost use Rattle.ob_rows.specs.Tables.{rows_in};
 ghost use Rattle.ob_rows.specs.Parts.{declarer, declaring_at, in_block, one_block, one_declarer, one_declared, one_designator, one_end, one_import, one_part, one_record, one_used, these_selectors};
@@ -10,7 +10,7 @@ use crate::rows::{
     Block, Declared, Declarer, Designator, End, FormPart, Import, Record, Selector, Sort, Used,
 };
 use crate::table::Table;
-use std::alloc::{AllocError, Global};
+use std::alloc::Global;
 
 /// What is around a part of a tree.
 #[derive(Clone, Copy)]
@@ -320,11 +320,4 @@ impl Draft {
             ends: self.ends,
         }
     }
-}
-
-/// The number of the token that stands so many tokens behind this one. AllocError is answered where no row can hold it.
-pub fn behind(number: u32, by: u32) -> Result<u32, AllocError>
-    ensures { IfOk result (λ n. n ≡ number + by) }
-{
-    number.checked_add(by).ok_or(AllocError)
 }
