@@ -14,3 +14,5 @@ pub mod ChainNames
 pub mod Rows
 pub mod NearEnds
 pub mod ReportPieces
+pub mod NetTexts
+pub mod ChainImports

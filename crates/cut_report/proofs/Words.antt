@@ -35,21 +35,22 @@ word_more (w ∷ v ∷ words) word lt =
     let more = word_more (v ∷ words) word (omega arith) in
     ap (λ (t : List ℕ). w ++ 32 ∷ t) more ∙ sym (append_assoc w (32 ∷ line_of (v ∷ words)) (32 ∷ word))
 
-no_blank : (bytes : List ℕ) → without 32 bytes ≡ true → All (λ b. eqb b 32 ≡ false) bytes
-no_blank [] e = All-nil (λ b. eqb b 32 ≡ false)
-no_blank (b ∷ bytes) e =
+-- no byte of a text without this one is it
+pub none_is : (stop : ℕ) (bytes : List ℕ) → without stop bytes ≡ true → All (λ b. eqb b stop ≡ false) bytes
+none_is stop [] e = All-nil (λ b. eqb b stop ≡ false)
+none_is stop (b ∷ bytes) e =
     let p = and_parts _ _ e in
-    All-cons (λ b. eqb b 32 ≡ false) b bytes (not-true _ p.0) (no_blank bytes p.1)
+    All-cons (λ b. eqb b stop ≡ false) b bytes (not-true _ p.0) (none_is stop bytes p.1)
 
 -- names with a blank between each two are the words of the text
 pub words_again : (names : List (List ℕ)) → 0 < length names → list_all is_name names ≡ true → words_of (line_of names) ≡ names
 words_again [] lt e = absurd (omega arith)
 words_again (n ∷ []) lt e =
     let p = and_parts _ _ e in
-    slice_split_none (λ b. eqb b 32) n (no_blank n (name_without 32 n refl p.0))
+    slice_split_none (λ b. eqb b 32) n (none_is 32 n (name_without 32 n refl p.0))
 words_again (n ∷ m ∷ names) lt e =
     let p = and_parts _ _ e in
-    slice_split_at (λ b. eqb b 32) n 32 (line_of (m ∷ names)) (no_blank n (name_without 32 n refl p.0)) refl ∙ ap (λ (t : List (List ℕ)). n ∷ t) (words_again (m ∷ names) (omega arith) p.1)
+    slice_split_at (λ b. eqb b 32) n 32 (line_of (m ∷ names)) (none_is 32 n (name_without 32 n refl p.0)) refl ∙ ap (λ (t : List (List ℕ)). n ∷ t) (words_again (m ∷ names) (omega arith) p.1)
 
 -- names have no LF
 pub names_without : (names : List (List ℕ)) → list_all is_name names ≡ true → without 10 (line_of names) ≡ true

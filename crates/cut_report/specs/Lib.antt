@@ -6,3 +6,4 @@ pub mod Faults
 pub mod Lines
 pub mod Drafts
 pub mod Reading
+pub mod NetLines

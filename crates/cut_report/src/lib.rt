@@ -3,17 +3,21 @@
 //! Its contract: a report is put as its one text, or a front of it; what is read is exactly what the text says, or its first fault; what was written is read again.
 #![tactic(auto)]
 
+mod chain;
 mod draft;
 mod fault;
 pub mod laws;
 mod line;
 mod near;
+mod net_writer;
 mod reader;
 mod report;
 mod writer;
 
 pub use byte_sink::{Sink, SinkFault, ToWrite, put_all};
+pub use chain::least_chain_of;
 pub use fault::ReportFault;
+pub use net_writer::{write_chain, write_net};
 pub use reader::read;
 pub use report::Report;
 pub use writer::write;

@@ -1,0 +1,46 @@
+-- The text of a network, and that of a chain of imports: each line is one that the text of a network may have.
+use Rattle.std.specs.Prelude.{ℕ, List, ◌++◌, map, drop, find, unwrap_or}
+use Rattle.std.specs.List.{flat_map, zip}
+use Rattle.digraph.specs.Levels.{AreChain}
+use Rattle.texts.specs.Fields.{ended}
+use Rattle.cut_net.specs.declared.priced.Priced.{Priced}
+use Rattle.cut_net.specs.Cuts.{same_ends, Any, Imports}
+use Rattle.cut_net.specs.NetReading.{import_line}
+use Rattle.cut_net.specs.NetText.{NetLine, Module, net_line}
+use Rattle.cut_net.specs.Network.{Network}
+
+-- a line with its end
+abbrev pub net_row : NetLine → List ℕ
+net_row line = ended (net_line line)
+
+-- the bytes of the lines, each with its end
+abbrev pub net_rows : List NetLine → List ℕ
+net_rows lines = flat_map net_row lines
+
+-- the modules, and then the imports, each by the names of its two modules
+abbrev pub net_lines : Network → List NetLine
+net_lines net = map Module net.names ++ map (import_line net.names) net.imports
+
+-- the text that is put of a network in which nothing is pinned
+abbrev pub net_text : Network → List ℕ
+net_text net = net_rows (net_lines net)
+
+-- an import between two modules that costs nothing
+abbrev pub of_nothing : ℕ → ℕ → Priced
+of_nothing m n = record { from = m; to = n; amount = 0 }
+
+-- the import between two modules, as the network has it, or one that costs nothing where it has none
+abbrev pub import_between : Network → ℕ → ℕ → Priced
+import_between net m n = unwrap_or (find (same_ends (of_nothing m n)) net.imports) (of_nothing m n)
+
+-- the import between each two neighbours of a list of modules
+abbrev pub imports_along : Network → List ℕ → List Priced
+imports_along net modules = map (λ ends. import_between net ends.0 ends.1) (zip modules (drop 1 modules))
+
+-- the lines of these imports
+abbrev pub chain_text : Network → List ℕ → List ℕ
+chain_text net modules = net_rows (map (import_line net.names) (imports_along net modules))
+
+-- each module of the list imports the next
+abbrev pub AreImportChain : Network → List ℕ → Type 0
+AreImportChain net modules = (a b : ℕ) × AreChain (Imports net.imports Any) a b modules

@@ -1,0 +1,153 @@
+//! Writing a network, and a chain of its imports.
+ghost use Rattle.std.specs.Prelude.{◌≡◌, ◌++◌, [], ◌<◌, length, map, IfErr, IfOk, OnOk};
+ghost use Rattle.std.specs.String.{string_bytes};
+ghost use Rattle.byte_sink.specs.Sinks.{failures_after, AppendsFront, Puts};
+ghost use Rattle.text_pieces.specs.Pieces.{PutsAllBut};
+ghost use Rattle.cut_net.specs.NetReading.{import_line};
+ghost use Rattle.cut_net.specs.NetText.{Module};
+ghost use Rattle.cut_net.specs.WellFormed.{AreBetween};
+ghost use Rattle.cut_report.specs.Lines.{net_line_seen};
+ghost use Rattle.cut_report.specs.NetLines.{chain_text, import_between, imports_along, net_row, net_rows, net_text, AreImportChain};
+
+use crate::{Sink, SinkFault, put_all};
+use cut_net::{Net, Priced, line_of};
+use std::alloc::{AllocError, Global};
+use std::fmt;
+use text_pieces::put_enough;
+
+/// What a line of a network says.
+#[derive(Clone, Copy, Drop)]
+enum NetLine<'a> {
+    /// There is a module.
+    Module(&'a str),
+    /// The first module imports the second, at this weight.
+    Import(&'a str, &'a str, u64),
+}
+
+/// The line without its end.
+impl fmt::Display for NetLine<'_> {
+    ghost use Rattle.std.specs.Prelude.{Some};
+    ghost use Rattle.cut_net.specs.NetText.{net_line};
+    ghost use Rattle.cut_report.specs.Lines.{net_line_seen};
+
+    ghost output = { λ line. Some (net_line (net_line_seen line)) };
+
+    fn fmt<W: fmt::Write>(&self, f: &mut fmt::Formatter<W>) -> fmt::Result {
+        match self {
+            NetLine::Module(name) => write!(f, "module {name}"),
+            NetLine::Import(from, to, weight) => write!(f, "import {from} {to} {weight}"),
+        }
+    }
+}
+
+/// Gathers a line with its end behind the text, of which pieces are put.
+fn push_line<S: Sink>(text: &mut String, line: NetLine, sink: &mut S) -> Result<(), SinkFault>
+    ensures gathered { OnOk result (PutsAllBut (S.taken sink.old) (S.taken sink.new)
+        (string_bytes text.old ++ net_row (net_line_seen line.entry)) (string_bytes text.new)) }
+    ensures broken { IfErr result (λ _. AppendsFront (S.taken sink.old) (S.taken sink.new)
+        (string_bytes text.old ++ net_row (net_line_seen line.entry))) }
+    ensures failures { S.failures sink.new ≡ failures_after result (S.failures sink.old) }
+{
+    writeln!(text, "{line}").map_err(|_| SinkFault::Memory)?;
+    put_enough(text, sink)
+}
+
+/// Gathers a line for each module.
+fn push_modules<S: Sink>(text: &mut String, net: &Net, sink: &mut S) -> Result<(), SinkFault>
+    ensures gathered { OnOk result (PutsAllBut (S.taken sink.old) (S.taken sink.new)
+        (string_bytes text.old ++ net_rows (map Module net.now.names)) (string_bytes text.new)) }
+    ensures broken { IfErr result (λ _. AppendsFront (S.taken sink.old) (S.taken sink.new)
+        (string_bytes text.old ++ net_rows (map Module net.now.names))) }
+    ensures failures { S.failures sink.new ≡ failures_after result (S.failures sink.old) }
+{
+    for node in 0..net.nodes() {
+        push_line(text, NetLine::Module(net.name(node)), sink)?;
+    }
+    Ok(())
+}
+
+/// Gathers a line for each import.
+fn push_imports<S: Sink>(
+    text: &mut String,
+    net: &Net,
+    imports: &[Priced],
+    sink: &mut S,
+) -> Result<(), SinkFault>
+    requires { AreBetween imports.now (length net.now.names) }
+    ensures gathered { OnOk result (PutsAllBut (S.taken sink.old) (S.taken sink.new)
+        (string_bytes text.old ++ net_rows (map (import_line net.now.names) imports.now)) (string_bytes text.new)) }
+    ensures broken { IfErr result (λ _. AppendsFront (S.taken sink.old) (S.taken sink.new)
+        (string_bytes text.old ++ net_rows (map (import_line net.now.names) imports.now))) }
+    ensures failures { S.failures sink.new ≡ failures_after result (S.failures sink.old) }
+{
+    for import in imports {
+        let from = net.name(import.from);
+        let to = net.name(import.to);
+        push_line(text, NetLine::Import(from, to, import.amount), sink)?;
+    }
+    Ok(())
+}
+
+/// Puts the one text of a network: a line for each module, in the order of their names, and then one for each import, in their order. Nothing is
+/// pinned, since a text has no pins. Refuses with `Device` and `Memory`; the sink has then taken a front of the text.
+pub fn write_net<S: Sink>(alloc: Global, net: &Net, sink: &mut S) -> Result<(), SinkFault>
+    requires { net.now.pins ≡ [] }
+    // All of the text at Ok, and a front of it after a refusal.
+    ensures puts { Puts (S.taken sink.old) (S.taken sink.new) result (net_text net.now) }
+    // Device is answered where the sink counted a failure, and nowhere else.
+    ensures failures { S.failures sink.new ≡ failures_after result (S.failures sink.old) }
+{
+    net.keeps();
+    let mut text = String::new(alloc);
+    push_modules(&mut text, net, sink)?;
+    push_imports(&mut text, net, net.imports(), sink)?;
+    put_all(sink, text.as_bytes())
+}
+
+/// The import between two modules, or one that costs nothing where there is none.
+fn import_between(net: &Net, from: u32, to: u32) -> Priced
+    ensures { result ≡ import_between net.now from to }
+{
+    net.keeps();
+    let none = Priced {
+        from,
+        to,
+        amount: 0,
+    };
+    line_of(net.imports(), none).unwrap_or(none)
+}
+
+/// The import between each two neighbours.
+fn imports_along(alloc: Global, net: &Net, modules: &[u32]) -> Result<Vec<Priced>, AllocError>
+    ensures { IfOk result (λ imports. imports.items ≡ imports_along net.now modules.now) }
+{
+    modules
+        .iter()
+        .zip(modules.iter().skip(1))
+        .map(|(from, to)| import_between(net, *from, *to))
+        .collect(alloc)
+}
+
+/// Puts a line for each import of a chain, with the weight that the network has, in their order. The chain is given by its modules, each of which imports
+/// the next, and nothing is pinned. Of a single module nothing is put. Refuses with `Device` and `Memory`; the sink has then taken a front of the text.
+pub fn write_chain<S: Sink>(
+    alloc: Global,
+    net: &Net,
+    chain: &[u32],
+    sink: &mut S,
+) -> Result<(), SinkFault>
+    requires chain { AreImportChain net.now chain.now }
+    requires unpinned { net.now.pins ≡ [] }
+    // All of the lines at Ok, and a front of them after a refusal.
+    ensures puts { Puts (S.taken sink.old) (S.taken sink.new) result (chain_text net.now chain.now) }
+    // Device is answered where the sink counted a failure, and nowhere else.
+    ensures failures { S.failures sink.new ≡ failures_after result (S.failures sink.old) }
+{
+    net.keeps();
+    let Ok(imports) = imports_along(alloc, net, chain) else {
+        return Err(SinkFault::Memory);
+    };
+    let mut text = String::new(alloc);
+    push_imports(&mut text, net, imports.as_slice(), sink)?;
+    put_all(sink, text.as_bytes())
+}
