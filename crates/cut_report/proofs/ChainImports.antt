@@ -12,16 +12,16 @@ use Rattle.cut_net.specs.Network.{Network}
 use Rattle.cut_net.proofs.Ends.{same_true}
 use Rattle.cut_net.proofs.Noting.{find_some}
 use Rattle.cut_net.proofs.PinChains.{one_found}
-use Rattle.cut_report.specs.NetLines.{import_between, imports_along, of_nothing, AreImportChain}
+use Rattle.cut_report.specs.NetLines.{import_between, imports_along, free_import, AreImportChain}
 
 -- what is found for an import's ends is an import, where there is one
 found_in : (net : Network) (m n : ℕ) → Imports net.imports Any m n → Contains net.imports (import_between net m n)
 found_in net m n (i, there, from, to, any) =
-    by (find (same_ends (of_nothing m n)) net.imports) refl (one_found (of_nothing m n) net.imports i there (same_true (of_nothing m n) i (record { from = sym from; to = sym to })))
+    by (find (same_ends (free_import m n)) net.imports) refl (one_found (free_import m n) net.imports i there (same_true (free_import m n) i (record { from = sym from; to = sym to })))
   where
-    by : (o : Option Priced) → find (same_ends (of_nothing m n)) net.imports ≡ o → is_some o ≡ true → Contains net.imports (unwrap_or o (of_nothing m n))
+    by : (o : Option Priced) → find (same_ends (free_import m n)) net.imports ≡ o → is_some o ≡ true → Contains net.imports (unwrap_or o (free_import m n))
     by None e some = absurd cc
-    by (Some x) e some = (find_some (same_ends (of_nothing m n)) net.imports x e).0
+    by (Some x) e some = (find_some (same_ends (free_import m n)) net.imports x e).0
 
 -- each two neighbours are the modules of an import
 neighbours : (net : Network) (m : ℕ) (more : List ℕ) (b : ℕ) → IsChain (Imports net.imports Any) m more b → (ends : ℕ × ℕ) → Contains (zip (m ∷ more) more) ends → Imports net.imports Any ends.0 ends.1
@@ -57,3 +57,7 @@ module _ (G H : ℕ → ℕ → Type 0) (same : AreSame G H) (a b : ℕ) where
     fewest = λ other other_is. is.fewest other (from_other other other_is);
     least = λ other other_is long. is.least other (from_other other other_is) long;
   }
+
+-- the least chain of imports is a chain of them
+pub least_is_chain : (net : Network) (a b : ℕ) (modules : List ℕ) → IsLeastChain (Imports net.imports Any) a b modules → AreImportChain net modules
+least_is_chain net a b modules is = (a, b, is.is_chain)

@@ -21,8 +21,9 @@ use Rattle.cut_net.specs.NetText.{NetLine, Module, Import, net_line, is_import, 
 use Rattle.cut_net.specs.Network.{Network, unpinned}
 use Rattle.cut_net.specs.WellFormed.{IsNetwork}
 use Rattle.cut_net.proofs.Listed.{listed_text}
-use Rattle.cut_report.specs.NetLines.{net_lines, net_rows, net_text}
-use Rattle.cut_report.proofs.NameOrder.{apart}
+use Rattle.cut_report.specs.NetLines.{net_lines, ended_lines, net_text}
+use Rattle.cut_report.proofs.ImportLines.{name_is}
+use Rattle.cut_report.proofs.NameOrder.{apart, name_known}
 use Rattle.cut_report.proofs.Words.{none_is}
 
 -- ---- the lines are those that the text has
@@ -35,10 +36,10 @@ kept_line : (line : NetLine) (pieces : List (List ℕ)) → filter is_nonempty (
 kept_line (Module m) pieces = refl
 kept_line (Import m n w) pieces = refl
 
-rows_spell : (lines : List NetLine) → ((line : NetLine) → Contains lines line → IsNetLine line) → Spell (pieces_of (net_rows lines)) lines
+rows_spell : (lines : List NetLine) → ((line : NetLine) → Contains lines line → IsNetLine line) → Spell (pieces_of (ended_lines lines)) lines
 rows_spell [] forms = refl
 rows_spell (line ∷ lines) forms =
-    let rest = net_rows lines in
+    let rest = ended_lines lines in
     let none = none_is 10 (net_line line) (line_without line (forms line (first_member line lines line refl))) in
     let cut : pieces_of (ended (net_line line) ++ rest) ≡ net_line line ∷ pieces_of rest =
     ap pieces_of (append_assoc (net_line line) (10 ∷ []) rest) ∙ slice_split_at (λ b. eqb b 10) (net_line line) 10 rest none refl in
@@ -56,9 +57,6 @@ all_imports names [] = refl
 all_imports names (i ∷ imports) = ap (λ (t : List NetLine). import_line names i ∷ t) (all_imports names imports)
 
 module _ (net : Network) (is : IsNetwork net) where
-  name_in : (m : ℕ) → m < length net.names → Contains net.names (get_or net.names m [])
-  name_in m lt = Contains-get_or net.names m [] lt
-
   -- a weight fits 64 bits, since their sum does
   fits : (i : Priced) → Contains net.imports i → i.amount < 2 ^ 64
   fits i (k, within, at) =
@@ -75,9 +73,7 @@ module _ (net : Network) (is : IsNetwork net) where
     | inr of_import ↦
         let (i, known, same) = from_map (import_line net.names) net.imports line of_import in
         let ends = is.between i known in
-        let from = All-contains (λ n. is_name n ≡ true) net.names (get_or net.names i.from []) is.named (name_in i.from ends.0) in
-        let to = All-contains (λ n. is_name n ≡ true) net.names (get_or net.names i.to []) is.named (name_in i.to ends.1) in
-        subst IsNetLine same (from, to, fits i known)
+        subst IsNetLine same (name_is net i.from is ends.0, name_is net i.to is ends.1, fits i known)
   ]
 
   -- the modules have lines, and the lines have no other names
@@ -85,7 +81,7 @@ module _ (net : Network) (is : IsNetwork net) where
   mentioned name known = (Module name, Contains-append_left (map Module net.names) _ (Module name) (in_map Module net.names name known), refl)
 
   named_by : (m : ℕ) (name : List ℕ) → m < length net.names → get_or net.names m [] ≡ name → Contains net.names name
-  named_by m name lt same = subst (λ (n : List ℕ). Contains net.names n) same (name_in m lt)
+  named_by m name lt same = subst (λ (n : List ℕ). Contains net.names n) same (name_known net m lt)
 
   known : (name : List ℕ) → AreMentioning (net_lines net) name → Contains net.names name
   known name (line, there, has) = elim (Contains-append_cases (map Module net.names) (map (import_line net.names) net.imports) line there) [

@@ -10,28 +10,28 @@ use Rattle.cut_net.specs.NetText.{NetLine, Module, net_line}
 use Rattle.cut_net.specs.Network.{Network}
 
 -- a line with its end
-abbrev pub net_row : NetLine → List ℕ
-net_row line = ended (net_line line)
+abbrev pub ended_line : NetLine → List ℕ
+ended_line line = ended (net_line line)
 
 -- the bytes of the lines, each with its end
-abbrev pub net_rows : List NetLine → List ℕ
-net_rows lines = flat_map net_row lines
+abbrev pub ended_lines : List NetLine → List ℕ
+ended_lines lines = flat_map ended_line lines
 
--- the modules, and then the imports, each by the names of its two modules
+-- the lines of a network: its modules, and then its imports, each by the names of its two modules
 abbrev pub net_lines : Network → List NetLine
 net_lines net = map Module net.names ++ map (import_line net.names) net.imports
 
 -- the text that is put of a network in which nothing is pinned
 abbrev pub net_text : Network → List ℕ
-net_text net = net_rows (net_lines net)
+net_text net = ended_lines (net_lines net)
 
 -- an import between two modules that costs nothing
-abbrev pub of_nothing : ℕ → ℕ → Priced
-of_nothing m n = record { from = m; to = n; amount = 0 }
+abbrev pub free_import : ℕ → ℕ → Priced
+free_import m n = record { from = m; to = n; amount = 0 }
 
 -- the import between two modules, as the network has it, or one that costs nothing where it has none
 abbrev pub import_between : Network → ℕ → ℕ → Priced
-import_between net m n = unwrap_or (find (same_ends (of_nothing m n)) net.imports) (of_nothing m n)
+import_between net m n = unwrap_or (find (same_ends (free_import m n)) net.imports) (free_import m n)
 
 -- the import between each two neighbours of a list of modules
 abbrev pub imports_along : Network → List ℕ → List Priced
@@ -39,7 +39,7 @@ imports_along net modules = map (λ ends. import_between net ends.0 ends.1) (zip
 
 -- the lines of these imports
 abbrev pub chain_text : Network → List ℕ → List ℕ
-chain_text net modules = net_rows (map (import_line net.names) (imports_along net modules))
+chain_text net modules = ended_lines (map (import_line net.names) (imports_along net modules))
 
 -- each module of the list imports the next
 abbrev pub AreImportChain : Network → List ℕ → Type 0

@@ -7,7 +7,7 @@ ghost use Rattle.cut_net.specs.NetReading.{import_line};
 ghost use Rattle.cut_net.specs.NetText.{Module};
 ghost use Rattle.cut_net.specs.WellFormed.{AreBetween};
 ghost use Rattle.cut_report.specs.Lines.{net_line_seen};
-ghost use Rattle.cut_report.specs.NetLines.{chain_text, import_between, imports_along, net_row, net_rows, net_text, AreImportChain};
+ghost use Rattle.cut_report.specs.NetLines.{chain_text, import_between, imports_along, ended_line, ended_lines, net_text, AreImportChain};
 
 use crate::{Sink, SinkFault, put_all};
 use cut_net::{Net, Priced, line_of};
@@ -43,9 +43,9 @@ impl fmt::Display for NetLine<'_> {
 /// Gathers a line with its end behind the text, of which pieces are put.
 fn push_line<S: Sink>(text: &mut String, line: NetLine, sink: &mut S) -> Result<(), SinkFault>
     ensures gathered { OnOk result (PutsAllBut (S.taken sink.old) (S.taken sink.new)
-        (string_bytes text.old ++ net_row (net_line_seen line.entry)) (string_bytes text.new)) }
+        (string_bytes text.old ++ ended_line (net_line_seen line.entry)) (string_bytes text.new)) }
     ensures broken { IfErr result (λ _. AppendsFront (S.taken sink.old) (S.taken sink.new)
-        (string_bytes text.old ++ net_row (net_line_seen line.entry))) }
+        (string_bytes text.old ++ ended_line (net_line_seen line.entry))) }
     ensures failures { S.failures sink.new ≡ failures_after result (S.failures sink.old) }
 {
     writeln!(text, "{line}").map_err(|_| SinkFault::Memory)?;
@@ -55,9 +55,9 @@ fn push_line<S: Sink>(text: &mut String, line: NetLine, sink: &mut S) -> Result<
 /// Gathers a line for each module.
 fn push_modules<S: Sink>(text: &mut String, net: &Net, sink: &mut S) -> Result<(), SinkFault>
     ensures gathered { OnOk result (PutsAllBut (S.taken sink.old) (S.taken sink.new)
-        (string_bytes text.old ++ net_rows (map Module net.now.names)) (string_bytes text.new)) }
+        (string_bytes text.old ++ ended_lines (map Module net.now.names)) (string_bytes text.new)) }
     ensures broken { IfErr result (λ _. AppendsFront (S.taken sink.old) (S.taken sink.new)
-        (string_bytes text.old ++ net_rows (map Module net.now.names))) }
+        (string_bytes text.old ++ ended_lines (map Module net.now.names))) }
     ensures failures { S.failures sink.new ≡ failures_after result (S.failures sink.old) }
 {
     for node in 0..net.nodes() {
@@ -75,9 +75,9 @@ fn push_imports<S: Sink>(
 ) -> Result<(), SinkFault>
     requires { AreBetween imports.now (length net.now.names) }
     ensures gathered { OnOk result (PutsAllBut (S.taken sink.old) (S.taken sink.new)
-        (string_bytes text.old ++ net_rows (map (import_line net.now.names) imports.now)) (string_bytes text.new)) }
+        (string_bytes text.old ++ ended_lines (map (import_line net.now.names) imports.now)) (string_bytes text.new)) }
     ensures broken { IfErr result (λ _. AppendsFront (S.taken sink.old) (S.taken sink.new)
-        (string_bytes text.old ++ net_rows (map (import_line net.now.names) imports.now))) }
+        (string_bytes text.old ++ ended_lines (map (import_line net.now.names) imports.now))) }
     ensures failures { S.failures sink.new ≡ failures_after result (S.failures sink.old) }
 {
     for import in imports {
@@ -89,7 +89,7 @@ fn push_imports<S: Sink>(
 }
 
 /// Puts the one text of a network: a line for each module, in the order of their names, and then one for each import, in their order. Nothing is
-/// pinned, since a text has no pins. Refuses with `Device` and `Memory`; the sink has then taken a front of the text.
+/// pinned, since a text has no line for a pin. Refuses with `Device` and `Memory`; the sink has then taken a front of the text.
 pub fn write_net<S: Sink>(alloc: Global, net: &Net, sink: &mut S) -> Result<(), SinkFault>
     requires { net.now.pins ≡ [] }
     // All of the text at Ok, and a front of it after a refusal.
@@ -128,8 +128,9 @@ fn imports_along(alloc: Global, net: &Net, modules: &[u32]) -> Result<Vec<Priced
         .collect(alloc)
 }
 
-/// Puts a line for each import of a chain, with the weight that the network has, in their order. The chain is given by its modules, each of which imports
-/// the next, and nothing is pinned. Of a single module nothing is put. Refuses with `Device` and `Memory`; the sink has then taken a front of the text.
+/// Puts a line for each import of a chain, in their order and with their weights in the network. The chain is given by its modules, each of which imports
+/// the next, and nothing is pinned, since a pinned import has no weight. Of a chain of one module nothing is put. Refuses with `Device` and `Memory`;
+/// the sink has then taken a front of the text.
 pub fn write_chain<S: Sink>(
     alloc: Global,
     net: &Net,

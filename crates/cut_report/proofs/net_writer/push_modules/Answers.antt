@@ -1,19 +1,19 @@
 use Rattle.std.proofs.Common.{[], rules, arith}
 use Rattle.std.proofs.lemmas.Result.{err_from_is_err_and}
 use Rattle.cut_net.specs.NetText.{Module}
-use Rattle.cut_report.specs.NetLines.{net_row}
+use Rattle.cut_report.specs.NetLines.{ended_line}
 use Rattle.text_pieces.proofs.Joining.{front_joined, joined, lines_around, lines_more}
 use Rattle.cut_report.proofs.net_writer.push_modules.Goals as goal
 
 pub returns-in_err-push_line-clause-broken : goal.returns-in_err-push_line-clause-broken
 returns-in_err-push_line-clause-broken g c =
     let p = err_from_is_err_and c.from_residual.result c.from_residual.ensures.1 in
-    let around = lines_around Module net_row c.args.net.now.names c.loop-node.node [] (omega arith) in
+    let around = lines_around Module ended_line c.args.net.now.names c.loop-node.node [] (omega arith) in
     rw p.1 (front_joined _ _ _ _ _ _ _ _ _ around c.loop-node.invariant.gathered (rw c.name.ensures at c.in_err-push_line.ensures.broken))
 
 pub loop-node-preserved : goal.loop-node-preserved
 loop-node-preserved g c =
-    let more = lines_more Module net_row c.args.net.now.names c.loop-node.node [] (omega arith) in
+    let more = lines_more Module ended_line c.args.net.now.names c.loop-node.node [] (omega arith) in
     record {
       gathered = joined _ _ _ _ _ _ _ _ _ more c.loop-node.invariant.gathered (rw c.name.ensures at c.in_ok-push_line.ensures.gathered);
       failures = search rules;
