@@ -6,9 +6,6 @@ use Rattle.texts.specs.Fields.{cut_at, is_name, named, number_of}
 use Rattle.cut_report.specs.ReportLine.{ReportLine, Ends, Weighs, Removes, Flows, Blocks, Last}
 use Rattle.cut_report.specs.declared.line.Line.{Line}
 use Rattle.cut_report.specs.declared.line.Line.TheVariants as lines
-use Rattle.cut_net.specs.NetText as network
-use Rattle.cut_report.specs.declared.net_writer.NetLine.{NetLine}
-use Rattle.cut_report.specs.declared.net_writer.NetLine.TheVariants as net_lines
 
 -- what stands between blanks
 abbrev pub words_of : List ℕ → List (List ℕ)
@@ -26,11 +23,6 @@ line_seen (lines.Removes m n w) = Removes m.now n.now w
 line_seen (lines.Flows m n f) = Flows m.now n.now f
 line_seen (lines.Blocks names) = Blocks (words_of names.now)
 line_seen lines.Last = Last
-
--- the same of a line of a network
-abbrev pub net_line_seen : NetLine → network.NetLine
-net_line_seen (net_lines.Module m) = network.Module m.now
-net_line_seen (net_lines.Import m n w) = network.Import m.now n.now w
 
 infixl 10 ◌>>=◌
 abbrev pub ◌>>=◌ : {A B : Type 0} → Option A → (A → Option B) → Option B

@@ -6,8 +6,15 @@ use Rattle.texts.specs.Fields.{ended}
 use Rattle.cut_net.specs.declared.priced.Priced.{Priced}
 use Rattle.cut_net.specs.Cuts.{same_ends, Any, Imports}
 use Rattle.cut_net.specs.NetReading.{import_line}
-use Rattle.cut_net.specs.NetText.{NetLine, Module, net_line}
+use Rattle.cut_net.specs.NetText.{NetLine, Module, Import, net_line}
 use Rattle.cut_net.specs.Network.{Network}
+use Rattle.cut_report.specs.declared.net_writer.NetLine as declared
+use Rattle.cut_report.specs.declared.net_writer.NetLine.TheVariants as lines
+
+-- what a line says, without where its names lie
+abbrev pub net_line_seen : declared.NetLine → NetLine
+net_line_seen (lines.Module m) = Module m.now
+net_line_seen (lines.Import m n w) = Import m.now n.now w
 
 -- a line with its end
 abbrev pub ended_line : NetLine → List ℕ

@@ -22,8 +22,9 @@ fn edges_of(alloc: Global, imports: &[Priced]) -> Result<Vec<Edge>, AllocError>
         .collect(alloc)
 }
 
-/// The chain of imports from one module to another with the fewest, and of those the one with the least names, from the first on: its modules, each
-/// imported by the one before it. None exactly where no chain leads there; a module is a chain to itself. Fails where memory is refused.
+/// The chain of imports from one module to another with the fewest, and of those the one with the least names, from the first on: its
+/// modules, each imported by the one before it. None exactly where no chain leads there; a module is a chain to itself. Fails where memory
+/// is refused.
 pub fn least_chain_of(
     alloc: Global,
     net: &Net,

@@ -24,8 +24,8 @@ pub fn what_is_written_is_read()
         IsNetwork net → ReportText net bytes entry → IsReportOutcome net bytes o → o ≡ Ok entry }
 {}
 
-/// How `write_net` and `Net::read` meet: what `write_net` puts of a network without pins is a text of it, and by `one_reading` of `cut_net` of no
-/// other and of no fault. So `Net::read` answers that network, unless memory runs out.
+/// How `write_net` and `Net::read` meet: what `write_net` puts of a network without pins is a text of it, and by `one_reading` of `cut_net`
+/// of no other and of no fault. So `Net::read` answers that network, unless memory runs out.
 pub fn what_net_puts_is_the_network()
     ensures text { (net : Network) → IsNetwork net → net.pins ≡ [] → NetText (net_text net) net }
     ensures read { (net : Network) → IsNetwork net → net.pins ≡ [] → IsNetOutcome (net_text net) (Ok net) }

@@ -1,7 +1,9 @@
-//! Reports on cuts and on chains of pins: their one spelling, the reader and the writer of it; and the writers of a network and of a chain of its imports.
-//! Stands on `texts`, `digraph`, `cut_net`, on `byte_sink`, whose names it gives out again, and on `text_pieces` for what is put, with `thiserror` for its faults.
-//! Its contract: a report is put as its one text, or a front of it; what is read is exactly what the text says, or its first fault; what was written is read again.
-//! So is a network, and a chain is put as its imports; the least one is found exactly where one leads.
+//! Reports on cuts and on chains of pins: their one spelling, the reader and the writer of it; and the writers of a network and of a chain
+//! of its imports.
+//! Stands on `texts`, `digraph`, `cut_net`, on `byte_sink`, whose names it gives out again, and on `text_pieces` for what is put, with
+//! `thiserror` for its faults.
+//! Its contract: a report is put as its one text, or a front of it; what is read is exactly what the text says, or its first fault; what
+//! was written is read again. So is a network, and a chain is put as its imports; the least one is found exactly where one leads.
 #![tactic(auto)]
 
 mod chain;

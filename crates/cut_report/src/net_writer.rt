@@ -6,8 +6,7 @@ ghost use Rattle.text_pieces.specs.Pieces.{PutsAllBut};
 ghost use Rattle.cut_net.specs.NetReading.{import_line};
 ghost use Rattle.cut_net.specs.NetText.{Module};
 ghost use Rattle.cut_net.specs.WellFormed.{AreBetween};
-ghost use Rattle.cut_report.specs.Lines.{net_line_seen};
-ghost use Rattle.cut_report.specs.NetLines.{chain_text, import_between, imports_along, ended_line, ended_lines, net_text, AreImportChain};
+ghost use Rattle.cut_report.specs.NetLines.{chain_text, import_between, imports_along, net_line_seen, ended_line, ended_lines, net_text, AreImportChain};
 
 use crate::{Sink, SinkFault, put_all};
 use cut_net::{Net, Priced, line_of};
@@ -28,7 +27,7 @@ enum NetLine<'a> {
 impl fmt::Display for NetLine<'_> {
     ghost use Rattle.std.specs.Prelude.{Some};
     ghost use Rattle.cut_net.specs.NetText.{net_line};
-    ghost use Rattle.cut_report.specs.Lines.{net_line_seen};
+    ghost use Rattle.cut_report.specs.NetLines.{net_line_seen};
 
     ghost output = { λ line. Some (net_line (net_line_seen line)) };
 
@@ -88,8 +87,8 @@ fn push_imports<S: Sink>(
     Ok(())
 }
 
-/// Puts the one text of a network: a line for each module, in the order of their names, and then one for each import, in their order. Nothing is
-/// pinned, since a text has no line for a pin. Refuses with `Device` and `Memory`; the sink has then taken a front of the text.
+/// Puts the one text of a network: a line for each module, in the order of their names, and then one for each import, in their order.
+/// Nothing is pinned, since a text has no line for a pin. Refuses with `Device` and `Memory`; the sink has then taken a front of the text.
 pub fn write_net<S: Sink>(alloc: Global, net: &Net, sink: &mut S) -> Result<(), SinkFault>
     requires { net.now.pins ≡ [] }
     // All of the text at Ok, and a front of it after a refusal.
@@ -128,9 +127,9 @@ fn imports_along(alloc: Global, net: &Net, modules: &[u32]) -> Result<Vec<Priced
         .collect(alloc)
 }
 
-/// Puts a line for each import of a chain, in their order and with their weights in the network. The chain is given by its modules, each of which imports
-/// the next, and nothing is pinned, since a pinned import has no weight. Of a chain of one module nothing is put. Refuses with `Device` and `Memory`;
-/// the sink has then taken a front of the text.
+/// Puts a line for each import of a chain, in their order and with their weights in the network. The chain is given by its modules, each of
+/// which imports the next, and nothing is pinned, since a pinned import has no weight. Of a chain of one module nothing is put. Refuses
+/// with `Device` and `Memory`; the sink has then taken a front of the text.
 pub fn write_chain<S: Sink>(
     alloc: Global,
     net: &Net,
