@@ -48,11 +48,12 @@ fn walk<G: TypeGraph>(
     }
 }
 
-/// Keeps where these declarations lead.
+/// Keeps where these declarations lead, if they are so many.
 fn keep<G: TypeGraph>(
     graph: &G,
     pointers: bool,
     kept: &mut Kept<G::Declaration, Option<G::Node>>,
+    least: usize,
     marks: &[G::Declaration],
     end: Option<G::Node>,
 ) -> Result<(), AllocError>
@@ -60,6 +61,9 @@ fn keep<G: TypeGraph>(
     requires marks { All (IsTypeEndOf (G.shape graph.now) pointers G.Declaration.eq end) marks.now }
     ensures { AreTypeEnds (G.shape graph.now) pointers G.Declaration.eq kept.new }
 {
+    if marks.len() < least {
+        return Ok(());
+    }
     for declaration in marks {
         kept.insert(*declaration, end)?;
     }
@@ -71,6 +75,7 @@ fn end_passed<G: TypeGraph>(
     graph: &G,
     pointers: bool,
     kept: &mut Kept<G::Declaration, Option<G::Node>>,
+    least: usize,
     way: &mut Way<G::Declaration>,
     from: G::Node,
 ) -> Result<Option<G::Node>, AllocError>
@@ -80,15 +85,17 @@ fn end_passed<G: TypeGraph>(
     ensures end { IfOk result (IsTypeEnd (G.shape graph.now) pointers from) }
 {
     let end = walk(graph, pointers, kept, way, from)?;
-    keep(graph, pointers, kept, way.marks.as_slice(), end)?;
+    keep(graph, pointers, kept, least, way.marks.as_slice(), end)?;
     Ok(end)
 }
 
 /// The type to which a type leads by names, and by pointers where these are followed, or none where it comes back to itself.
+/// That is kept where at least so many declarations are marked on the way: one step is gone again as soon as it is looked up.
 pub(crate) fn end_of<G: TypeGraph>(
     graph: &G,
     pointers: bool,
     kept: &mut Kept<G::Declaration, Option<G::Node>>,
+    least: usize,
     from: G::Node,
 ) -> Result<Option<G::Node>, AllocError>
     requires { AreTypeEnds (G.shape graph.now) pointers G.Declaration.eq kept.old }
@@ -96,5 +103,5 @@ pub(crate) fn end_of<G: TypeGraph>(
     ensures end { IfOk result (IsTypeEnd (G.shape graph.now) pointers from) }
 {
     let mut way = no_way(kept.allocator());
-    end_passed(graph, pointers, kept, &mut way, from)
+    end_passed(graph, pointers, kept, least, &mut way, from)
 }

@@ -53,13 +53,14 @@ impl<'a, G: TypeGraph> Finder<'a, G> {
     pub fn new(alloc: Global, graph: &'a G, text: &[u8], most: usize) -> Finder<'a, G>
         ensures { result ≡ graph.now }
     {
+        let seed = Seed::for_keys(text, most);
         Finder {
             graph,
-            by_names: Kept::none(alloc),
-            by_pointers: Kept::none(alloc),
-            aboves: Kept::none(alloc),
+            by_names: Kept::none(alloc, seed, most),
+            by_pointers: Kept::none(alloc, seed, most),
+            aboves: Kept::none(alloc, seed, most),
             line: None,
-            found: IndexMap::with_hasher(alloc, Seed::for_keys(text, most)),
+            found: IndexMap::with_hasher(alloc, seed),
             sought: Sought::none(alloc),
         }
     }

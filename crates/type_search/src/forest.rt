@@ -171,7 +171,8 @@ fn add_path<R: Copy + Eq + Hash + Drop>(
 }
 
 /// The records path by path, by the places of those above them, in a table with this seed. Of those right below a record the one with the
-/// largest tree stands on its path, so whoever climbs from a record leaves a path no oftener than its tree doubles (Sleator and Tarjan 1983).
+/// largest tree stands on its path, so whoever climbs from a record leaves a path no oftener than its tree doubles (Sleator and Tarjan
+/// 1983).
 pub(crate) fn in_paths<R: Copy + Eq + Hash + Drop>(
     alloc: Global,
     seed: Seed,

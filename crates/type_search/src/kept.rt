@@ -6,15 +6,22 @@ use indexmap::IndexMap;
 use std::alloc::{AllocError, Global};
 use std::collections::BTreeMap;
 use std::hash::{FoldHasher, Hash, Hasher};
+use text_hash::Seed;
 
-/// The most keys of the table: so many that fall together are looked up in some hundred steps.
+/// The most keys of a table with the seed of all texts: so many that fall together are looked up in some hundred steps. For more searches
+/// the seed comes from the text.
 const FEW: usize = 1024;
 
+/// The most keys of a table with a seed of its text, against which the numbers of other modules may still be chosen.
+const MANY: usize = 16_384;
+
 /// What is kept of keys, whose numbers an author may choose. The first are in a table, and all behind these in the order of their hashes,
-/// where a look-up takes no more steps for keys that fall together than for others.
+/// where a look-up takes no more steps for keys that fall together than for others, but more than in a table where none do.
 #[derive(Drop)]
 pub(crate) struct Kept<K: Copy + Eq + Hash + Drop, V: Copy + Drop> {
-    few: IndexMap<K, V>,
+    few: IndexMap<K, V, Seed>,
+    /// The most keys of the table.
+    most: usize,
     more: BTreeMap<u64, (K, V)>,
 }
 
@@ -26,12 +33,13 @@ fn hash_of<K: Hash>(key: &K) -> u64 {
 }
 
 impl<K: Copy + Eq + Hash + Drop, V: Copy + Drop> Kept<K, V> {
-    /// Nothing is kept.
-    pub(crate) fn none(alloc: Global) -> Kept<K, V>
+    /// Nothing is kept, for so many searches: the seed is that of a table for so many keys.
+    pub(crate) fn none(alloc: Global, seed: Seed, searches: usize) -> Kept<K, V>
         ensures { (key : K) (value : V) → IsKept K.eq result key value → ⊥ }
     {
         Kept {
-            few: IndexMap::new(alloc),
+            few: IndexMap::with_hasher(alloc, seed),
+            most: if searches > FEW { MANY } else { FEW },
             more: BTreeMap::new(alloc),
         }
     }
@@ -66,7 +74,7 @@ impl<K: Copy + Eq + Hash + Drop, V: Copy + Drop> Kept<K, V> {
     pub(crate) fn insert(&mut self, key: K, value: V) -> Result<(), AllocError>
         ensures { Adds K.eq key value self.old self.new }
     {
-        if self.few.len() < FEW {
+        if self.few.len() < self.most {
             self.few.insert(key, value)?;
         } else {
             self.more.insert(hash_of(&key), (key, value))?;

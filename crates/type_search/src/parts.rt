@@ -48,7 +48,7 @@ pub(crate) fn element_in<G: TypeGraph>(
     ensures found { IfOk result (λ o. IfSome o (HasElement G.Declaration.eq (G.shape graph.now) from)) }
     ensures none { IfOk result (λ o. IfNone o ((n : G.Node) → HasElement G.Declaration.eq (G.shape graph.now) from n → ⊥)) }
 {
-    match end_of(graph, false, kept, from)? {
+    match end_of(graph, false, kept, 1, from)? {
         None => Ok(None),
         Some(node) => Ok(element_of(graph.shape(node))),
     }
@@ -65,7 +65,7 @@ pub(crate) fn target_in<G: TypeGraph>(
     ensures found { IfOk result (λ o. IfSome o (HasTarget G.Declaration.eq (G.shape graph.now) from)) }
     ensures none { IfOk result (λ o. IfNone o ((n : G.Node) → HasTarget G.Declaration.eq (G.shape graph.now) from n → ⊥)) }
 {
-    match end_of(graph, false, kept, from)? {
+    match end_of(graph, false, kept, 1, from)? {
         None => Ok(None),
         Some(node) => Ok(target_of(graph.shape(node))),
     }

@@ -33,23 +33,24 @@ fn shape_record<N: Copy + Drop, D: Copy + Drop, R: Copy + Drop>(shape: Shape<N, 
     }
 }
 
-/// The record to which a type leads by names and pointers.
+/// The record to which a type leads by names and pointers, which is kept where at least so many declarations are marked on the way.
 fn record_of<G: TypeGraph>(
     graph: &G,
     kept: &mut Kept<G::Declaration, Option<G::Node>>,
+    least: usize,
     from: G::Node,
 ) -> Result<Option<G::Record>, AllocError>
     requires { AreTypeEnds (G.shape graph.now) true G.Declaration.eq kept.old }
     ensures kept { AreTypeEnds (G.shape graph.now) true G.Declaration.eq kept.new }
     ensures is { IfOk result (IsRecordOf (G.shape graph.now) from) }
 {
-    match end_of(graph, true, kept, from)? {
+    match end_of(graph, true, kept, least, from)? {
         None => Ok(None),
         Some(node) => Ok(shape_record(graph.shape(node))),
     }
 }
 
-/// The record to which the base of a record leads.
+/// The record to which the base of a record leads. That is kept by the record, so where one name leads there nothing is kept of the name.
 fn record_above<G: TypeGraph>(
     graph: &G,
     kept: &mut Kept<G::Declaration, Option<G::Node>>,
@@ -61,7 +62,7 @@ fn record_above<G: TypeGraph>(
 {
     match graph.base(record) {
         None => Ok(None),
-        Some(base) => record_of(graph, kept, base),
+        Some(base) => record_of(graph, kept, 2, base),
     }
 }
 
@@ -289,7 +290,7 @@ pub(crate) fn find_in<'a, G: TypeGraph>(
     ensures found { IfOk result (λ o. IfSome o (λ f. Finds G.Declaration.eq (G.shape graph.now) (λ r. G.field_of graph.now r name.now) (G.base_of graph.now) [] from f)) }
     ensures none { IfOk result (λ o. IfNone o ((f : G.Field) → Finds G.Declaration.eq (G.shape graph.now) (λ r. G.field_of graph.now r name.now) (G.base_of graph.now) [] from f → ⊥)) }
 {
-    match record_of(graph, kept, from)? {
+    match record_of(graph, kept, 1, from)? {
         None => Ok(None),
         Some(record) => field_kept(graph, kept, aboves, line, found, sought, record, name),
     }
