@@ -1,5 +1,5 @@
 -- The command line as clap reads it, and the job that its words give.
-use Rattle.std.specs.Prelude.{◌≡◌, ◌≢◌, ◌<◌, ◌≤◌, ◌^◌, ℕ, List, [], ◌∷◌, Option, Some, None, codes, option_map, pos, slice_get, Bool, String, true, false}
+use Rattle.std.specs.Prelude.{◌≡◌, ◌≢◌, ◌++◌, ◌<◌, ◌≤◌, ◌^◌, ℕ, List, [], ◌∷◌, Option, Some, None, codes, option_map, pos, slice_get, String, true}
 use Rattle.std.specs.declared.alloc.Global.{Global}
 use Rattle.std.specs.Str.Parse.{digits_value, without_leading_plus, IsNumeral}
 use Rattle.std.specs.String.{string_bytes}
@@ -8,11 +8,20 @@ use Rattle.clap.specs.Walk.{Rule}
 use Rattle.clap.specs.declared.builder.action.ArgAction.TheVariants as actions
 use Rattle.clap.specs.declared.builder.value_parser.ValueParser.TheVariants as parsers
 use Rattle.oscip_job.specs.declared.job.Job.{Job}
-use Rattle.oscip_job.specs.declared.job.Job.TheVariants.{Cut, Check, Crossings, CutNet, CheckNet, Dot, DotNet, Def, Refs, Index, Unresolved}
+use Rattle.oscip_job.specs.declared.job.Job.TheVariants.{Tree, Network, Ask, Index, Unresolved}
+use Rattle.oscip_job.specs.declared.job.Cutting.{Cutting}
 use Rattle.oscip_job.specs.declared.job.Indexing.{Indexing}
+use Rattle.oscip_job.specs.declared.job.NetQuestion.{NetQuestion}
+use Rattle.oscip_job.specs.declared.job.NetQuestion.TheVariants.{Cut, Check, Dot, Why}
 use Rattle.oscip_job.specs.declared.job.Output.{Output}
 use Rattle.oscip_job.specs.declared.job.Output.TheVariants as outputs
+use Rattle.oscip_job.specs.declared.job.Places.{Places}
+use Rattle.oscip_job.specs.declared.job.Places.TheVariants.{Definitions, References}
 use Rattle.oscip_job.specs.declared.job.Question.{Question}
+use Rattle.oscip_job.specs.declared.job.Reported.{Reported}
+use Rattle.oscip_job.specs.declared.job.TreeQuestion.{TreeQuestion}
+use Rattle.oscip_job.specs.declared.job.TreeQuestion.TheVariants.{OfNet, Crossings, Net}
+use Rattle.oscip_job.specs.declared.job.TwoNames.{TwoNames}
 
 -- an argument that has to be given
 abbrev pub required_rule : Text → Rule
@@ -55,6 +64,14 @@ check_app = with_prices (with_rule (with_rule (new_app (codes "check")) (require
 abbrev pub crossings_app : App
 crossings_app = with_rule (with_rule (with_rule (new_app (codes "crossings")) (required_rule (codes "DIR"))) (required_rule (codes "M"))) (required_rule (codes "N"))
 
+-- net DIR
+abbrev pub net_app : App
+net_app = with_rule (new_app (codes "net")) (required_rule (codes "DIR"))
+
+-- why DIR A B
+abbrev pub why_app : App
+why_app = with_modules (with_rule (new_app (codes "why")) (required_rule (codes "DIR")))
+
 -- cut-net [--workers N] [--prices FILE] FILE A B
 abbrev pub cut_net_app : App
 cut_net_app = with_prices (with_workers (with_modules (with_rule (new_app (codes "cut-net")) (required_rule (codes "FILE")))))
@@ -62,6 +79,10 @@ cut_net_app = with_prices (with_workers (with_modules (with_rule (new_app (codes
 -- check-net [--prices FILE] FILE REPORT
 abbrev pub check_net_app : App
 check_net_app = with_prices (with_rule (with_rule (new_app (codes "check-net")) (required_rule (codes "FILE"))) (required_rule (codes "REPORT")))
+
+-- why-net FILE A B
+abbrev pub why_net_app : App
+why_net_app = with_modules (with_rule (new_app (codes "why-net")) (required_rule (codes "FILE")))
 
 -- dot [--prices FILE] DIR REPORT
 abbrev pub dot_app : App
@@ -116,11 +137,28 @@ unresolved_app = with_rule (new_app (codes "unresolved")) (required_rule (codes 
 abbrev pub program_app : App
 program_app = record (new_app (codes "oscip")) { top = record (new_app (codes "oscip")).top { subcommand_required = true; has_version = true } }
 
+-- the program with the commands on folders of modules, those on networks, those that draw, those on indexes and those that index
+abbrev pub with_trees : App → App
+with_trees app = with_subcommand (with_subcommand (with_subcommand app cut_app.top) check_app.top) crossings_app.top
+
+abbrev pub with_imports : App → App
+with_imports app = with_subcommand (with_subcommand app net_app.top) why_app.top
+
+abbrev pub with_nets : App → App
+with_nets app = with_subcommand (with_subcommand (with_subcommand app cut_net_app.top) check_net_app.top) why_net_app.top
+
+abbrev pub with_pictures : App → App
+with_pictures app = with_subcommand (with_subcommand app dot_app.top) dot_net_app.top
+
+abbrev pub with_indexes : App → App
+with_indexes app = with_subcommand (with_subcommand app def_app.top) refs_app.top
+
+abbrev pub with_indexers : App → App
+with_indexers app = with_subcommand (with_subcommand app index_app.top) unresolved_app.top
+
 -- the program and its commands
 abbrev pub oscip : App
-oscip =
-    with_subcommand (with_subcommand (with_subcommand (with_subcommand (with_subcommand (with_subcommand (with_subcommand (with_subcommand (with_subcommand (with_subcommand (with_subcommand program_app cut_app.top) check_app.top)
-    crossings_app.top) cut_net_app.top) check_net_app.top) dot_app.top) dot_net_app.top) def_app.top) refs_app.top) index_app.top) unresolved_app.top
+oscip = with_indexers (with_indexes (with_pictures (with_nets (with_imports (with_trees program_app)))))
 
 -- the text that was found for an argument
 abbrev pub Finds : List Row → Text → Text → Type 0
@@ -175,36 +213,64 @@ HasIndexing rows it =
     Finds rows (codes "DIR") (string_bytes it.folder) × HasOutput rows it.output × Finds rows (codes "package") (string_bytes it.package)
     × Finds rows (codes "root") (string_bytes it.root) × FindsNumber rows (codes "workers") it.workers
 
+-- the names of two modules, which these arguments give
+abbrev pub HasTwoNames : List Row → Text → Text → TwoNames → Type 0
+HasTwoNames rows first second names = Finds rows first (string_bytes names.from) × Finds rows second (string_bytes names.to)
+
+-- what says how a cut is searched for
+abbrev pub HasCutting : List Row → Cutting → Type 0
+HasCutting rows it =
+    Finds rows (codes "A") (string_bytes it.from) × Finds rows (codes "B") (string_bytes it.to)
+    × FindsNumber rows (codes "workers") it.workers × MayFind rows (codes "prices") it.prices
+
+-- the report and its prices
+abbrev pub HasReported : List Row → Reported → Type 0
+HasReported rows it = Finds rows (codes "REPORT") (string_bytes it.report) × MayFind rows (codes "prices") it.prices
+
+-- what is asked of a network holds the values that were found for its arguments
+abbrev pub HasNetQuestion : List Row → NetQuestion → Type 0
+HasNetQuestion rows (Cut cutting) = HasCutting rows cutting
+HasNetQuestion rows (Check reported) = HasReported rows reported
+HasNetQuestion rows (Dot reported) = HasReported rows reported
+HasNetQuestion rows (Why names) = HasTwoNames rows (codes "A") (codes "B") names
+
+-- so does what is asked of a tree
+abbrev pub HasTreeQuestion : List Row → TreeQuestion → Type 0
+HasTreeQuestion rows (OfNet question) = HasNetQuestion rows question
+HasTreeQuestion rows (Crossings names) = HasTwoNames rows (codes "M") (codes "N") names
+HasTreeQuestion rows Net = Unit {0}
+
 -- the job holds the values that were found for its arguments
 abbrev pub HasValues : List Row → Job → Type 0
-HasValues rows (Cut folder from to workers prices) =
-    Finds rows (codes "DIR") (string_bytes folder) × Finds rows (codes "A") (string_bytes from) × Finds rows (codes "B") (string_bytes to)
-    × FindsNumber rows (codes "workers") workers × MayFind rows (codes "prices") prices
-HasValues rows (Check folder report prices) = Finds rows (codes "DIR") (string_bytes folder) × Finds rows (codes "REPORT") (string_bytes report) × MayFind rows (codes "prices") prices
-HasValues rows (Crossings folder from to) =
-    Finds rows (codes "DIR") (string_bytes folder) × Finds rows (codes "M") (string_bytes from) × Finds rows (codes "N") (string_bytes to)
-HasValues rows (CutNet network from to workers prices) =
-    Finds rows (codes "FILE") (string_bytes network) × Finds rows (codes "A") (string_bytes from) × Finds rows (codes "B") (string_bytes to)
-    × FindsNumber rows (codes "workers") workers × MayFind rows (codes "prices") prices
-HasValues rows (CheckNet network report prices) = Finds rows (codes "FILE") (string_bytes network) × Finds rows (codes "REPORT") (string_bytes report) × MayFind rows (codes "prices") prices
-HasValues rows (Dot folder report prices) = Finds rows (codes "DIR") (string_bytes folder) × Finds rows (codes "REPORT") (string_bytes report) × MayFind rows (codes "prices") prices
-HasValues rows (DotNet network report prices) = Finds rows (codes "FILE") (string_bytes network) × Finds rows (codes "REPORT") (string_bytes report) × MayFind rows (codes "prices") prices
-HasValues rows (Def question) = HasQuestion rows question
-HasValues rows (Refs question) = HasQuestion rows question
+HasValues rows (Tree folder question) = Finds rows (codes "DIR") (string_bytes folder) × HasTreeQuestion rows question
+HasValues rows (Network network question) = Finds rows (codes "FILE") (string_bytes network) × HasNetQuestion rows question
+HasValues rows (Ask question) = HasQuestion rows question
 HasValues rows (Index indexing) = HasIndexing rows indexing
 HasValues rows (Unresolved folder) = Finds rows (codes "DIR") (string_bytes folder)
 
+-- the word for what is asked of a network
+abbrev pub net_question_name : NetQuestion → Text
+net_question_name (Cut cutting) = codes "cut"
+net_question_name (Check reported) = codes "check"
+net_question_name (Dot reported) = codes "dot"
+net_question_name (Why names) = codes "why"
+
+-- the word for what is asked of a tree
+abbrev pub tree_question_name : TreeQuestion → Text
+tree_question_name (OfNet question) = net_question_name question
+tree_question_name (Crossings names) = codes "crossings"
+tree_question_name Net = codes "net"
+
+-- the word for which places an index is asked for
+abbrev pub asking_name : Places → Text
+asking_name Definitions = codes "def"
+asking_name References = codes "refs"
+
 -- the word that names the command
 abbrev pub command_name : Job → Text
-command_name (Cut folder from to workers prices) = codes "cut"
-command_name (Check folder report prices) = codes "check"
-command_name (Crossings folder from to) = codes "crossings"
-command_name (CutNet network from to workers prices) = codes "cut-net"
-command_name (CheckNet network report prices) = codes "check-net"
-command_name (Dot folder report prices) = codes "dot"
-command_name (DotNet network report prices) = codes "dot-net"
-command_name (Def question) = codes "def"
-command_name (Refs question) = codes "refs"
+command_name (Tree folder question) = tree_question_name question
+command_name (Network network question) = net_question_name question ++ codes "-net"
+command_name (Ask question) = asking_name question.places
 command_name (Index indexing) = codes "index"
 command_name (Unresolved folder) = codes "unresolved"
 
@@ -213,101 +279,23 @@ abbrev pub Holds : Option (Text × List Row) → Job → Type 0
 Holds None job = ⊥
 Holds (Some found) job = (found.0 ≡ command_name job) × HasValues found.1 job
 
--- the job reads a folder of modules
-abbrev pub is_tree_job : Job → Bool
-is_tree_job (Cut folder from to workers prices) = true
-is_tree_job (Check folder report prices) = true
-is_tree_job (Crossings folder from to) = false
-is_tree_job (CutNet network from to workers prices) = false
-is_tree_job (CheckNet network report prices) = false
-is_tree_job (Dot folder report prices) = true
-is_tree_job (DotNet network report prices) = false
-is_tree_job (Def question) = false
-is_tree_job (Refs question) = false
-is_tree_job (Index indexing) = false
-is_tree_job (Unresolved folder) = false
+-- the workers of a question, where it has them, are 1 to 64
+abbrev pub HasNetWorkers : NetQuestion → Type 0
+HasNetWorkers (Cut cutting) = MayWork cutting.workers
+HasNetWorkers (Check reported) = Unit {0}
+HasNetWorkers (Dot reported) = Unit {0}
+HasNetWorkers (Why names) = Unit {0}
 
--- the job reads the lines of a network
-abbrev pub is_net_job : Job → Bool
-is_net_job (Cut folder from to workers prices) = false
-is_net_job (Check folder report prices) = false
-is_net_job (Crossings folder from to) = false
-is_net_job (CutNet network from to workers prices) = true
-is_net_job (CheckNet network report prices) = true
-is_net_job (Dot folder report prices) = false
-is_net_job (DotNet network report prices) = true
-is_net_job (Def question) = false
-is_net_job (Refs question) = false
-is_net_job (Index indexing) = false
-is_net_job (Unresolved folder) = false
+abbrev pub HasTreeWorkers : TreeQuestion → Type 0
+HasTreeWorkers (OfNet question) = HasNetWorkers question
+HasTreeWorkers (Crossings names) = Unit {0}
+HasTreeWorkers Net = Unit {0}
 
--- the job asks an index
-abbrev pub is_query_job : Job → Bool
-is_query_job (Cut folder from to workers prices) = false
-is_query_job (Check folder report prices) = false
-is_query_job (Crossings folder from to) = false
-is_query_job (CutNet network from to workers prices) = false
-is_query_job (CheckNet network report prices) = false
-is_query_job (Dot folder report prices) = false
-is_query_job (DotNet network report prices) = false
-is_query_job (Def question) = true
-is_query_job (Refs question) = true
-is_query_job (Index indexing) = false
-is_query_job (Unresolved folder) = false
-
--- the job makes an index
-abbrev pub is_index_job : Job → Bool
-is_index_job (Cut folder from to workers prices) = false
-is_index_job (Check folder report prices) = false
-is_index_job (Crossings folder from to) = false
-is_index_job (CutNet network from to workers prices) = false
-is_index_job (CheckNet network report prices) = false
-is_index_job (Dot folder report prices) = false
-is_index_job (DotNet network report prices) = false
-is_index_job (Def question) = false
-is_index_job (Refs question) = false
-is_index_job (Index indexing) = true
-is_index_job (Unresolved folder) = false
-
--- the job asks for the identifiers that mean nothing
-abbrev pub is_unresolved_job : Job → Bool
-is_unresolved_job (Cut folder from to workers prices) = false
-is_unresolved_job (Check folder report prices) = false
-is_unresolved_job (Crossings folder from to) = false
-is_unresolved_job (CutNet network from to workers prices) = false
-is_unresolved_job (CheckNet network report prices) = false
-is_unresolved_job (Dot folder report prices) = false
-is_unresolved_job (DotNet network report prices) = false
-is_unresolved_job (Def question) = false
-is_unresolved_job (Refs question) = false
-is_unresolved_job (Index indexing) = false
-is_unresolved_job (Unresolved folder) = true
-
--- the job asks for the places where one module uses another
-abbrev pub is_crossings_job : Job → Bool
-is_crossings_job (Cut folder from to workers prices) = false
-is_crossings_job (Check folder report prices) = false
-is_crossings_job (Crossings folder from to) = true
-is_crossings_job (CutNet network from to workers prices) = false
-is_crossings_job (CheckNet network report prices) = false
-is_crossings_job (Dot folder report prices) = false
-is_crossings_job (DotNet network report prices) = false
-is_crossings_job (Def question) = false
-is_crossings_job (Refs question) = false
-is_crossings_job (Index indexing) = false
-is_crossings_job (Unresolved folder) = false
-
--- the job's workers, where it has them, are 1 to 64
+-- so those of the job
 abbrev pub HasWorkers : Job → Type 0
-HasWorkers (Cut folder from to workers prices) = MayWork workers
-HasWorkers (Check folder report prices) = Unit {0}
-HasWorkers (Crossings folder from to) = Unit {0}
-HasWorkers (CutNet network from to workers prices) = MayWork workers
-HasWorkers (CheckNet network report prices) = Unit {0}
-HasWorkers (Dot folder report prices) = Unit {0}
-HasWorkers (DotNet network report prices) = Unit {0}
-HasWorkers (Def question) = Unit {0}
-HasWorkers (Refs question) = Unit {0}
+HasWorkers (Tree folder question) = HasTreeWorkers question
+HasWorkers (Network network question) = HasNetWorkers question
+HasWorkers (Ask question) = Unit {0}
 HasWorkers (Index indexing) = MayWork indexing.workers
 HasWorkers (Unresolved folder) = Unit {0}
 
@@ -317,15 +305,9 @@ IsPositionOf q = (q.line ≤ 2147483647) × (q.column ≤ 2147483647)
 
 -- so those of the job, where it has them
 abbrev pub HasPosition : Job → Type 0
-HasPosition (Cut folder from to workers prices) = Unit {0}
-HasPosition (Check folder report prices) = Unit {0}
-HasPosition (Crossings folder from to) = Unit {0}
-HasPosition (CutNet network from to workers prices) = Unit {0}
-HasPosition (CheckNet network report prices) = Unit {0}
-HasPosition (Dot folder report prices) = Unit {0}
-HasPosition (DotNet network report prices) = Unit {0}
-HasPosition (Def question) = IsPositionOf question
-HasPosition (Refs question) = IsPositionOf question
+HasPosition (Tree folder question) = Unit {0}
+HasPosition (Network network question) = Unit {0}
+HasPosition (Ask question) = IsPositionOf question
 HasPosition (Index indexing) = Unit {0}
 HasPosition (Unresolved folder) = Unit {0}
 
@@ -335,18 +317,21 @@ IsPackage text = (text ≢ codes ".") × (slice_get text 0 ≢ Some 32)
 
 -- so that of the job, where it has one
 abbrev pub HasPackage : Job → Type 0
-HasPackage (Cut folder from to workers prices) = Unit {0}
-HasPackage (Check folder report prices) = Unit {0}
-HasPackage (Crossings folder from to) = Unit {0}
-HasPackage (CutNet network from to workers prices) = Unit {0}
-HasPackage (CheckNet network report prices) = Unit {0}
-HasPackage (Dot folder report prices) = Unit {0}
-HasPackage (DotNet network report prices) = Unit {0}
-HasPackage (Def question) = Unit {0}
-HasPackage (Refs question) = Unit {0}
+HasPackage (Tree folder question) = Unit {0}
+HasPackage (Network network question) = Unit {0}
+HasPackage (Ask question) = Unit {0}
 HasPackage (Index indexing) = IsPackage (string_bytes indexing.package)
 HasPackage (Unresolved folder) = Unit {0}
 
 -- the job is that of the command that clap found, and its numbers and its package are as they may be
 abbrev pub IsJobOf : Option (Text × List Row) → Job → Type 0
 IsJobOf found job = Holds found job × HasWorkers job × HasPosition job × HasPackage job
+
+-- ---- what is made on the way
+
+-- the question is the one of this name, with its values, and its workers are as they may be
+abbrev pub IsNetQuestionOf : Text → List Row → NetQuestion → Type 0
+IsNetQuestionOf name rows question = (name ≡ net_question_name question) × HasNetQuestion rows question × HasNetWorkers question
+
+abbrev pub IsTreeQuestionOf : Text → List Row → TreeQuestion → Type 0
+IsTreeQuestionOf name rows question = (name ≡ tree_question_name question) × HasTreeQuestion rows question × HasTreeWorkers question

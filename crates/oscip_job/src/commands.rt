@@ -1,7 +1,7 @@
 //! The commands of the program and their words, as `clap` takes them.
 ghost use Rattle.std.specs.Prelude.{◌≡◌, IfOk, codes, false};
 ghost use Rattle.clap.specs.Words.{app_of, new_app, rule_of, with_rule, with_subcommand, App};
-ghost use Rattle.oscip_job.specs.Jobs.{asking_app, check_app, check_net_app, crossings_app, cut_app, cut_net_app, def_app, dot_app, dot_net_app, index_app, number_rule, oscip, program_app, refs_app, required_rule, text_rule, unresolved_app, with_modules, with_output, with_position, with_prices, with_workers};
+ghost use Rattle.oscip_job.specs.Jobs.{asking_app, crossings_app, index_app, net_app, number_rule, oscip, program_app, required_rule, text_rule, unresolved_app, with_imports, with_indexers, with_indexes, with_modules, with_nets, with_output, with_pictures, with_position, with_prices, with_trees, with_workers};
 ghost use Rattle.oscip_job.specs.Making.{Reads};
 
 use clap::{Arg, ArgAction, Command, value_parser};
@@ -39,6 +39,22 @@ const CHECK_END: &str = "Example: oscip check examples/editor edit.cut{n}{n}\
 const CROSSINGS_END: &str = "Example: oscip crossings examples/editor Edit Sync{n}{n}\
     Status: 0 the places are printed, 1 a module or a name is refused, 2 the command line is refused,{n}\
     3 a file can't be read or standard output takes nothing, 4 memory ran out";
+
+/// What stands at the end of the help of the command that tells the network of modules.
+const NET_END: &str = "Example: oscip net examples/editor{n}{n}\
+    Status: 0 the network is printed, 1 a module is refused, 2 the command line is refused,{n}\
+    3 a file can't be read or standard output takes nothing, 4 memory ran out";
+
+/// What stands at the end of the help of a command that tells why a module reaches another.
+const WHY_END: &str = "Example: oscip why examples/editor Edit Net{n}{n}\
+    Status: 0 the chain is printed, or there is none, 1 a module or a name is refused,{n}\
+    2 the command line is refused, 3 a file can't be read or standard output takes nothing,{n}\
+    4 memory ran out";
+
+const WHY_NET_END: &str = "Example: oscip why-net examples/six.net A B{n}{n}\
+    Status: 0 the chain is printed, or there is none, 1 the network or a name is refused,{n}\
+    2 the command line is refused, 3 a file can't be read or standard output takes nothing,{n}\
+    4 memory ran out";
 
 const CHECK_NET_END: &str = "Example: oscip check-net examples/six.net examples/six.cut{n}{n}\
     Status: 0 yes, 5 no, 1 the network, a price or the report is refused, 2 the command line is refused,{n}\
@@ -108,22 +124,17 @@ fn with_required<'a>(alloc: Global, command: Made<'a>, id: &'a str, help: &'a st
     with_arg(alloc, command, required)
 }
 
-/// The command with the names of two modules, A and B.
-fn with_modules<'a>(alloc: Global, command: Made<'a>) -> Made<'a>
+/// The command with the names of two modules, A and B, and what help says of them.
+fn with_modules<'a>(
+    alloc: Global,
+    command: Made<'a>,
+    first_help: &'a str,
+    second_help: &'a str,
+) -> Made<'a>
     ensures { (app : App) → IfOk command.entry (λ c. Reads app c.value) → IfOk result (λ c. Reads (with_modules app) c.value) }
 {
-    let command = with_required(
-        alloc,
-        command,
-        "A",
-        "The name of the module that is to reach B no longer",
-    );
-    with_required(
-        alloc,
-        command,
-        "B",
-        "The name of the module that A is to reach no longer",
-    )
+    let command = with_required(alloc, command, "A", first_help);
+    with_required(alloc, command, "B", second_help)
 }
 
 /// The command with the option of how many workers there are, 1 to 64.
@@ -183,7 +194,12 @@ fn cutting<'a>(
 {
     let command = named(alloc, name, about, end);
     let command = with_required(alloc, command, id, help);
-    let command = with_modules(alloc, command);
+    let command = with_modules(
+        alloc,
+        command,
+        "The name of the module that is to reach B no longer",
+        "The name of the module that A is to reach no longer",
+    );
     with_cut_options(alloc, command)
 }
 
@@ -228,6 +244,39 @@ fn crossings_command<'a>(alloc: Global) -> Made<'a>
     );
     let command = with_required(alloc, command, "DIR", FOLDER_HELP);
     with_users(alloc, command)
+}
+
+fn net_command<'a>(alloc: Global) -> Made<'a>
+    ensures { IfOk result (λ c. Reads net_app c.value) }
+{
+    let command = named(
+        alloc,
+        "net",
+        "Tell which Oberon-07 module imports which, and by how many uses, as the lines of a network",
+        NET_END,
+    );
+    with_required(alloc, command, "DIR", FOLDER_HELP)
+}
+
+/// The command of this name with the words of a search for a chain: what it is searched in, and the names of two modules.
+fn chaining<'a>(
+    alloc: Global,
+    name: &'a str,
+    about: &'a str,
+    end: &'a str,
+    id: &'a str,
+    help: &'a str,
+) -> Made<'a>
+    ensures { IfOk result (λ c. Reads (with_modules (with_rule (new_app name.entry.now) (required_rule id.entry.now))) c.value) }
+{
+    let command = named(alloc, name, about, end);
+    let command = with_required(alloc, command, id, help);
+    with_modules(
+        alloc,
+        command,
+        "The name of the module that the chain begins with",
+        "The name of the module that the chain ends with",
+    )
 }
 
 /// The command with one more number that has to be given, from 0 to 2,147,483,647.
@@ -365,9 +414,9 @@ fn with_sub<'a>(alloc: Global, program: Made<'a>, command: Made<'a>) -> Made<'a>
     boxed(alloc, program)
 }
 
-/// The program with the commands on folders of modules.
+/// The program with the commands that cut and check folders of modules, and that tell of crossings.
 fn with_trees<'a>(alloc: Global, program: Made<'a>) -> Made<'a>
-    ensures { (app : App) → IfOk program.entry (λ c. app_of c.value ≡ app) → IfOk result (λ c. app_of c.value ≡ with_subcommand (with_subcommand (with_subcommand app cut_app.top) check_app.top) crossings_app.top) }
+    ensures { (app : App) → IfOk program.entry (λ c. app_of c.value ≡ app) → IfOk result (λ c. app_of c.value ≡ with_trees app) }
 {
     let cut = cutting(
         alloc,
@@ -392,9 +441,26 @@ fn with_trees<'a>(alloc: Global, program: Made<'a>) -> Made<'a>
     with_sub(alloc, program, crossings)
 }
 
-/// The program with the commands on networks.
+/// The program with the commands that tell of the imports of a folder's modules.
+fn with_imports<'a>(alloc: Global, program: Made<'a>) -> Made<'a>
+    ensures { (app : App) → IfOk program.entry (λ c. app_of c.value ≡ app) → IfOk result (λ c. app_of c.value ≡ with_imports app) }
+{
+    let net = net_command(alloc);
+    let program = with_sub(alloc, program, net);
+    let why = chaining(
+        alloc,
+        "why",
+        "Tell why an Oberon-07 module reaches another: the shortest chain of imports from A to B",
+        WHY_END,
+        "DIR",
+        FOLDER_HELP,
+    );
+    with_sub(alloc, program, why)
+}
+
+/// The program with the commands on networks, but for the one that draws.
 fn with_nets<'a>(alloc: Global, program: Made<'a>) -> Made<'a>
-    ensures { (app : App) → IfOk program.entry (λ c. app_of c.value ≡ app) → IfOk result (λ c. app_of c.value ≡ with_subcommand (with_subcommand app cut_net_app.top) check_net_app.top) }
+    ensures { (app : App) → IfOk program.entry (λ c. app_of c.value ≡ app) → IfOk result (λ c. app_of c.value ≡ with_nets app) }
 {
     let cut = cutting(
         alloc,
@@ -414,12 +480,21 @@ fn with_nets<'a>(alloc: Global, program: Made<'a>) -> Made<'a>
         NETWORK_HELP,
         "The report of a cut between two of its modules",
     );
-    with_sub(alloc, program, check)
+    let program = with_sub(alloc, program, check);
+    let why = chaining(
+        alloc,
+        "why-net",
+        "Tell why a module of a network reaches another: the shortest chain of imports from A to B",
+        WHY_NET_END,
+        "FILE",
+        NETWORK_HELP,
+    );
+    with_sub(alloc, program, why)
 }
 
 /// The program with the commands that draw.
 fn with_pictures<'a>(alloc: Global, program: Made<'a>) -> Made<'a>
-    ensures { (app : App) → IfOk program.entry (λ c. app_of c.value ≡ app) → IfOk result (λ c. app_of c.value ≡ with_subcommand (with_subcommand app dot_app.top) dot_net_app.top) }
+    ensures { (app : App) → IfOk program.entry (λ c. app_of c.value ≡ app) → IfOk result (λ c. app_of c.value ≡ with_pictures app) }
 {
     let tree = checking(
         alloc,
@@ -445,7 +520,7 @@ fn with_pictures<'a>(alloc: Global, program: Made<'a>) -> Made<'a>
 
 /// The program with the commands on indexes.
 fn with_indexes<'a>(alloc: Global, program: Made<'a>) -> Made<'a>
-    ensures { (app : App) → IfOk program.entry (λ c. app_of c.value ≡ app) → IfOk result (λ c. app_of c.value ≡ with_subcommand (with_subcommand app def_app.top) refs_app.top) }
+    ensures { (app : App) → IfOk program.entry (λ c. app_of c.value ≡ app) → IfOk result (λ c. app_of c.value ≡ with_indexes app) }
 {
     let def = asking(
         alloc,
@@ -465,7 +540,7 @@ fn with_indexes<'a>(alloc: Global, program: Made<'a>) -> Made<'a>
 
 /// The program with the commands that index modules.
 fn with_indexers<'a>(alloc: Global, program: Made<'a>) -> Made<'a>
-    ensures { (app : App) → IfOk program.entry (λ c. app_of c.value ≡ app) → IfOk result (λ c. app_of c.value ≡ with_subcommand (with_subcommand app index_app.top) unresolved_app.top) }
+    ensures { (app : App) → IfOk program.entry (λ c. app_of c.value ≡ app) → IfOk result (λ c. app_of c.value ≡ with_indexers app) }
 {
     let index = index_command(alloc);
     let program = with_sub(alloc, program, index);
@@ -493,6 +568,7 @@ pub(crate) fn command<'a>(alloc: Global) -> Made<'a>
 {
     let program = bare(alloc);
     let program = with_trees(alloc, program);
+    let program = with_imports(alloc, program);
     let program = with_nets(alloc, program);
     let program = with_pictures(alloc, program);
     let program = with_indexes(alloc, program);

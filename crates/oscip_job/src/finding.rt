@@ -1,11 +1,14 @@
 //! From what `clap` finds for the words to the job.
-ghost use Rattle.std.specs.Prelude.{◌≡◌, ◌≤◌, ◌↔◌, IfOk, IfSome, codes, map, true};
+ghost use Rattle.std.specs.Prelude.{◌≡◌, ◌++◌, ◌≤◌, ◌↔◌, IfOk, IfSome, codes, map, true};
 ghost use Rattle.std.specs.String.{string_bytes};
 ghost use Rattle.clap.specs.Words.{found_of, kind_of, rows_of, subcommand_of, subcommand_rows_of};
-ghost use Rattle.oscip_job.specs.Jobs.{oscip, AsksForHex, Finds, FindsNumber, HasIndexing, HasOutput, HasPackage, HasPosition, HasQuestion, HasWorkers, Holds, IsJobOf, IsPackage, IsPositionOf, MayFind, MayWork, NamesNumbers, NamesPosition, NamesWithin, NamesWorkers};
+ghost use Rattle.oscip_job.specs.Jobs.{asking_name, oscip, AsksForHex, Finds, FindsNumber, HasCutting, HasTwoNames, HasIndexing, HasOutput, HasPackage, HasPosition, HasQuestion, HasReported, HasWorkers, Holds, IsJobOf, IsNetQuestionOf, IsPackage, IsPositionOf, IsTreeQuestionOf, MayFind, MayWork, NamesNumbers, NamesPosition, NamesWithin, NamesWorkers};
 
 use crate::commands::command;
-use crate::job::{Indexing, Job, JobFault, Output, Question};
+use crate::job::{
+    Cutting, Indexing, Job, JobFault, NetQuestion, Output, Places, Question, Reported,
+    TreeQuestion, TwoNames,
+};
 use clap::ArgMatches;
 use clap::error::ErrorKind;
 use std::alloc::{AllocError, Global};
@@ -87,32 +90,31 @@ fn workers_of(found: &ArgMatches<'_>) -> Result<u32, Refusal>
     }
 }
 
-/// The words of a command that cuts.
-#[derive(Drop)]
-struct CutWords {
-    input: String,
-    from: String,
-    to: String,
-    workers: u32,
-    prices: Option<String>,
+/// The names of two modules, which the arguments of these names give.
+fn names_of(
+    alloc: Global,
+    found: &ArgMatches<'_>,
+    first: &str,
+    second: &str,
+) -> Result<TwoNames, Refusal>
+    ensures { IfOk result (HasTwoNames (rows_of (found_of found.now)) first.now second.now) }
+{
+    let from = value_of(alloc, found, first)?;
+    let to = value_of(alloc, found, second)?;
+    Ok(TwoNames { from, to })
 }
 
-/// The words of a command that cuts what the argument of this name gives.
-fn cut_words(alloc: Global, found: &ArgMatches<'_>, id: &str) -> Result<CutWords, Refusal>
+/// The words of a command that cuts, but for what is cut.
+fn cutting_of(alloc: Global, found: &ArgMatches<'_>) -> Result<Cutting, Refusal>
     requires { NamesWorkers (rows_of (found_of found.now)) }
-    ensures { IfOk result (λ it. Finds (rows_of (found_of found.now)) id.now (string_bytes it.input)
-        × Finds (rows_of (found_of found.now)) (codes "A") (string_bytes it.from)
-        × Finds (rows_of (found_of found.now)) (codes "B") (string_bytes it.to)
-        × FindsNumber (rows_of (found_of found.now)) (codes "workers") it.workers
-        × MayFind (rows_of (found_of found.now)) (codes "prices") it.prices × MayWork it.workers) }
+    ensures values { IfOk result (HasCutting (rows_of (found_of found.now))) }
+    ensures workers { IfOk result (λ it. MayWork it.workers) }
 {
     let workers = workers_of(found)?;
-    let input = value_of(alloc, found, id)?;
     let from = value_of(alloc, found, "A")?;
     let to = value_of(alloc, found, "B")?;
     let prices = prices_of(alloc, found)?;
-    Ok(CutWords {
-        input,
+    Ok(Cutting {
         from,
         to,
         workers,
@@ -120,109 +122,67 @@ fn cut_words(alloc: Global, found: &ArgMatches<'_>, id: &str) -> Result<CutWords
     })
 }
 
-/// The words of a command that reads a report.
-#[derive(Drop)]
-struct ReportWords {
-    input: String,
-    report: String,
-    prices: Option<String>,
-}
-
-/// The words of a command that reads a report on what the argument of this name gives.
-fn report_words(alloc: Global, found: &ArgMatches<'_>, id: &str) -> Result<ReportWords, Refusal>
-    ensures { IfOk result (λ it. Finds (rows_of (found_of found.now)) id.now (string_bytes it.input)
-        × Finds (rows_of (found_of found.now)) (codes "REPORT") (string_bytes it.report)
-        × MayFind (rows_of (found_of found.now)) (codes "prices") it.prices) }
+/// The words of a command that reads a report, but for what the report is on.
+fn reported_of(alloc: Global, found: &ArgMatches<'_>) -> Result<Reported, Refusal>
+    ensures { IfOk result (HasReported (rows_of (found_of found.now))) }
 {
-    let input = value_of(alloc, found, id)?;
     let report = value_of(alloc, found, "REPORT")?;
     let prices = prices_of(alloc, found)?;
-    Ok(ReportWords {
-        input,
-        report,
-        prices,
-    })
+    Ok(Reported { report, prices })
 }
 
-fn cut_job(alloc: Global, found: &ArgMatches<'_>) -> Result<Job, Refusal>
+/// What the command of this name asks of the network of a tree, or with `-net` behind the name of one in a file.
+fn net_question(alloc: Global, name: &str, found: &ArgMatches<'_>) -> Result<NetQuestion, Refusal>
     requires { NamesWorkers (rows_of (found_of found.now)) }
-    ensures { IfOk result (IsJobOf (Some (codes "cut", rows_of (found_of found.now)))) }
+    ensures { IfOk result (IsNetQuestionOf name.now (rows_of (found_of found.now))) }
 {
-    let words = cut_words(alloc, found, "DIR")?;
-    Ok(Job::Cut {
-        folder: words.input,
-        from: words.from,
-        to: words.to,
-        workers: words.workers,
-        prices: words.prices,
-    })
+    if name == "cut" {
+        return Ok(NetQuestion::Cut(cutting_of(alloc, found)?));
+    }
+    if name == "check" {
+        return Ok(NetQuestion::Check(reported_of(alloc, found)?));
+    }
+    if name == "dot" {
+        return Ok(NetQuestion::Dot(reported_of(alloc, found)?));
+    }
+    if name == "why" {
+        return Ok(NetQuestion::Why(names_of(alloc, found, "A", "B")?));
+    }
+    Err(Refusal::Missing)
 }
 
-fn cut_net_job(alloc: Global, found: &ArgMatches<'_>) -> Result<Job, Refusal>
+/// What the command of this name asks of a tree.
+fn tree_question(alloc: Global, name: &str, found: &ArgMatches<'_>) -> Result<TreeQuestion, Refusal>
     requires { NamesWorkers (rows_of (found_of found.now)) }
-    ensures { IfOk result (IsJobOf (Some (codes "cut-net", rows_of (found_of found.now)))) }
+    ensures { IfOk result (IsTreeQuestionOf name.now (rows_of (found_of found.now))) }
 {
-    let words = cut_words(alloc, found, "FILE")?;
-    Ok(Job::CutNet {
-        network: words.input,
-        from: words.from,
-        to: words.to,
-        workers: words.workers,
-        prices: words.prices,
-    })
+    if name == "crossings" {
+        return Ok(TreeQuestion::Crossings(names_of(alloc, found, "M", "N")?));
+    }
+    if name == "net" {
+        return Ok(TreeQuestion::Net);
+    }
+    Ok(TreeQuestion::OfNet(net_question(alloc, name, found)?))
 }
 
-fn check_job(alloc: Global, found: &ArgMatches<'_>) -> Result<Job, Refusal>
-    ensures { IfOk result (IsJobOf (Some (codes "check", rows_of (found_of found.now)))) }
+/// The job of the command of this name on a tree.
+fn tree_job(alloc: Global, name: &str, found: &ArgMatches<'_>) -> Result<Job, Refusal>
+    requires { NamesWorkers (rows_of (found_of found.now)) }
+    ensures { IfOk result (IsJobOf (Some (name.now, rows_of (found_of found.now)))) }
 {
-    let words = report_words(alloc, found, "DIR")?;
-    Ok(Job::Check {
-        folder: words.input,
-        report: words.report,
-        prices: words.prices,
-    })
-}
-
-fn crossings_job(alloc: Global, found: &ArgMatches<'_>) -> Result<Job, Refusal>
-    ensures { IfOk result (IsJobOf (Some (codes "crossings", rows_of (found_of found.now)))) }
-{
+    let question = tree_question(alloc, name, found)?;
     let folder = value_of(alloc, found, "DIR")?;
-    let from = value_of(alloc, found, "M")?;
-    let to = value_of(alloc, found, "N")?;
-    Ok(Job::Crossings { folder, from, to })
+    Ok(Job::Tree { folder, question })
 }
 
-fn check_net_job(alloc: Global, found: &ArgMatches<'_>) -> Result<Job, Refusal>
-    ensures { IfOk result (IsJobOf (Some (codes "check-net", rows_of (found_of found.now)))) }
+/// The job on a network of the command of this name with `-net` behind it.
+fn net_job(alloc: Global, name: &str, found: &ArgMatches<'_>) -> Result<Job, Refusal>
+    requires { NamesWorkers (rows_of (found_of found.now)) }
+    ensures { IfOk result (IsJobOf (Some (name.now ++ codes "-net", rows_of (found_of found.now)))) }
 {
-    let words = report_words(alloc, found, "FILE")?;
-    Ok(Job::CheckNet {
-        network: words.input,
-        report: words.report,
-        prices: words.prices,
-    })
-}
-
-fn dot_job(alloc: Global, found: &ArgMatches<'_>) -> Result<Job, Refusal>
-    ensures { IfOk result (IsJobOf (Some (codes "dot", rows_of (found_of found.now)))) }
-{
-    let words = report_words(alloc, found, "DIR")?;
-    Ok(Job::Dot {
-        folder: words.input,
-        report: words.report,
-        prices: words.prices,
-    })
-}
-
-fn dot_net_job(alloc: Global, found: &ArgMatches<'_>) -> Result<Job, Refusal>
-    ensures { IfOk result (IsJobOf (Some (codes "dot-net", rows_of (found_of found.now)))) }
-{
-    let words = report_words(alloc, found, "FILE")?;
-    Ok(Job::DotNet {
-        network: words.input,
-        report: words.report,
-        prices: words.prices,
-    })
+    let question = net_question(alloc, name, found)?;
+    let network = value_of(alloc, found, "FILE")?;
+    Ok(Job::Network { network, question })
 }
 
 /// A number of a position, as `clap` found it.
@@ -238,9 +198,10 @@ fn number_of(found: &ArgMatches<'_>, id: &str) -> Result<u32, Refusal>
 }
 
 /// The question of a command on indexes.
-fn question_of(alloc: Global, found: &ArgMatches<'_>) -> Result<Question, Refusal>
+fn question_of(alloc: Global, places: Places, found: &ArgMatches<'_>) -> Result<Question, Refusal>
     requires { NamesPosition (rows_of (found_of found.now)) }
     ensures values { IfOk result (HasQuestion (rows_of (found_of found.now))) }
+    ensures places { IfOk result (λ it. it.places ≡ places) }
     ensures position { IfOk result IsPositionOf }
 {
     let line = number_of(found, "LINE")?;
@@ -248,6 +209,7 @@ fn question_of(alloc: Global, found: &ArgMatches<'_>) -> Result<Question, Refusa
     let index = value_of(alloc, found, "INDEX")?;
     let path = value_of(alloc, found, "PATH")?;
     Ok(Question {
+        places,
         index,
         path,
         line,
@@ -255,18 +217,12 @@ fn question_of(alloc: Global, found: &ArgMatches<'_>) -> Result<Question, Refusa
     })
 }
 
-fn def_job(alloc: Global, found: &ArgMatches<'_>) -> Result<Job, Refusal>
+/// The job of the command that asks an index for these places.
+fn asking_job(alloc: Global, places: Places, found: &ArgMatches<'_>) -> Result<Job, Refusal>
     requires { NamesPosition (rows_of (found_of found.now)) }
-    ensures { IfOk result (IsJobOf (Some (codes "def", rows_of (found_of found.now)))) }
+    ensures { IfOk result (IsJobOf (Some (asking_name places, rows_of (found_of found.now)))) }
 {
-    Ok(Job::Def(question_of(alloc, found)?))
-}
-
-fn refs_job(alloc: Global, found: &ArgMatches<'_>) -> Result<Job, Refusal>
-    requires { NamesPosition (rows_of (found_of found.now)) }
-    ensures { IfOk result (IsJobOf (Some (codes "refs", rows_of (found_of found.now)))) }
-{
-    Ok(Job::Refs(question_of(alloc, found)?))
+    Ok(Job::Ask(question_of(alloc, places, found)?))
 }
 
 /// Whether the words ask for a line of hexadecimal digits.
@@ -347,41 +303,15 @@ fn unresolved_job(alloc: Global, found: &ArgMatches<'_>) -> Result<Job, Refusal>
     Ok(Job::Unresolved { folder })
 }
 
-/// The job of a command of this name that asks an index, makes one, or tells what means nothing.
-fn index_job_named(alloc: Global, name: &str, found: &ArgMatches<'_>) -> Result<Job, Refusal>
-    requires { NamesNumbers (rows_of (found_of found.now)) }
+/// The job of the command of this name on a tree or on a network.
+fn graph_job(alloc: Global, name: &str, found: &ArgMatches<'_>) -> Result<Job, Refusal>
+    requires { NamesWorkers (rows_of (found_of found.now)) }
     ensures { IfOk result (IsJobOf (Some (name.now, rows_of (found_of found.now)))) }
 {
-    if name == "def" {
-        return def_job(alloc, found);
+    match name.strip_suffix("-net") {
+        Some(name) => net_job(alloc, name, found),
+        None => tree_job(alloc, name, found),
     }
-    if name == "refs" {
-        return refs_job(alloc, found);
-    }
-    if name == "index" {
-        return index_job(alloc, found);
-    }
-    if name == "unresolved" {
-        return unresolved_job(alloc, found);
-    }
-    Err(Refusal::Missing)
-}
-
-/// The job of a command of this name that draws or tells of crossings, or that is on indexes.
-fn other_job_named(alloc: Global, name: &str, found: &ArgMatches<'_>) -> Result<Job, Refusal>
-    requires { NamesNumbers (rows_of (found_of found.now)) }
-    ensures { IfOk result (IsJobOf (Some (name.now, rows_of (found_of found.now)))) }
-{
-    if name == "crossings" {
-        return crossings_job(alloc, found);
-    }
-    if name == "dot" {
-        return dot_job(alloc, found);
-    }
-    if name == "dot-net" {
-        return dot_net_job(alloc, found);
-    }
-    index_job_named(alloc, name, found)
 }
 
 /// The job of the command of this name.
@@ -389,19 +319,19 @@ fn job_named(alloc: Global, name: &str, found: &ArgMatches<'_>) -> Result<Job, R
     requires { NamesNumbers (rows_of (found_of found.now)) }
     ensures { IfOk result (IsJobOf (Some (name.now, rows_of (found_of found.now)))) }
 {
-    if name == "cut" {
-        return cut_job(alloc, found);
+    if name == "def" {
+        return asking_job(alloc, Places::Definitions, found);
     }
-    if name == "check" {
-        return check_job(alloc, found);
+    if name == "refs" {
+        return asking_job(alloc, Places::References, found);
     }
-    if name == "cut-net" {
-        return cut_net_job(alloc, found);
+    if name == "index" {
+        return index_job(alloc, found);
     }
-    if name == "check-net" {
-        return check_net_job(alloc, found);
+    if name == "unresolved" {
+        return unresolved_job(alloc, found);
     }
-    other_job_named(alloc, name, found)
+    graph_job(alloc, name, found)
 }
 
 /// The job of the command that was met, and the values that were found for it.

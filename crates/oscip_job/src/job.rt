@@ -3,9 +3,20 @@
 use std::alloc::AllocError;
 use thiserror::Error;
 
+/// Which places of a symbol are asked for.
+#[derive(Clone, Copy)]
+pub enum Places {
+    /// Those where it is defined.
+    Definitions,
+    /// Those where it is used and not defined.
+    References,
+}
+
 /// What is asked of an index.
 #[derive(Drop)]
 pub struct Question {
+    /// Which places of the symbol at the position.
+    pub places: Places,
     /// The path of the index's file.
     pub index: String,
     /// The path of a document, as the index has it.
@@ -40,64 +51,76 @@ pub struct Indexing {
     pub workers: u32,
 }
 
-/// A command with the values of its words. `prices` is the path of a file with prices of imports, where it is given.
+/// The names of two modules.
+#[derive(Drop)]
+pub struct TwoNames {
+    pub from: String,
+    pub to: String,
+}
+
+/// Between the modules of which names a cut is searched for, and how.
+#[derive(Drop)]
+pub struct Cutting {
+    pub from: String,
+    pub to: String,
+    /// How many workers search, from 1 to 64.
+    pub workers: u32,
+    /// The path of a file with prices of imports, where it is given.
+    pub prices: Option<String>,
+}
+
+/// A report, and the prices that it was made with.
+#[derive(Drop)]
+pub struct Reported {
+    /// The path of the report's file.
+    pub report: String,
+    /// The path of a file with prices of imports, where it is given.
+    pub prices: Option<String>,
+}
+
+/// What is asked of a network, one that stands in a file or that of a tree.
+#[derive(Drop)]
+pub enum NetQuestion {
+    /// A cheapest cut between two modules.
+    Cut(Cutting),
+    /// Whether a report on it is right.
+    Check(Reported),
+    /// A picture of what a report on it says.
+    Dot(Reported),
+    /// The least chain of imports from the first module to the second.
+    Why(TwoNames),
+}
+
+/// What is asked of the modules of a tree.
+#[derive(Drop)]
+pub enum TreeQuestion {
+    /// This of their network.
+    OfNet(NetQuestion),
+    /// Where the first module uses the second.
+    Crossings(TwoNames),
+    /// Their network, as a text.
+    Net,
+}
+
+/// A command with the values of its words: what is read, and what is asked of it. A folder, a network and an index are given by
+/// their paths.
 #[derive(Drop)]
 pub enum Job {
-    /// Finds a cheapest cut of the modules below a folder, given by its path, between the modules of two names, with 1 to
-    /// 64 workers.
-    Cut {
+    /// Asks this of the modules below a folder.
+    Tree {
         folder: String,
-        from: String,
-        to: String,
-        workers: u32,
-        prices: Option<String>,
+        question: TreeQuestion,
     },
-    /// Checks a report against the modules below a folder, both given as paths.
-    Check {
-        folder: String,
-        report: String,
-        prices: Option<String>,
-    },
-    /// Tells where the module of the first name uses that of the second, of the modules below a folder, given by its path.
-    Crossings {
-        folder: String,
-        from: String,
-        to: String,
-    },
-    /// Finds a cheapest cut of a network, given as the path of a file, between the modules of two names, with 1 to 64
-    /// workers.
-    CutNet {
+    /// Asks this of a network.
+    Network {
         network: String,
-        from: String,
-        to: String,
-        workers: u32,
-        prices: Option<String>,
+        question: NetQuestion,
     },
-    /// Checks a report against a network, both given as paths of files.
-    CheckNet {
-        network: String,
-        report: String,
-        prices: Option<String>,
-    },
-    /// Draws what a report says of the modules below a folder, both given as paths.
-    Dot {
-        folder: String,
-        report: String,
-        prices: Option<String>,
-    },
-    /// Draws what a report says of a network, both given as paths of files.
-    DotNet {
-        network: String,
-        report: String,
-        prices: Option<String>,
-    },
-    /// Tells where the symbol at a position is defined.
-    Def(Question),
-    /// Tells where the symbol at a position is used and not defined.
-    Refs(Question),
+    /// Asks this of an index.
+    Ask(Question),
     /// Makes an index of the modules below a folder.
     Index(Indexing),
-    /// Tells which identifiers of the modules below a folder, given by its path, mean nothing.
+    /// Tells which identifiers of the modules below a folder mean nothing.
     Unresolved {
         folder: String,
     },

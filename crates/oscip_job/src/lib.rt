@@ -8,4 +8,7 @@ mod finding;
 mod job;
 
 pub use finding::job_of;
-pub use job::{Indexing, Job, JobFault, Output, Question};
+pub use job::{
+    Cutting, Indexing, Job, JobFault, NetQuestion, Output, Places, Question, Reported,
+    TreeQuestion, TwoNames,
+};

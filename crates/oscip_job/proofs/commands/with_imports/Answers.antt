@@ -1,0 +1,4 @@
+use Rattle.oscip_job.proofs.commands.with_imports.Goals as goal
+
+pub returns : goal.returns
+returns c app is = c.with_sub.ensures _ _ (c.with_sub-program.ensures _ _ is c.net_command-net.ensures) c.chaining-why.ensures
