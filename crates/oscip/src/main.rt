@@ -5,14 +5,14 @@
 
 ghost use Rattle.std.specs.String.{string_bytes};
 ghost use Rattle.oscip_tree.specs.Sources.{ArePathsInOrder};
-ghost use Rattle.oscip_job.specs.Jobs.{HasPackage, HasWorkers, IsPackage, MayWork};
+ghost use Rattle.oscip_job.specs.Jobs.{HasPackage, HasTreeWorkers, HasWorkers, IsPackage, MayWork};
 
 use byte_sink::{Sink, ToWrite};
 use index_run::{OpenBoard, answer_index, run_unresolved, sources_to_index};
-use oscip_job::{Indexing, Job, JobFault, Output, job_of};
+use oscip_job::{Indexing, Job, JobFault, Output, TreeQuestion, job_of};
 use oscip_run::{
-    Reader, RunFault, SystemFiles, fault_line, run_crossings, run_net, run_question, run_tree,
-    status_of, status_of_run, status_of_words,
+    Reader, RunFault, SystemFiles, fault_line, run_crossings, run_net, run_net_text, run_question,
+    run_tree, status_of, status_of_run, status_of_words,
 };
 use oscip_tree::Source;
 use std::alloc::Global;
@@ -71,6 +71,24 @@ fn run_index<R: Files + AllocGlobal + Threads + Wait + Sync, F: Reader, S: Sink>
     Ok(true)
 }
 
+/// Asks this of the modules below a folder.
+fn ask_tree<R: AllocGlobal + Threads + Wait + Sync, F: Reader, S: Sink>(
+    rt: &R,
+    reader: &F,
+    folder: &str,
+    question: &TreeQuestion,
+    sink: &mut S,
+) -> Result<bool, RunFault>
+    requires { HasTreeWorkers question.now }
+{
+    let alloc = rt.alloc();
+    match question {
+        TreeQuestion::OfNet(question) => run_tree(rt, alloc, reader, folder, question, sink),
+        TreeQuestion::Crossings(names) => run_crossings(rt, alloc, reader, folder, names, sink),
+        TreeQuestion::Net => run_net_text(rt, alloc, reader, folder, sink),
+    }
+}
+
 /// Runs the job on the real files and the real standard output.
 fn run_job<R: Files + AllocGlobal + Print + Threads + Wait + Sync + Clone + Drop>(
     rt: &R,
@@ -82,14 +100,14 @@ fn run_job<R: Files + AllocGlobal + Print + Threads + Wait + Sync + Clone + Drop
     let reader = SystemFiles(rt);
     let mut sink = ToWrite::new(io::writer(rt));
     match job {
-        Job::Cut { .. } | Job::Check { .. } | Job::Dot { .. } => {
-            run_tree(rt, rt.alloc(), &reader, job, &mut sink)
+        Job::Tree { folder, question } => {
+            ask_tree(rt, &reader, folder.as_str(), question, &mut sink)
         }
-        Job::Crossings { .. } => run_crossings(rt, rt.alloc(), &reader, job, &mut sink),
-        Job::CutNet { .. } | Job::CheckNet { .. } | Job::DotNet { .. } => {
-            run_net(rt, rt.alloc(), &reader, job, &mut sink)
+        Job::Network { network, question } => {
+            let network = network.as_str();
+            run_net(rt, rt.alloc(), &reader, network, question, &mut sink)
         }
-        Job::Def(_) | Job::Refs(_) => run_question(rt.alloc(), &reader, job, &mut sink),
+        Job::Ask(question) => run_question(rt.alloc(), &reader, question, &mut sink),
         Job::Index(indexing) => run_index(rt, &reader, indexing, &mut sink),
         Job::Unresolved { folder } => {
             run_unresolved(rt, rt.alloc(), &reader, folder.as_str(), &mut sink)

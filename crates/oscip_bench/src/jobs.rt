@@ -1,12 +1,10 @@
 //! Jobs of the program, run on what is in memory, with what they put and how they end in a digest.
-ghost use Rattle.std.specs.Prelude.{◌≡◌, true};
-ghost use Rattle.oscip_job.specs.Jobs.{is_query_job};
 
 use crate::digest::Digest;
 use cut_solve::OpenGate;
 use index_run::{OpenBoard, index_to, unresolved_to};
 use ob_board::IndexOptions;
-use oscip_job::{Job, Question};
+use oscip_job::Question;
 use oscip_run::{
     RunFault, answer_question, check_net_bytes, check_tree, cut_net_bytes, cut_tree, status_of,
     status_of_run,
@@ -134,20 +132,8 @@ pub fn cut_in_net<R: Threads + Wait + AllocGlobal + Sync>(
     digest.end(status_of_run(&ended));
 }
 
-/// Answers the question of a job.
-fn answer(alloc: Global, job: &Job, index: &[u8], digest: &mut Digest)
-    requires { is_query_job job.now ≡ true }
-{
-    let ended = answer_question(alloc, job, index, digest);
+/// Asks an index for the places of the symbol at a position.
+pub fn ask(alloc: Global, question: &Question, index: &[u8], digest: &mut Digest) {
+    let ended = answer_question(alloc, question, index, digest);
     digest.end(status_of_puts(&ended));
-}
-
-/// Asks an index where what stands at a place is defined.
-pub fn define(alloc: Global, question: Question, index: &[u8], digest: &mut Digest) {
-    answer(alloc, &Job::Def(question), index, digest)
-}
-
-/// Asks an index where what stands at a place is used.
-pub fn refer(alloc: Global, question: Question, index: &[u8], digest: &mut Digest) {
-    answer(alloc, &Job::Refs(question), index, digest)
 }

@@ -10,7 +10,7 @@ use crate::jobs::Stopped;
 use crate::modules::{Shape, prices_of, tree_of};
 use crate::networks::{Form, network_of};
 use crate::random::{Random, name_of, push_number};
-use oscip_job::Question;
+use oscip_job::{Places, Question};
 use std::alloc::{AllocError, Global};
 use std::sync::Wait;
 use std::thread::Threads;
@@ -166,9 +166,10 @@ pub fn cut<R: Threads + Wait + AllocGlobal + Sync>(
     cut_tree(rt, seed, part(MIDDLE, size), true, digest)
 }
 
-/// The question for what stands in a line of a document.
+/// The question for these places of what stands in a line of a document.
 fn question_of(
     alloc: Global,
+    places: Places,
     seed: u64,
     style: Style,
     document: u64,
@@ -176,6 +177,7 @@ fn question_of(
 ) -> Result<Question, AllocError> {
     let path = path_of(alloc, style, document)?;
     Ok(Question {
+        places,
         index: String::new(alloc),
         path: String::from_str(alloc, str::from_utf8(path.as_slice()).unwrap_or(""))?,
         line: (line % 100_000) as u32,
@@ -197,10 +199,11 @@ fn ask_index(
     for nth in 0..4 {
         let document = random.below(documents.max(1));
         let line = random.below(lines.max(1));
-        let question = question_of(alloc, seed, style, document, line)?;
-        jobs::define(alloc, question, index.as_slice(), digest);
-        let question = question_of(alloc, seed, style, document, line - line % 10 + nth)?;
-        jobs::refer(alloc, question, index.as_slice(), digest);
+        let question = question_of(alloc, Places::Definitions, seed, style, document, line)?;
+        jobs::ask(alloc, &question, index.as_slice(), digest);
+        let line = line - line % 10 + nth;
+        let question = question_of(alloc, Places::References, seed, style, document, line)?;
+        jobs::ask(alloc, &question, index.as_slice(), digest);
     }
     Ok(())
 }
@@ -275,11 +278,12 @@ pub fn awkward<R: Threads + Wait + AllocGlobal + Sync>(
     index_tree(rt, seed, part(DENSE, size), digest)?;
     let empty = empty_records(alloc, size * 50_000)?;
     let question = Question {
+        places: Places::Definitions,
         index: String::new(alloc),
         path: String::from_str(alloc, "empty")?,
         line: 0,
         column: 0,
     };
-    jobs::define(alloc, question, empty.as_slice(), digest);
+    jobs::ask(alloc, &question, empty.as_slice(), digest);
     Ok(())
 }

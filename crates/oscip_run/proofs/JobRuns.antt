@@ -2,7 +2,8 @@
 use Rattle.std.proofs.Common.{◌≡◌, ℕ, List, Option, Err, subst}
 use Rattle.cut_net.specs.Network.{Network}
 use Rattle.oscip_run.specs.CutRuns.{IsCutRun}
-use Rattle.oscip_run.specs.JobRuns.{IsCutJobRun}
+use Rattle.oscip_run.specs.ImportRuns.{IsWhyRun}
+use Rattle.oscip_run.specs.JobRuns.{IsCutJobRun, IsWhyJobRun}
 use Rattle.oscip_run.specs.declared.fault.RunFault.{RunFault}
 
 -- a search for a cut that found none, between names that are the job's
@@ -11,3 +12,10 @@ pub refused_cut : (IsOf : Network → Type 0) (IsRefused : RunFault → Type 0) 
 refused_cut IsOf IsRefused a b first second old new fault e f h =
     let of_second = subst (λ (x : List ℕ). IsCutRun IsOf IsRefused a x old new (Err fault)) f h in
     (subst (λ (x : List ℕ). IsCutRun IsOf IsRefused x second old new (Err fault)) e of_second, tt)
+
+-- the same of a chain
+pub refused_why : (IsOf : Network → Type 0) (IsRefused : RunFault → Type 0) (a b first second : List ℕ) (old new : Option (List ℕ)) (fault : RunFault) → a ≡ first → b ≡ second →
+    IsWhyRun IsOf IsRefused a b old new (Err fault) → IsWhyJobRun IsOf IsRefused first second old new (Err fault)
+refused_why IsOf IsRefused a b first second old new fault e f h =
+    let of_second = subst (λ (x : List ℕ). IsWhyRun IsOf IsRefused a x old new (Err fault)) f h in
+    (subst (λ (x : List ℕ). IsWhyRun IsOf IsRefused x second old new (Err fault)) e of_second, tt)

@@ -1,8 +1,10 @@
+pub mod AskedRuns
 pub mod CheckRuns
 pub mod PricedInputs
 pub mod Sayable
 pub mod CutRuns
 pub mod DotRuns
+pub mod ImportRuns
 pub mod JobRuns
 pub mod NoRefusal
 pub mod WithoutPrices

@@ -6,8 +6,6 @@ use Rattle.byte_sink.specs.Sinks.{AppendsFront}
 use Rattle.cut_solve.specs.declared.fault.SolveFault.{SolveFault}
 use Rattle.cut_solve.specs.declared.fault.SolveFault.TheVariants as solve
 use Rattle.index_store.specs.Queries.{PlainPlace}
-use Rattle.oscip_job.specs.declared.job.Job.{Job}
-use Rattle.oscip_job.specs.declared.job.Job.TheVariants.{Cut, Check, Crossings, CutNet, CheckNet, Dot, DotNet, Def, Refs, Index, Unresolved}
 use Rattle.index_store.specs.Lines.{place_lines}
 use Rattle.oscip_run.specs.Runs.{IsRefusedTree}
 use Rattle.oscip_run.specs.declared.fault.RunFault.{RunFault}
@@ -61,20 +59,6 @@ IsCrossingsRun sources m n old new (Err (Solve fault)) = IsUnknown sources m n f
 IsCrossingsRun sources m n old new (Err (Query fault)) = ⊥
 IsCrossingsRun sources m n old new (Err Device) = PutsUsesFront sources m n old new
 IsCrossingsRun sources m n old new (Err Memory) = Keeps old new ⊎ PutsUsesFront sources m n old new
-
--- a run of a job that asks where a module uses another, with the job's own names
-abbrev pub IsCrossingsJob : List Source → Job → Option (List ℕ) → Option (List ℕ) → Result (Unit {0}) RunFault → Type 0
-IsCrossingsJob sources (Cut folder from to workers prices) old new result = ⊥
-IsCrossingsJob sources (Check folder report prices) old new result = ⊥
-IsCrossingsJob sources (Crossings folder from to) old new result = IsCrossingsRun sources (string_bytes from) (string_bytes to) old new result
-IsCrossingsJob sources (CutNet network from to workers prices) old new result = ⊥
-IsCrossingsJob sources (CheckNet network report prices) old new result = ⊥
-IsCrossingsJob sources (Dot folder report prices) old new result = ⊥
-IsCrossingsJob sources (DotNet network report prices) old new result = ⊥
-IsCrossingsJob sources (Def question) old new result = ⊥
-IsCrossingsJob sources (Refs question) old new result = ⊥
-IsCrossingsJob sources (Index indexing) old new result = ⊥
-IsCrossingsJob sources (Unresolved folder) old new result = ⊥
 
 -- ---- what is made on the way
 

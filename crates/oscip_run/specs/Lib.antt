@@ -3,6 +3,7 @@ pub mod Faults
 pub mod Runs
 pub mod PricedInputs
 pub mod DotRuns
+pub mod ImportRuns
 pub mod JobRuns
 pub mod Endings
 pub mod Files

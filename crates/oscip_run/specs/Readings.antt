@@ -1,9 +1,9 @@
--- What a reader of files and folders answers, and what a job names to be read.
+-- What a reader of files and folders answers, and what a question names to be read.
 use Rattle.std.specs.Prelude.{◌≡◌, ◌⊎◌, ℕ, [], List, Option, Some, None, option_map}
 use Rattle.std.specs.Global.{Vec}
 use Rattle.std.specs.String.{string_bytes}
-use Rattle.oscip_job.specs.declared.job.Job.{Job}
-use Rattle.oscip_job.specs.declared.job.Job.TheVariants.{Cut, Check, Crossings, CutNet, CheckNet, Dot, DotNet, Def, Refs, Index, Unresolved}
+use Rattle.oscip_job.specs.declared.job.NetQuestion.{NetQuestion}
+use Rattle.oscip_job.specs.declared.job.NetQuestion.TheVariants.{Cut, Check, Dot, Why}
 use Rattle.oscip_run.specs.Faults.{IsReadFault}
 use Rattle.oscip_run.specs.Files.{AreFronts, IsFile}
 use Rattle.oscip_run.specs.declared.fault.RunFault.{RunFault}
@@ -21,24 +21,16 @@ IsOfSystem (FileOf path bytes) = IsFile bytes
 IsOfSystem (FolderOf path sources) = AreFronts sources
 IsOfSystem (Refused path fault) = IsReadFault fault
 
--- the paths that a job names: that of its network, its folder or its index, and those of its report and its prices, where it has them
-pub record JobPaths : Type 0 where
-  pub input : List ℕ
+-- the paths that a question names beside its network: those of its report and its prices, where it has them
+pub record PathsBeside : Type 0 where
   pub report : Option (List ℕ)
   pub prices : Option (List ℕ)
 
-abbrev pub job_paths : Job → JobPaths
-job_paths (Cut folder from to workers prices) = record { input = string_bytes folder; report = None; prices = option_map string_bytes prices }
-job_paths (Check folder report prices) = record { input = string_bytes folder; report = Some (string_bytes report); prices = option_map string_bytes prices }
-job_paths (Crossings folder from to) = record { input = string_bytes folder; report = None; prices = None }
-job_paths (CutNet network from to workers prices) = record { input = string_bytes network; report = None; prices = option_map string_bytes prices }
-job_paths (CheckNet network report prices) = record { input = string_bytes network; report = Some (string_bytes report); prices = option_map string_bytes prices }
-job_paths (Dot folder report prices) = record { input = string_bytes folder; report = Some (string_bytes report); prices = option_map string_bytes prices }
-job_paths (DotNet network report prices) = record { input = string_bytes network; report = Some (string_bytes report); prices = option_map string_bytes prices }
-job_paths (Def question) = record { input = string_bytes question.index; report = None; prices = None }
-job_paths (Refs question) = record { input = string_bytes question.index; report = None; prices = None }
-job_paths (Index indexing) = record { input = string_bytes indexing.folder; report = None; prices = None }
-job_paths (Unresolved folder) = record { input = string_bytes folder; report = None; prices = None }
+abbrev pub paths_beside : NetQuestion → PathsBeside
+paths_beside (Cut cutting) = record { report = None; prices = option_map string_bytes cutting.prices }
+paths_beside (Check reported) = record { report = Some (string_bytes reported.report); prices = option_map string_bytes reported.prices }
+paths_beside (Dot reported) = record { report = Some (string_bytes reported.report); prices = option_map string_bytes reported.prices }
+paths_beside (Why names) = record { report = None; prices = None }
 
 -- Below Answers are the answers of a reader.
 
@@ -52,25 +44,25 @@ abbrev pub IsNotGiven : (Reading → Type 0) → Option (List ℕ) → RunFault 
 IsNotGiven Answers None fault = ⊥
 IsNotGiven Answers (Some path) fault = Answers (Refused path fault)
 
--- this report and these prices are given, where the job names them
-pub record AreGiven (Answers : Reading → Type 0) (paths : JobPaths) (report prices : Option (List ℕ)) : Type 0 where
+-- this report and these prices are given, where the question names them
+pub record AreGiven (Answers : Reading → Type 0) (paths : PathsBeside) (report prices : Option (List ℕ)) : Type 0 where
   pub report_given : IsGiven Answers paths.report report
   pub prices_given : IsGiven Answers paths.prices prices
 
 -- the report is refused; or it isn't, and the prices are
-abbrev pub AreNotGiven : (Reading → Type 0) → JobPaths → RunFault → Type 0
+abbrev pub AreNotGiven : (Reading → Type 0) → PathsBeside → RunFault → Type 0
 AreNotGiven Answers paths fault =
     IsNotGiven Answers paths.report fault ⊎ (((report : Option (List ℕ)) × IsGiven Answers paths.report report) × IsNotGiven Answers paths.prices fault)
 
 -- the network is refused; or it isn't, and what is read behind it is
-abbrev pub IsNetNotGiven : (Reading → Type 0) → JobPaths → RunFault → Type 0
-IsNetNotGiven Answers paths fault =
-    Answers (Refused paths.input fault) ⊎ (((network : List ℕ) × Answers (FileOf paths.input network)) × AreNotGiven Answers paths fault)
+abbrev pub IsNetNotGiven : (Reading → Type 0) → List ℕ → PathsBeside → RunFault → Type 0
+IsNetNotGiven Answers path beside fault =
+    Answers (Refused path fault) ⊎ (((network : List ℕ) × Answers (FileOf path network)) × AreNotGiven Answers beside fault)
 
 -- the same of a folder
-abbrev pub IsTreeNotGiven : (Reading → Type 0) → JobPaths → RunFault → Type 0
-IsTreeNotGiven Answers paths fault =
-    Answers (Refused paths.input fault) ⊎ (((sources : List Source) × Answers (FolderOf paths.input sources)) × AreNotGiven Answers paths fault)
+abbrev pub IsTreeNotGiven : (Reading → Type 0) → List ℕ → PathsBeside → RunFault → Type 0
+IsTreeNotGiven Answers path beside fault =
+    Answers (Refused path fault) ⊎ (((sources : List Source) × Answers (FolderOf path sources)) × AreNotGiven Answers beside fault)
 
 -- ---- what is made on the way
 

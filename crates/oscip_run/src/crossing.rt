@@ -1,9 +1,8 @@
 //! What the command that tells where a module uses another does with the files of a tree, over any sink.
-ghost use Rattle.std.specs.Prelude.{◌≡◌, ℕ, IfOk, List, map, true};
+ghost use Rattle.std.specs.Prelude.{◌≡◌, ℕ, IfOk, List, map};
 ghost use Rattle.byte_sink.specs.Sinks.{failures_by};
 ghost use Rattle.index_store.specs.Queries.{plain_place};
-ghost use Rattle.oscip_job.specs.Jobs.{is_crossings_job};
-ghost use Rattle.oscip_run.specs.CrossingRuns.{place_in_file, IsCrossingsJob, IsCrossingsRun, IsNoName};
+ghost use Rattle.oscip_run.specs.CrossingRuns.{place_in_file, IsCrossingsRun, IsNoName};
 ghost use Rattle.oscip_run.specs.Faults.{is_device};
 ghost use Rattle.oscip_tree.specs.Crossings.{AreUses};
 ghost use Rattle.oscip_tree.specs.Sources.{ArePathsInOrder};
@@ -14,7 +13,6 @@ use crate::engine::READERS;
 use byte_sink::Sink;
 use cut_solve::SolveFault;
 use index_store::{Place, Position, put_lines};
-use oscip_job::Job;
 use oscip_tree::{Crossed, Source, Span, uses_across};
 use std::alloc::{AllocError, Global};
 use std::thread::Threads;
@@ -96,37 +94,5 @@ pub fn crossings_tree<R: Threads + Sync, S: Sink>(
         Crossed::Places { path, spans } => put_places(alloc, path.as_str(), spans.as_slice(), sink),
         Crossed::NoImporter => Err(no_such_module(alloc, from)),
         Crossed::NoImported => Err(no_such_module(alloc, to)),
-    }
-}
-
-/// Runs `crossings_tree` with the names of a job. Refuses as it does.
-pub fn answer_crossings<R: Threads + Sync, S: Sink>(
-    rt: &R,
-    alloc: Global,
-    job: &Job,
-    sources: &[Source],
-    sink: &mut S,
-) -> Result<(), RunFault>
-    requires crossings { is_crossings_job job.now ≡ true }
-    requires in_order { ArePathsInOrder sources.now }
-    // What was read, and the lines that the sink took; after a refusal of the input it took nothing.
-    ensures run { IsCrossingsJob sources.now job.now (S.taken sink.old) (S.taken sink.new) result }
-    // Device is answered where the sink counted a failure, and nowhere else.
-    ensures failures { S.failures sink.new ≡ failures_by is_device result (S.failures sink.old) }
-{
-    match job {
-        Job::Crossings { from, to, .. } => {
-            crossings_tree(rt, alloc, sources, from.as_str(), to.as_str(), sink)
-        }
-        Job::Cut { .. }
-        | Job::Check { .. }
-        | Job::CutNet { .. }
-        | Job::CheckNet { .. }
-        | Job::Dot { .. }
-        | Job::DotNet { .. }
-        | Job::Def(_)
-        | Job::Refs(_)
-        | Job::Index(_)
-        | Job::Unresolved { .. } => unreachable!(),
     }
 }

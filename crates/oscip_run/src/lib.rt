@@ -1,4 +1,4 @@
-//! Runs: the files and folders that a job names, from any reader, the engines that cut, check, draw and answer questions over any sink, and how a run ends.
+//! Runs: the files and folders that a job names, from any reader, the engines that cut, check, draw, tell imports and answer questions over any sink, and how a run ends.
 //! Stands on `oscip_job`, `oscip_tree`, `index_store` and the `cut_` crates, with `thiserror` for its faults.
 //! Its contract: what an engine puts is what the definitions say of its inputs, and nothing else; the inputs of a run are what the reader gave.
 #![tactic(auto)]
@@ -11,6 +11,7 @@ mod engine;
 mod fault;
 mod files;
 mod folder;
+mod imports;
 pub mod laws;
 mod priced;
 mod reader;
@@ -18,13 +19,14 @@ mod reading;
 mod run;
 
 pub use asking::answer_question;
-pub use crossing::{answer_crossings, crossings_tree};
+pub use crossing::crossings_tree;
 pub use drawing::{dot_net_bytes, dot_tree};
 pub use ending::{status_of_run, status_of_words};
 pub use engine::{READERS, check_net_bytes, check_tree, cut_net_bytes, cut_tree};
 pub use fault::{RunFault, fault_line, status_of};
 pub use files::read_file;
 pub use folder::sources_of;
+pub use imports::{net_tree, why_net_bytes, why_tree};
 pub use reader::{Reader, SystemFiles};
-pub use reading::{run_crossings, run_net, run_question, run_tree};
+pub use reading::{run_crossings, run_net, run_net_text, run_question, run_tree};
 pub use run::{answer, answer_tree};

@@ -1,75 +1,43 @@
-//! Runs of jobs on the files that they name, over any reader and any sink.
-ghost use Rattle.std.specs.Prelude.{◌≡◌, IfErr, IfOk, option_copied, true};
+//! Runs of what jobs ask on the files that they name, over any reader and any sink.
+ghost use Rattle.std.specs.Prelude.{◌≡◌, IfErr, IfOk, option_copied};
 ghost use Rattle.byte_sink.specs.Sinks.{failures_by};
-ghost use Rattle.oscip_job.specs.Jobs.{is_crossings_job, is_net_job, is_query_job, is_tree_job, HasWorkers};
+ghost use Rattle.oscip_job.specs.Jobs.{HasNetWorkers};
 ghost use Rattle.oscip_run.specs.Faults.{is_device, IsReadFault};
-ghost use Rattle.oscip_run.specs.FileRuns.{IsNetRun, IsQuestionRun, IsTreeRun, IsUsesRun};
-ghost use Rattle.oscip_run.specs.Readings.{given_bytes, bytes_or_none, job_paths, AreGiven, AreNotGiven, IsGiven, IsNotGiven};
+ghost use Rattle.oscip_run.specs.FileRuns.{IsNetRun, IsQuestionRun, IsTreeRun, IsTreeTextRun, IsUsesRun};
+ghost use Rattle.oscip_run.specs.Readings.{given_bytes, bytes_or_none, paths_beside, AreGiven, AreNotGiven, IsGiven, IsNotGiven};
 
-use crate::{Reader, RunFault, answer, answer_crossings, answer_question, answer_tree};
+use crate::{Reader, RunFault, answer, answer_question, answer_tree, crossings_tree, net_tree};
 use byte_sink::Sink;
 use cut_solve::OpenGate;
-use oscip_job::Job;
+use oscip_job::{NetQuestion, Question, TwoNames};
 use std::alloc::Global;
 use std::sync::Wait;
 use std::thread::Threads;
 
-/// The path of the job's network, its folder or its index.
-fn input_of(job: &Job) -> &str
-    ensures { result.now ≡ (job_paths job.now).input }
+/// The path of the question's report, where it has one.
+fn report_of(question: &NetQuestion) -> Option<&str>
+    ensures { option_copied result ≡ (paths_beside question.now).report }
 {
-    match job {
-        Job::Cut { folder, .. }
-        | Job::Check { folder, .. }
-        | Job::Crossings { folder, .. }
-        | Job::Dot { folder, .. }
-        | Job::Unresolved { folder } => folder.as_str(),
-        Job::CutNet { network, .. } | Job::CheckNet { network, .. } | Job::DotNet { network, .. } =>
-            network.as_str(),
-        Job::Def(question) | Job::Refs(question) => question.index.as_str(),
-        Job::Index(indexing) => indexing.folder.as_str(),
+    match question {
+        NetQuestion::Check(reported) | NetQuestion::Dot(reported) => {
+            Some(reported.report.as_str())
+        }
+        NetQuestion::Cut(_) | NetQuestion::Why(_) => None,
     }
 }
 
-/// The path of the job's report, where it has one.
-fn report_of(job: &Job) -> Option<&str>
-    ensures { option_copied result ≡ (job_paths job.now).report }
+/// The path of the question's prices, where it has any.
+fn prices_of(question: &NetQuestion) -> Option<&str>
+    ensures { option_copied result ≡ (paths_beside question.now).prices }
 {
-    match job {
-        Job::Check { report, .. }
-        | Job::CheckNet { report, .. }
-        | Job::Dot { report, .. }
-        | Job::DotNet { report, .. } => Some(report.as_str()),
-        Job::Cut { .. }
-        | Job::Crossings { .. }
-        | Job::CutNet { .. }
-        | Job::Def(_)
-        | Job::Refs(_)
-        | Job::Index(_)
-        | Job::Unresolved { .. } => None,
+    match question {
+        NetQuestion::Cut(cutting) => cutting.prices.as_deref(),
+        NetQuestion::Check(reported) | NetQuestion::Dot(reported) => reported.prices.as_deref(),
+        NetQuestion::Why(_) => None,
     }
 }
 
-/// The path of the job's prices, where it has any.
-fn prices_of(job: &Job) -> Option<&str>
-    ensures { option_copied result ≡ (job_paths job.now).prices }
-{
-    match job {
-        Job::Cut { prices, .. }
-        | Job::Check { prices, .. }
-        | Job::CutNet { prices, .. }
-        | Job::CheckNet { prices, .. }
-        | Job::Dot { prices, .. }
-        | Job::DotNet { prices, .. } => prices.as_deref(),
-        Job::Crossings { .. }
-        | Job::Def(_)
-        | Job::Refs(_)
-        | Job::Index(_)
-        | Job::Unresolved { .. } => None,
-    }
-}
-
-/// What a job reads beside its network or its tree.
+/// What is read beside a network or a tree.
 #[derive(Drop)]
 struct Beside {
     /// The bytes of its report, where it has one.
@@ -91,13 +59,13 @@ fn read_named<F: Reader>(reader: &F, path: Option<&str>) -> Result<Option<Vec<u8
 }
 
 /// Reads the report first, and then the prices.
-fn read_beside<F: Reader>(reader: &F, job: &Job) -> Result<Beside, RunFault>
-    ensures given { IfOk result (λ beside. AreGiven (F.answers reader.now) (job_paths job.now) (given_bytes beside.report) (given_bytes beside.prices)) }
-    ensures refused { IfErr result (AreNotGiven (F.answers reader.now) (job_paths job.now)) }
+fn read_beside<F: Reader>(reader: &F, question: &NetQuestion) -> Result<Beside, RunFault>
+    ensures given { IfOk result (λ beside. AreGiven (F.answers reader.now) (paths_beside question.now) (given_bytes beside.report) (given_bytes beside.prices)) }
+    ensures refused { IfErr result (AreNotGiven (F.answers reader.now) (paths_beside question.now)) }
     ensures fault { IfErr result IsReadFault }
 {
-    let report = read_named(reader, report_of(job))?;
-    let prices = read_named(reader, prices_of(job))?;
+    let report = read_named(reader, report_of(question))?;
+    let prices = read_named(reader, prices_of(question))?;
     Ok(Beside { report, prices })
 }
 
@@ -111,87 +79,112 @@ fn bytes_or_none(given: &Option<Vec<u8>>) -> &[u8]
     }
 }
 
-/// Runs a job on the network that the reader gives of the job's path. All files are read first, in the order of the words, and the
+/// Asks a question of the network that the reader gives of this path. All files are read first, in the order of the words, and the
 /// prices last. Refuses with the first fault of the reader, and then as `answer` does.
 pub fn run_net<R: Threads + Wait + Sync, F: Reader, S: Sink>(
     rt: &R,
     alloc: Global,
     reader: &F,
-    job: &Job,
+    network: &str,
+    question: &NetQuestion,
     sink: &mut S,
 ) -> Result<bool, RunFault>
-    requires network { is_net_job job.now ≡ true }
-    requires workers { HasWorkers job.now }
-    // What the reader gave of the job's paths, and what its engine puts of that; where something can't be read the sink took nothing.
-    ensures run { IsNetRun (F.answers reader.now) job.now (S.taken sink.old) (S.taken sink.new) result }
+    requires { HasNetWorkers question.now }
+    // What the reader gave of this path and of the question's, and what its engine puts of that; where something can't be read the
+    // sink took nothing.
+    ensures run { IsNetRun (F.answers reader.now) network.now question.now (S.taken sink.old) (S.taken sink.new) result }
     // Device is answered where the sink counted a failure, and nowhere else.
     ensures failures { S.failures sink.new ≡ failures_by is_device result (S.failures sink.old) }
 {
-    let network = reader.file(input_of(job))?;
-    let beside = read_beside(reader, job)?;
+    let network = reader.file(network)?;
+    let beside = read_beside(reader, question)?;
     let (network, report) = (network.as_slice(), bytes_or_none(&beside.report));
     let prices = beside.prices.as_deref();
-    answer(rt, alloc, job, network, report, &OpenGate, prices, sink)
+    answer(
+        rt, alloc, question, network, report, &OpenGate, prices, sink,
+    )
 }
 
-/// Runs a job on the modules that the reader gives of the folder of the job's path. All files are read first, in the order of the
-/// words, and the prices last. Refuses with the first fault of the reader, and then as `answer_tree` does.
+/// Asks a question of the network of the modules that the reader gives of this folder. All files are read first, in the order of
+/// the words, and the prices last. Refuses with the first fault of the reader, and then as `answer_tree` does.
 pub fn run_tree<R: Threads + Wait + Sync, F: Reader, S: Sink>(
     rt: &R,
     alloc: Global,
     reader: &F,
-    job: &Job,
+    folder: &str,
+    question: &NetQuestion,
     sink: &mut S,
 ) -> Result<bool, RunFault>
-    requires tree { is_tree_job job.now ≡ true }
-    requires workers { HasWorkers job.now }
-    // What the reader gave of the job's paths, and what its engine puts of that; where something can't be read the sink took nothing.
-    ensures run { IsTreeRun (F.answers reader.now) job.now (S.taken sink.old) (S.taken sink.new) result }
+    requires { HasNetWorkers question.now }
+    // What the reader gave of this folder and of the question's paths, and what its engine puts of that; where something can't be
+    // read the sink took nothing.
+    ensures run { IsTreeRun (F.answers reader.now) folder.now question.now (S.taken sink.old) (S.taken sink.new) result }
     // Device is answered where the sink counted a failure, and nowhere else.
     ensures failures { S.failures sink.new ≡ failures_by is_device result (S.failures sink.old) }
 {
-    let sources = reader.modules(input_of(job))?;
-    let beside = read_beside(reader, job)?;
+    let sources = reader.modules(folder)?;
+    let beside = read_beside(reader, question)?;
     let (sources, report) = (sources.as_slice(), bytes_or_none(&beside.report));
     let prices = beside.prices.as_deref();
-    answer_tree(rt, alloc, job, sources, report, &OpenGate, prices, sink)
+    answer_tree(
+        rt, alloc, question, sources, report, &OpenGate, prices, sink,
+    )
 }
 
-/// Tells where a module that the reader gives of the folder of the job's path uses another. Nothing of it is a check that says no.
-/// Refuses with the fault of the reader, and then as `answer_crossings` does.
+/// Tells where a module that the reader gives of this folder uses another, both given by their names. Nothing of it is a check that
+/// says no. Refuses with the fault of the reader, and then as `crossings_tree` does.
 pub fn run_crossings<R: Threads + Sync, F: Reader, S: Sink>(
     rt: &R,
     alloc: Global,
     reader: &F,
-    job: &Job,
+    folder: &str,
+    names: &TwoNames,
     sink: &mut S,
 ) -> Result<bool, RunFault>
-    requires { is_crossings_job job.now ≡ true }
     // Of what the reader gave the sink took the lines of the uses; where the folder can't be read it took nothing.
-    ensures run { IsUsesRun (F.answers reader.now) job.now (S.taken sink.old) (S.taken sink.new) result }
+    ensures run { IsUsesRun (F.answers reader.now) folder.now names.now (S.taken sink.old) (S.taken sink.new) result }
     // Device is answered where the sink counted a failure, and nowhere else.
     ensures failures { S.failures sink.new ≡ failures_by is_device result (S.failures sink.old) }
 {
-    let sources = reader.modules(input_of(job))?;
-    answer_crossings(rt, alloc, job, sources.as_slice(), sink)?;
+    let sources = reader.modules(folder)?;
+    let (from, to) = (names.from.as_str(), names.to.as_str());
+    crossings_tree(rt, alloc, sources.as_slice(), from, to, sink)?;
     Ok(true)
 }
 
-/// Answers a question to the index that the reader gives of the job's path. Nothing of it is a check that says no. Refuses with
+/// Tells the network of the modules that the reader gives of this folder. Nothing of it is a check that says no. Refuses with the
+/// fault of the reader, and then as `net_tree` does.
+pub fn run_net_text<R: Threads + Sync, F: Reader, S: Sink>(
+    rt: &R,
+    alloc: Global,
+    reader: &F,
+    folder: &str,
+    sink: &mut S,
+) -> Result<bool, RunFault>
+    // Of what the reader gave the sink took the text of the network; where the folder can't be read it took nothing.
+    ensures run { IsTreeTextRun (F.answers reader.now) folder.now (S.taken sink.old) (S.taken sink.new) result }
+    // Device is answered where the sink counted a failure, and nowhere else.
+    ensures failures { S.failures sink.new ≡ failures_by is_device result (S.failures sink.old) }
+{
+    let sources = reader.modules(folder)?;
+    net_tree(rt, alloc, sources.as_slice(), sink)?;
+    Ok(true)
+}
+
+/// Answers a question to the index that the reader gives of the question's path. Nothing of it is a check that says no. Refuses with
 /// the fault of the reader, and then as `answer_question` does.
 pub fn run_question<F: Reader, S: Sink>(
     alloc: Global,
     reader: &F,
-    job: &Job,
+    question: &Question,
     sink: &mut S,
 ) -> Result<bool, RunFault>
-    requires { is_query_job job.now ≡ true }
     // Of what the reader gave the sink took the lines of the places; where the file can't be read it took nothing.
-    ensures run { IsQuestionRun (F.answers reader.now) job.now (S.taken sink.old) (S.taken sink.new) result }
+    ensures run { IsQuestionRun (F.answers reader.now) question.now (S.taken sink.old) (S.taken sink.new) result }
     // Device is answered where the sink counted a failure, and nowhere else.
     ensures failures { S.failures sink.new ≡ failures_by is_device result (S.failures sink.old) }
 {
-    let index = reader.file(input_of(job))?;
-    answer_question(alloc, job, index.as_slice(), sink)?;
+    let index = reader.file(question.index.as_str())?;
+    answer_question(alloc, question, index.as_slice(), sink)?;
     Ok(true)
 }

@@ -1,16 +1,17 @@
 //! Commands, each from its words to what it puts: with a sink that fails at each put, and with a gate at which all workers meet.
 ghost use Rattle.std.specs.Prelude.{IfOk};
-ghost use Rattle.oscip_job.specs.Jobs.{HasPackage, HasWorkers};
+ghost use Rattle.oscip_job.specs.Jobs.{HasPackage, HasTreeWorkers, HasWorkers};
 ghost use Rattle.oscip_tree.specs.Sources.{ArePathsInOrder};
 
 use crate::faults::fault_told;
 use crate::inputs::{
-    FOUR, FOUR_BLOCKED, FOUR_CROSSINGS, FOUR_CUT, FOUR_DOT, FOUR_PINS, NONE_INDEX, ONE, ONE_HEX,
-    ONE_INDEX, SIX, SIX_BLOCKED, SIX_CUT, SIX_DOT, SIX_PINS, WRONG, WRONG_LINE, sources,
+    FOUR, FOUR_BLOCKED, FOUR_CROSSINGS, FOUR_CUT, FOUR_DOT, FOUR_NET, FOUR_PINS, FOUR_WHY,
+    NONE_INDEX, ONE, ONE_HEX, ONE_INDEX, SIX, SIX_BLOCKED, SIX_CUT, SIX_DOT, SIX_PINS, SIX_WHY,
+    WRONG, WRONG_LINE, sources,
 };
 use index_run::{OpenBoard, answer_index, unresolved_to};
-use oscip_job::{Job, JobFault, job_of};
-use oscip_run::{RunFault, answer, answer_crossings, answer_tree};
+use oscip_job::{Job, JobFault, TreeQuestion, job_of};
+use oscip_run::{RunFault, answer, answer_tree, crossings_tree, net_tree};
 use oscip_tree::{Source, in_order};
 use std::alloc::{AllocError, Global};
 use std::process::Abort;
@@ -59,6 +60,9 @@ const PUTS: &[Command] = &[
     (&["check", "four", "four.cut"], FOUR, None, b"yes\n"),
     (&["dot", "four", "four.cut"], FOUR, None, FOUR_DOT),
     (&["crossings", "four", "B", "D"], FOUR, None, FOUR_CROSSINGS),
+    (&["net", "four"], FOUR, None, FOUR_NET),
+    (&["why", "four", "A", "D"], FOUR, None, FOUR_WHY),
+    (&["why-net", "six.net", "A", "B"], &[], None, SIX_WHY),
     (
         &["index", "one", "one.scip", "--workers", "1"],
         ONE,
@@ -160,6 +164,32 @@ fn puts_told(alloc: Global, ended: &Result<(), RunFault>) -> Result<String, Allo
     }
 }
 
+/// How what is asked of a tree ends.
+fn tree_told<R: Threads + Wait + AllocGlobal + Clock + Sync>(
+    rt: &R,
+    question: &TreeQuestion,
+    sources: &[Source],
+    prices: Option<&[u8]>,
+    gate: &AllCome<'_, R>,
+    sink: &mut ByOne,
+) -> Result<String, AllocError>
+    requires workers { HasTreeWorkers question.now }
+    requires in_order { ArePathsInOrder sources.now }
+{
+    let alloc = rt.alloc();
+    match question {
+        TreeQuestion::OfNet(question) => answer_told(
+            alloc,
+            &answer_tree(rt, alloc, question, sources, FOUR_CUT, gate, prices, sink),
+        ),
+        TreeQuestion::Crossings(names) => {
+            let (from, to) = (names.from.as_str(), names.to.as_str());
+            puts_told(alloc, &crossings_tree(rt, alloc, sources, from, to, sink))
+        }
+        TreeQuestion::Net => puts_told(alloc, &net_tree(rt, alloc, sources, sink)),
+    }
+}
+
 /// How a job ends.
 fn told<R: Threads + Wait + AllocGlobal + Clock + Sync>(
     rt: &R,
@@ -175,23 +205,17 @@ fn told<R: Threads + Wait + AllocGlobal + Clock + Sync>(
 {
     let alloc = rt.alloc();
     match job {
-        Job::CutNet { .. } | Job::CheckNet { .. } | Job::DotNet { .. } => answer_told(
+        Job::Network { question, .. } => answer_told(
             alloc,
-            &answer(rt, alloc, job, SIX, SIX_CUT, gate, prices, sink),
+            &answer(rt, alloc, question, SIX, SIX_CUT, gate, prices, sink),
         ),
-        Job::Cut { .. } | Job::Check { .. } | Job::Dot { .. } => answer_told(
-            alloc,
-            &answer_tree(rt, alloc, job, sources, FOUR_CUT, gate, prices, sink),
-        ),
-        Job::Crossings { .. } => {
-            puts_told(alloc, &answer_crossings(rt, alloc, job, sources, sink))
-        }
+        Job::Tree { question, .. } => tree_told(rt, question, sources, prices, gate, sink),
         Job::Index(indexing) => puts_told(
             alloc,
             &answer_index(rt, alloc, indexing, sources, &OpenBoard, sink),
         ),
         Job::Unresolved { .. } => puts_told(alloc, &unresolved_to(rt, alloc, sources, sink)),
-        _ => String::from_str(alloc, "another job"),
+        Job::Ask(_) => String::from_str(alloc, "a question to an index"),
     }
 }
 

@@ -12,6 +12,9 @@ pub const SIX_PINS: &[u8] = b"pin A M\npin M B\n";
 
 pub const SIX_BLOCKED: &[u8] = b"cut A B\nblocked A M B\nend\n";
 
+/// Why A reaches B.
+pub const SIX_WHY: &[u8] = b"import A M 2\nimport M B 2\n";
+
 /// The picture of the report without prices.
 pub const SIX_DOT: &[u8] =
     b"digraph cut {\n  rankdir=LR;\n  \"A\" [peripheries=2] [style=filled];\n  \"B\" [peripheries=2];\n  \"M\";\n  \"A\" -> \"M\" [label=\"2/2\"] [style=dashed, color=red];\n  \"M\" -> \"B\" [label=\"2/2\"];\n}\n";
@@ -39,6 +42,13 @@ pub const FOUR_DOT: &[u8] =
 
 /// Where B uses D.
 pub const FOUR_CROSSINGS: &[u8] = b"B.Mod:0:40-0:43\nB.Mod:0:45-0:48\nB.Mod:0:50-0:53\n";
+
+/// Their network.
+pub const FOUR_NET: &[u8] =
+    b"module A\nmodule B\nmodule C\nmodule D\nimport A B 1\nimport A C 2\nimport B D 3\nimport C D 1\n";
+
+/// Why A reaches D: by B. By C there are as many imports, and B is the lesser name.
+pub const FOUR_WHY: &[u8] = b"import A B 1\nimport B D 3\n";
 
 /// Prices with which A can't be cut from D, and the report of that.
 pub const FOUR_PINS: &[u8] = b"pin A B\npin B D\n";

@@ -1,0 +1,82 @@
+-- What the runs that tell the imports of an input read and put: its network as a text, and the chain of imports between two modules.
+use Rattle.std.specs.Prelude.{◌≡◌, ◌≢◌, ◌⊎◌, ℕ, List, [], Option, Some, Result, Ok, Err}
+use Rattle.std.specs.Io.KnownBytes.{Appends, Keeps}
+use Rattle.byte_sink.specs.Sinks.{AppendsFront}
+use Rattle.digraph.specs.Levels.{IsLeastChain}
+use Rattle.cut_net.specs.Cuts.{Any, Chain, Imports}
+use Rattle.cut_net.specs.NetText.{IsNetOutcome}
+use Rattle.cut_net.specs.Network.{Network, index_of}
+use Rattle.cut_report.specs.NetLines.{chain_text, net_text}
+use Rattle.oscip_run.specs.CutRuns.{IsRefusedNames}
+use Rattle.oscip_run.specs.declared.fault.RunFault.{RunFault}
+use Rattle.oscip_run.specs.declared.fault.RunFault.TheVariants.{CannotRead, CannotWrite, Tree, Net, Price, Report, Solve, Query, Device, Memory}
+
+-- the sink has all of such a text
+abbrev pub PutsTold : (List ℕ → Type 0) → Option (List ℕ) → Option (List ℕ) → Type 0
+PutsTold IsText old new = (text : List ℕ) × IsText text × Appends old new text
+
+-- the sink has a front of it
+abbrev pub PutsToldFront : (List ℕ → Type 0) → Option (List ℕ) → Option (List ℕ) → Type 0
+PutsToldFront IsText old new = (text : List ℕ) × IsText text × AppendsFront old new text
+
+-- a run of an engine that puts such a text, or refuses with such a fault: then it leaves the sink as it was
+abbrev pub IsToldRun : (List ℕ → Type 0) → (RunFault → Type 0) → Option (List ℕ) → Option (List ℕ) → Result (Unit {0}) RunFault → Type 0
+IsToldRun IsText IsRefused old new (Ok _) = PutsTold IsText old new
+IsToldRun IsText IsRefused old new (Err (CannotRead path)) = ⊥
+IsToldRun IsText IsRefused old new (Err (CannotWrite path)) = ⊥
+IsToldRun IsText IsRefused old new (Err (Tree fault)) = IsRefused (Tree fault) × Keeps old new
+IsToldRun IsText IsRefused old new (Err (Net fault)) = IsRefused (Net fault) × Keeps old new
+IsToldRun IsText IsRefused old new (Err (Price fault)) = IsRefused (Price fault) × Keeps old new
+IsToldRun IsText IsRefused old new (Err (Report fault)) = ⊥
+IsToldRun IsText IsRefused old new (Err (Solve fault)) = IsRefused (Solve fault) × Keeps old new
+IsToldRun IsText IsRefused old new (Err (Query fault)) = ⊥
+IsToldRun IsText IsRefused old new (Err Device) = PutsToldFront IsText old new
+IsToldRun IsText IsRefused old new (Err Memory) = Keeps old new ⊎ PutsToldFront IsText old new
+
+-- Below a network is that of the input, a text or a tree.
+
+-- the text is the one text of the input's network, and read again it says exactly that network
+pub record IsNetText (IsOf : Network → Type 0) (text : List ℕ) : Type 0 where
+  pub net : Network
+  pub reads : IsOf net
+  pub spelled : text ≡ net_text net
+  pub says : IsNetOutcome text (Ok net)
+
+-- a run that tells the input's network
+abbrev pub IsNetTextRun : (Network → Type 0) → (RunFault → Type 0) → Option (List ℕ) → Option (List ℕ) → Result (Unit {0}) RunFault → Type 0
+IsNetTextRun IsOf = IsToldRun (IsNetText IsOf)
+
+-- the text has a line for each import of the least chain of imports from a to b: of those with the fewest imports the one of the least names;
+-- and it is empty exactly where none leads there
+abbrev pub IsChainText : Network → ℕ → ℕ → List ℕ → Type 0
+IsChainText net a b text =
+    ((chain : List ℕ) × IsLeastChain (Imports net.imports Any) a b chain × (text ≡ chain_text net chain) × (text ≢ []))
+    ⊎ ((Chain net.imports Any a b → ⊥) × (text ≡ []))
+
+-- so between the two modules of the input's network that have these names
+pub record IsWhyText (IsOf : Network → Type 0) (first second text : List ℕ) : Type 0 where
+  pub net : Network
+  pub reads : IsOf net
+  pub a : ℕ
+  pub first_is : index_of net first ≡ Some a
+  pub b : ℕ
+  pub second_is : index_of net second ≡ Some b
+  pub apart : a ≢ b
+  pub tells : IsChainText net a b text
+
+-- the input is refused with this fault; or it isn't, and the names are
+abbrev pub IsWhyRefused : (Network → Type 0) → (RunFault → Type 0) → List ℕ → List ℕ → RunFault → Type 0
+IsWhyRefused IsOf IsRefused first second (CannotRead path) = ⊥
+IsWhyRefused IsOf IsRefused first second (CannotWrite path) = ⊥
+IsWhyRefused IsOf IsRefused first second (Tree fault) = IsRefused (Tree fault)
+IsWhyRefused IsOf IsRefused first second (Net fault) = IsRefused (Net fault)
+IsWhyRefused IsOf IsRefused first second (Price fault) = ⊥
+IsWhyRefused IsOf IsRefused first second (Report fault) = ⊥
+IsWhyRefused IsOf IsRefused first second (Solve fault) = IsRefusedNames IsOf first second fault
+IsWhyRefused IsOf IsRefused first second (Query fault) = ⊥
+IsWhyRefused IsOf IsRefused first second Device = ⊥
+IsWhyRefused IsOf IsRefused first second Memory = ⊥
+
+-- a run that tells the chain of imports between two names
+abbrev pub IsWhyRun : (Network → Type 0) → (RunFault → Type 0) → List ℕ → List ℕ → Option (List ℕ) → Option (List ℕ) → Result (Unit {0}) RunFault → Type 0
+IsWhyRun IsOf IsRefused first second = IsToldRun (IsWhyText IsOf first second) (IsWhyRefused IsOf IsRefused first second)
