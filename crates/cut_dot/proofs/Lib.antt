@@ -3,3 +3,4 @@ pub mod Staying
 pub mod Alone
 pub mod Escapes
 pub mod Drawn
+pub mod Ends

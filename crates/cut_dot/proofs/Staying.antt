@@ -14,10 +14,11 @@ not_true : (t : Bool) → not t ≡ true → t ≡ false
 not_true true e = absurd cc
 not_true false e = refl
 
-module _ (imports printed : List Priced) where
-  pub staying_between : (n : ℕ) → AreBetween imports n → AreBetween (filter (stays printed) imports) n
-  staying_between n between i h = between i (of_filter (stays printed) imports i h).0
+-- some of the imports lead between modules where all do
+pub some_between : (passes : Priced → Bool) (imports : List Priced) (n : ℕ) → AreBetween imports n → AreBetween (filter passes imports) n
+some_between passes imports n between i h = between i (of_filter passes imports i h).0
 
+module _ (imports printed : List Priced) where
   to_outside : (a m : ℕ) → Chain (filter (stays printed) imports) Any a m → Chain imports (Outside (removed_by printed)) a m
   to_outside a m c = (
     c.0,

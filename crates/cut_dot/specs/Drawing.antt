@@ -6,18 +6,26 @@ use Rattle.byte_sink.specs.declared.sink.SinkFault.{SinkFault}
 use Rattle.byte_sink.specs.declared.sink.SinkFault.TheVariants.{Memory, Device}
 use Rattle.cut_net.specs.declared.priced.Priced.{Priced}
 use Rattle.cut_net.specs.Network.{Network}
-use Rattle.cut_dot.specs.Pictures.{IsPicture}
+use Rattle.cut_dot.specs.Pictures.{IsFlowPicture, IsPicture}
 
--- the sink has the whole picture
-abbrev pub PutsPicture : Network → ℕ → ℕ → List Priced → List Priced → Option (List ℕ) → Option (List ℕ) → Type 0
-PutsPicture net a b printed flow old new = (text : List ℕ) × IsPicture net a b printed flow text × Appends old new text
+-- the sink has the whole of such a picture
+abbrev pub PutsPicture : (List ℕ → Type 0) → Option (List ℕ) → Option (List ℕ) → Type 0
+PutsPicture Is old new = (text : List ℕ) × Is text × Appends old new text
 
--- the sink has a front of the picture
-abbrev pub PutsPictureFront : Network → ℕ → ℕ → List Priced → List Priced → Option (List ℕ) → Option (List ℕ) → Type 0
-PutsPictureFront net a b printed flow old new = (text : List ℕ) × IsPicture net a b printed flow text × AppendsFront old new text
+-- the sink has a front of such a picture
+abbrev pub PutsPictureFront : (List ℕ → Type 0) → Option (List ℕ) → Option (List ℕ) → Type 0
+PutsPictureFront Is old new = (text : List ℕ) × Is text × AppendsFront old new text
 
--- a drawing: all of the picture at Ok, and a front of it at a refusal
+-- a drawing of such a picture: all of it at Ok, and a front of it at a refusal
+abbrev pub IsDrawingOf : (List ℕ → Type 0) → Option (List ℕ) → Option (List ℕ) → Result (Unit {0}) SinkFault → Type 0
+IsDrawingOf Is old new (Ok _) = PutsPicture Is old new
+IsDrawingOf Is old new (Err Device) = PutsPictureFront Is old new
+IsDrawingOf Is old new (Err Memory) = Keeps old new ⊎ PutsPictureFront Is old new
+
+-- a drawing of the picture
 abbrev pub IsDrawing : Network → ℕ → ℕ → List Priced → List Priced → Option (List ℕ) → Option (List ℕ) → Result (Unit {0}) SinkFault → Type 0
-IsDrawing net a b printed flow old new (Ok _) = PutsPicture net a b printed flow old new
-IsDrawing net a b printed flow old new (Err Device) = PutsPictureFront net a b printed flow old new
-IsDrawing net a b printed flow old new (Err Memory) = Keeps old new ⊎ PutsPictureFront net a b printed flow old new
+IsDrawing net a b printed flow old new result = IsDrawingOf (IsPicture net a b printed flow) old new result
+
+-- a drawing of the picture by flow
+abbrev pub IsFlowDrawing : Network → ℕ → ℕ → List Priced → List Priced → Option (List ℕ) → Option (List ℕ) → Result (Unit {0}) SinkFault → Type 0
+IsFlowDrawing net a b printed flow old new result = IsDrawingOf (IsFlowPicture net a b printed flow) old new result

@@ -1,12 +1,12 @@
 -- The picture of what is said of two modules of a network: of imports to be removed, and of a flow.
-use Rattle.std.specs.Prelude.{◌≡◌, ℕ, Bool, not, ◌||◌, List, [], length, filter}
+use Rattle.std.specs.Prelude.{◌≡◌, ◌⊎◌, ℕ, Bool, not, ◌||◌, nat_lt, List, [], length, filter, Contains}
 use Rattle.std.specs.List.{range_with_len}
 use Rattle.cut_net.specs.declared.priced.Priced.{Priced}
 use Rattle.cut_net.specs.declared.answer.Answer.{Answer}
 use Rattle.cut_net.specs.declared.answer.Answer.TheVariants as answers
 use Rattle.cut_net.specs.Network.{Network}
 use Rattle.cut_net.specs.Cuts.{AreThose, Chain, Outside}
-use Rattle.cut_net.specs.Lines.{removed_by}
+use Rattle.cut_net.specs.Lines.{flow_by, removed_by}
 use Rattle.cut_part.specs.Inside.{inside, IsBetween}
 use Rattle.cut_dot.specs.Ends.{is_chain_end}
 use Rattle.cut_dot.specs.Texts.{picture_text}
@@ -55,3 +55,26 @@ pub record IsPicture (net : Network) (a b : ℕ) (printed flow : List Priced) (t
   pub are_reached : AreStillReached net a printed reached
   -- the lines of these modules and imports
   pub text_is : text ≡ picture_text net a b printed flow reached (drawn_modules net a b between) (drawn_imports net between)
+
+-- the report removes the import, or gives it flow
+abbrev pub is_reported : List Priced → List Priced → Priced → Bool
+is_reported printed flow i = removed_by printed i || nat_lt 0 (flow_by flow i)
+
+-- the imports of the network that it removes or gives flow, in order
+abbrev pub reported_imports : Network → List Priced → List Priced → List Priced
+reported_imports net printed flow = filter (is_reported printed flow) net.imports
+
+-- one of the imports leads from the module, or to it
+abbrev pub IsAtEnd : List Priced → ℕ → Type 0
+IsAtEnd imports m = (i : Priced) × Contains imports i × ((i.from ≡ m) ⊎ (i.to ≡ m))
+
+-- the text is the picture by flow: the imports that are removed or have flow, each once, the modules at their ends with a and b, and their marks
+pub record IsFlowPicture (net : Network) (a b : ℕ) (printed flow : List Priced) (text : List ℕ) : Type 0 where
+  -- the modules at the ends of these imports
+  pub at_end : ℕ → Bool
+  pub are_at_ends : AreThose at_end (IsAtEnd (reported_imports net printed flow))
+  -- those that a still reaches
+  pub reached : ℕ → Bool
+  pub are_reached : AreStillReached net a printed reached
+  -- the lines of these modules and imports
+  pub text_is : text ≡ picture_text net a b printed flow reached (drawn_modules net a b at_end) (reported_imports net printed flow)

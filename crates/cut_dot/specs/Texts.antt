@@ -51,10 +51,14 @@ line_of_module net a b reached m = module_line (name_of net m) (is_chain_end a b
 abbrev pub line_of_import : Network → List Priced → List Priced → Priced → List ℕ
 line_of_import net printed flow i = import_line (name_of net i.from) (name_of net i.to) (flow_by flow i) i.amount (removed_by printed i) (is_pinned net i)
 
+-- what begins the graph: it goes from left to right, and its label is the legend
+abbrev pub head_text : List ℕ
+head_text = codes "digraph cut {\n  rankdir=LR;\n  label=\"flow/weight; red: removed; bold: pinned; gray: still reached; double border: the two ends\";\n"
+
 -- the graph with these modules and these imports
 abbrev pub picture_text : Network → ℕ → ℕ → List Priced → List Priced → (ℕ → Bool) → List ℕ → List Priced → List ℕ
 picture_text net a b printed flow reached modules imports =
-    codes "digraph cut {\n  rankdir=LR;\n" ++ flat_map (line_of_module net a b reached) modules ++ flat_map (line_of_import net printed flow) imports ++ codes "}\n"
+    head_text ++ flat_map (line_of_module net a b reached) modules ++ flat_map (line_of_import net printed flow) imports ++ codes "}\n"
 
 -- no byte is a quotation mark or a backslash
 abbrev pub NeedsNoEscape : List ℕ → Type 0

@@ -1,11 +1,12 @@
 //! Putting a picture.
-ghost use Rattle.std.specs.Prelude.{◌≡◌, ◌<◌, length};
+ghost use Rattle.std.specs.Prelude.{◌≡◌, ◌<◌, [], length};
 ghost use Rattle.byte_sink.specs.Sinks.{failures_after};
 ghost use Rattle.cut_net.specs.Lines.{IsAscending};
-ghost use Rattle.cut_dot.specs.Drawing.{IsDrawing};
+ghost use Rattle.cut_dot.specs.Drawing.{IsDrawing, IsFlowDrawing};
 ghost use Rattle.cut_dot.specs.Pictures.{flow_said, removed_said};
 
 use crate::reached::reached_from;
+use crate::reported::{marked_ends, reported_among};
 use crate::text::put_text;
 use byte_sink::{Sink, SinkFault};
 use cut_net::{Answer, Cut, Net};
@@ -28,13 +29,74 @@ fn draw_cut<S: Sink>(
     ensures run { IsDrawing net.now from to cut.now.imports.items cut.now.flow.items (S.taken sink.old) (S.taken sink.new) result }
     ensures failures { S.failures sink.new ≡ failures_after result (S.failures sink.old) }
 {
+    net.keeps();
     let Ok(part) = between(alloc, net, from, to) else {
         return Err(SinkFault::Memory);
     };
     let Ok(reached) = reached_from(alloc, net, cut.imports.as_slice(), from) else {
         return Err(SinkFault::Memory);
     };
-    put_text(alloc, net, (from, to), cut, &part.marks, &reached, sink)
+    put_text(
+        alloc,
+        net,
+        (from, to),
+        cut,
+        net.imports(),
+        &part.marks,
+        &reached,
+        sink,
+    )
+}
+
+/// Puts the picture of a cut by its flow.
+fn draw_flow_of_cut<S: Sink>(
+    alloc: Global,
+    net: &Net,
+    from: u32,
+    to: u32,
+    cut: &Cut,
+    sink: &mut S,
+) -> Result<(), SinkFault>
+    requires from { from < length net.now.names }
+    requires to { to < length net.now.names }
+    requires removed { IsAscending cut.now.imports.items }
+    requires flow { IsAscending cut.now.flow.items }
+    ensures run { IsFlowDrawing net.now from to cut.now.imports.items cut.now.flow.items (S.taken sink.old) (S.taken sink.new) result }
+    ensures failures { S.failures sink.new ≡ failures_after result (S.failures sink.old) }
+{
+    net.keeps();
+    let removed = cut.imports.as_slice();
+    let Ok(imports) = reported_among(alloc, net.imports(), removed, cut.flow.as_slice()) else {
+        return Err(SinkFault::Memory);
+    };
+    let Ok(marks) = marked_ends(alloc, &imports, net.nodes()) else {
+        return Err(SinkFault::Memory);
+    };
+    let Ok(reached) = reached_from(alloc, net, removed, from) else {
+        return Err(SinkFault::Memory);
+    };
+    put_text(
+        alloc,
+        net,
+        (from, to),
+        cut,
+        &imports,
+        &marks,
+        &reached,
+        sink,
+    )
+}
+
+/// What is said where no cut can be made: nothing is removed, and nothing flows.
+fn nothing(alloc: Global) -> Cut
+    ensures removed { result.imports.items ≡ [] }
+    ensures flow { result.flow.items ≡ [] }
+{
+    Cut {
+        imports: Vec::new(alloc),
+        weight: 0,
+        flow: Vec::new(alloc),
+    }
 }
 
 /// Puts the picture of what is said of two modules of a network, A and B, given by their numbers, as a graph in DOT: the
@@ -64,13 +126,32 @@ pub fn draw<S: Sink>(
 {
     match answer {
         Answer::Cut(cut) => draw_cut(alloc, net, from, to, cut, sink),
-        Answer::Blocked { .. } => {
-            let nothing = Cut {
-                imports: Vec::new(alloc),
-                weight: 0,
-                flow: Vec::new(alloc),
-            };
-            draw_cut(alloc, net, from, to, &nothing, sink)
-        }
+        Answer::Blocked { .. } => draw_cut(alloc, net, from, to, &nothing(alloc), sink),
+    }
+}
+
+/// Puts the picture of what is said of two modules by its flow: as `draw` does, but of the imports it draws exactly those of the
+/// network that are removed or have flow, wherever they lead, and of the modules those at their ends, with A and B.
+/// Refuses with `Device` and `Memory`; the sink has then taken a front of the text.
+pub fn draw_flow<S: Sink>(
+    alloc: Global,
+    net: &Net,
+    from: u32,
+    to: u32,
+    answer: &Answer,
+    sink: &mut S,
+) -> Result<(), SinkFault>
+    requires from { from < length net.now.names }
+    requires to { to < length net.now.names }
+    requires removed { IsAscending (removed_said answer.now) }
+    requires flow { IsAscending (flow_said answer.now) }
+    // All of the picture by flow at Ok, and a front of it after a refusal.
+    ensures run { IsFlowDrawing net.now from to (removed_said answer.now) (flow_said answer.now) (S.taken sink.old) (S.taken sink.new) result }
+    // Device is answered where the sink counted a failure, and nowhere else.
+    ensures failures { S.failures sink.new ≡ failures_after result (S.failures sink.old) }
+{
+    match answer {
+        Answer::Cut(cut) => draw_flow_of_cut(alloc, net, from, to, cut, sink),
+        Answer::Blocked { .. } => draw_flow_of_cut(alloc, net, from, to, &nothing(alloc), sink),
     }
 }

@@ -7,6 +7,7 @@ mod drawing;
 pub mod laws;
 mod lines;
 mod reached;
+mod reported;
 mod text;
 
-pub use drawing::draw;
+pub use drawing::{draw, draw_flow};

@@ -1,21 +1,29 @@
 //! The text of a picture.
-ghost use Rattle.std.specs.Prelude.{◌≡◌, ◌<◌, ◌++◌, if◌then◌else◌, [], IfErr, OnOk, length};
+ghost use Rattle.std.specs.Prelude.{◌≡◌, ◌<◌, ◌++◌, if◌then◌else◌, [], IfErr, OnOk, filter, length};
 ghost use Rattle.std.specs.List.{flat_map};
 ghost use Rattle.std.specs.String.{string_bytes};
 ghost use Rattle.byte_sink.specs.Sinks.{failures_after, AppendsFront, Puts};
 ghost use Rattle.cut_net.specs.Lines.{IsAscending};
+ghost use Rattle.cut_net.specs.WellFormed.{AreBetween};
 ghost use Rattle.text_pieces.specs.Pieces.{PutsAllBut};
 ghost use Rattle.cut_part.specs.Inside.{inside};
 ghost use Rattle.cut_residual.specs.Graphs.{is_seen};
 ghost use Rattle.cut_dot.specs.Ends.{is_chain_end};
-ghost use Rattle.cut_dot.specs.Pictures.{drawn_imports, drawn_modules, is_drawn};
-ghost use Rattle.cut_dot.specs.Texts.{end_mark, ends_text, line_of_import, label_text, line_of_module, module_line, picture_text, pin_text, reached_mark, removed_mark};
+ghost use Rattle.cut_dot.specs.Pictures.{drawn_modules, is_drawn};
+ghost use Rattle.cut_dot.specs.Texts.{end_mark, ends_text, head_text, line_of_import, label_text, line_of_module, module_line, picture_text, pin_text, reached_mark, removed_mark};
 
 use crate::lines::{flow_on, is_pinned, is_removed};
 use byte_sink::{Sink, SinkFault, put_all};
 use cut_net::{Cut, Net, Priced};
 use std::alloc::{AllocError, Global};
 use text_pieces::put_enough;
+
+/// What begins the graph: it goes from left to right, and its label is the legend.
+fn head_text() -> &'static str
+    ensures { result.now ≡ head_text }
+{
+    "digraph cut {\n  rankdir=LR;\n  label=\"flow/weight; red: removed; bold: pinned; gray: still reached; double border: the two ends\";\n"
+}
 
 /// What the line of A or B has behind the name.
 fn end_mark(is_chain_end: bool) -> &'static str
@@ -86,29 +94,29 @@ fn is_chain_end(from: u32, to: u32, node: u32) -> bool
     (node == from) | (node == to)
 }
 
-/// Gathers the line of a module, where it is marked as between or an end.
+/// Gathers the line of a module, where it is marked or an end.
 fn push_drawn<S: Sink>(
     text: &mut String,
     net: &Net,
     from: u32,
     to: u32,
-    between: &[bool],
+    marks: &[bool],
     reached: &[bool],
     node: u32,
     sink: &mut S,
 ) -> Result<(), SinkFault>
-    requires between { length between.now ≡ length net.now.names }
+    requires marks { length marks.now ≡ length net.now.names }
     requires reached { length reached.now ≡ length net.now.names }
     requires node { node < length net.now.names }
     ensures gathered { OnOk result (PutsAllBut (S.taken sink.old) (S.taken sink.new) (string_bytes text.old ++
-        (if is_drawn from to (is_seen between.now) node then line_of_module net.now from to (is_seen reached.now) node else []))
+        (if is_drawn from to (is_seen marks.now) node then line_of_module net.now from to (is_seen reached.now) node else []))
         (string_bytes text.new)) }
     ensures broken { IfErr result (λ _. AppendsFront (S.taken sink.old) (S.taken sink.new) (string_bytes text.old ++
-        (if is_drawn from to (is_seen between.now) node then line_of_module net.now from to (is_seen reached.now) node else []))) }
+        (if is_drawn from to (is_seen marks.now) node then line_of_module net.now from to (is_seen reached.now) node else []))) }
     ensures failures { S.failures sink.new ≡ failures_after result (S.failures sink.old) }
 {
     let is_chain_end = is_chain_end(from, to, node);
-    if between[node as usize] | is_chain_end {
+    if marks[node as usize] | is_chain_end {
         let Ok(()) = push_module(text, net.name(node), is_chain_end, reached[node as usize]) else {
             return Err(SinkFault::Memory);
         };
@@ -117,27 +125,27 @@ fn push_drawn<S: Sink>(
     Ok(())
 }
 
-/// Gathers the lines of the modules: of those that are marked as between, and of the two ends.
+/// Gathers the lines of the modules: of those that are marked, and of the two ends.
 fn push_modules<S: Sink>(
     text: &mut String,
     net: &Net,
     from: u32,
     to: u32,
-    between: &[bool],
+    marks: &[bool],
     reached: &[bool],
     sink: &mut S,
 ) -> Result<(), SinkFault>
-    requires between { length between.now ≡ length net.now.names }
+    requires marks { length marks.now ≡ length net.now.names }
     requires reached { length reached.now ≡ length net.now.names }
     ensures gathered { OnOk result (PutsAllBut (S.taken sink.old) (S.taken sink.new) (string_bytes text.old ++
-        flat_map (line_of_module net.now from to (is_seen reached.now)) (drawn_modules net.now from to (is_seen between.now)))
+        flat_map (line_of_module net.now from to (is_seen reached.now)) (drawn_modules net.now from to (is_seen marks.now)))
         (string_bytes text.new)) }
     ensures broken { IfErr result (λ _. AppendsFront (S.taken sink.old) (S.taken sink.new) (string_bytes text.old ++
-        flat_map (line_of_module net.now from to (is_seen reached.now)) (drawn_modules net.now from to (is_seen between.now)))) }
+        flat_map (line_of_module net.now from to (is_seen reached.now)) (drawn_modules net.now from to (is_seen marks.now)))) }
     ensures failures { S.failures sink.new ≡ failures_after result (S.failures sink.old) }
 {
     for node in 0..net.nodes() {
-        push_drawn(text, net, from, to, between, reached, node, sink)?;
+        push_drawn(text, net, from, to, marks, reached, node, sink)?;
     }
     Ok(())
 }
@@ -171,25 +179,25 @@ fn push_import(
 fn push_inside<S: Sink>(
     text: &mut String,
     net: &Net,
-    between: &[bool],
+    marks: &[bool],
     removed: &[Priced],
     flow: &[Priced],
     import: Priced,
     sink: &mut S,
 ) -> Result<(), SinkFault>
-    requires between { length between.now ≡ length net.now.names }
+    requires marks { length marks.now ≡ length net.now.names }
     requires removed { IsAscending removed.now }
     requires flow { IsAscending flow.now }
     requires from { import.from < length net.now.names }
     requires to { import.to < length net.now.names }
     ensures gathered { OnOk result (PutsAllBut (S.taken sink.old) (S.taken sink.new) (string_bytes text.old ++
-        (if inside (is_seen between.now) import then line_of_import net.now removed.now flow.now import else []))
+        (if inside (is_seen marks.now) import then line_of_import net.now removed.now flow.now import else []))
         (string_bytes text.new)) }
     ensures broken { IfErr result (λ _. AppendsFront (S.taken sink.old) (S.taken sink.new) (string_bytes text.old ++
-        (if inside (is_seen between.now) import then line_of_import net.now removed.now flow.now import else []))) }
+        (if inside (is_seen marks.now) import then line_of_import net.now removed.now flow.now import else []))) }
     ensures failures { S.failures sink.new ≡ failures_after result (S.failures sink.old) }
 {
-    if between[import.from as usize] & between[import.to as usize] {
+    if marks[import.from as usize] & marks[import.to as usize] {
         let Ok(()) = push_import(text, net, removed, flow, import) else {
             return Err(SinkFault::Memory);
         };
@@ -202,55 +210,57 @@ fn push_inside<S: Sink>(
 fn push_imports<S: Sink>(
     text: &mut String,
     net: &Net,
-    between: &[bool],
+    imports: &[Priced],
+    marks: &[bool],
     removed: &[Priced],
     flow: &[Priced],
     sink: &mut S,
 ) -> Result<(), SinkFault>
-    requires between { length between.now ≡ length net.now.names }
+    requires imports { AreBetween imports.now (length net.now.names) }
+    requires marks { length marks.now ≡ length net.now.names }
     requires removed { IsAscending removed.now }
     requires flow { IsAscending flow.now }
     ensures gathered { OnOk result (PutsAllBut (S.taken sink.old) (S.taken sink.new) (string_bytes text.old ++
-        flat_map (line_of_import net.now removed.now flow.now) (drawn_imports net.now (is_seen between.now)))
+        flat_map (line_of_import net.now removed.now flow.now) (filter (inside (is_seen marks.now)) imports.now))
         (string_bytes text.new)) }
     ensures broken { IfErr result (λ _. AppendsFront (S.taken sink.old) (S.taken sink.new) (string_bytes text.old ++
-        flat_map (line_of_import net.now removed.now flow.now) (drawn_imports net.now (is_seen between.now)))) }
+        flat_map (line_of_import net.now removed.now flow.now) (filter (inside (is_seen marks.now)) imports.now))) }
     ensures failures { S.failures sink.new ≡ failures_after result (S.failures sink.old) }
 {
-    net.keeps();
-    let imports = net.imports();
     for import in imports {
-        push_inside(text, net, between, removed, flow, *import, sink)?;
+        push_inside(text, net, marks, removed, flow, *import, sink)?;
     }
     Ok(())
 }
 
-/// Puts the text of the picture of these marks, piece by piece.
+/// Puts the text of the picture of the marked modules and of the imports between them, piece by piece.
 pub(crate) fn put_text<S: Sink>(
     alloc: Global,
     net: &Net,
     ends: (u32, u32),
     cut: &Cut,
-    between: &[bool],
+    imports: &[Priced],
+    marks: &[bool],
     reached: &[bool],
     sink: &mut S,
 ) -> Result<(), SinkFault>
-    requires between { length between.now ≡ length net.now.names }
+    requires imports { AreBetween imports.now (length net.now.names) }
+    requires marks { length marks.now ≡ length net.now.names }
     requires reached { length reached.now ≡ length net.now.names }
     requires removed { IsAscending cut.now.imports.items }
     requires flow { IsAscending cut.now.flow.items }
     ensures puts { Puts (S.taken sink.old) (S.taken sink.new) result
         (picture_text net.now ends.0 ends.1 cut.now.imports.items cut.now.flow.items (is_seen reached.now)
-        (drawn_modules net.now ends.0 ends.1 (is_seen between.now)) (drawn_imports net.now (is_seen between.now))) }
+        (drawn_modules net.now ends.0 ends.1 (is_seen marks.now)) (filter (inside (is_seen marks.now)) imports.now)) }
     ensures failures { S.failures sink.new ≡ failures_after result (S.failures sink.old) }
 {
     let removed = cut.imports.as_slice();
     let flow = cut.flow.as_slice();
-    let Ok(mut text) = String::from_str(alloc, "digraph cut {\n  rankdir=LR;\n") else {
+    let Ok(mut text) = String::from_str(alloc, head_text()) else {
         return Err(SinkFault::Memory);
     };
-    push_modules(&mut text, net, ends.0, ends.1, between, reached, sink)?;
-    push_imports(&mut text, net, between, removed, flow, sink)?;
+    push_modules(&mut text, net, ends.0, ends.1, marks, reached, sink)?;
+    push_imports(&mut text, net, imports, marks, removed, flow, sink)?;
     let Ok(()) = text.push_str("}\n") else {
         return Err(SinkFault::Memory);
     };

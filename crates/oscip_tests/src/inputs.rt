@@ -17,7 +17,7 @@ pub const SIX_WHY: &[u8] = b"import A M 2\nimport M B 2\n";
 
 /// The picture of the report without prices.
 pub const SIX_DOT: &[u8] =
-    b"digraph cut {\n  rankdir=LR;\n  \"A\" [peripheries=2] [style=filled];\n  \"B\" [peripheries=2];\n  \"M\";\n  \"A\" -> \"M\" [label=\"2/2\"] [style=dashed, color=red];\n  \"M\" -> \"B\" [label=\"2/2\"];\n}\n";
+    b"digraph cut {\n  rankdir=LR;\n  label=\"flow/weight; red: removed; bold: pinned; gray: still reached; double border: the two ends\";\n  \"A\" [peripheries=2] [style=filled];\n  \"B\" [peripheries=2];\n  \"M\";\n  \"A\" -> \"M\" [label=\"2/2\"] [style=dashed, color=red];\n  \"M\" -> \"B\" [label=\"2/2\"];\n}\n";
 
 /// Files, each with its path and its text. B uses D more often than A uses B, and C less often.
 pub const FOUR: &[(&str, &str)] = &[
@@ -38,7 +38,7 @@ pub const FOUR_CUT: &[u8] =
 
 /// The picture of it.
 pub const FOUR_DOT: &[u8] =
-    b"digraph cut {\n  rankdir=LR;\n  \"A\" [peripheries=2] [style=filled];\n  \"B\";\n  \"C\" [style=filled];\n  \"D\" [peripheries=2];\n  \"A\" -> \"B\" [label=\"1/1\"] [style=dashed, color=red];\n  \"A\" -> \"C\" [label=\"1/2\"];\n  \"B\" -> \"D\" [label=\"1/3\"];\n  \"C\" -> \"D\" [label=\"1/1\"] [style=dashed, color=red];\n}\n";
+    b"digraph cut {\n  rankdir=LR;\n  label=\"flow/weight; red: removed; bold: pinned; gray: still reached; double border: the two ends\";\n  \"A\" [peripheries=2] [style=filled];\n  \"B\";\n  \"C\" [style=filled];\n  \"D\" [peripheries=2];\n  \"A\" -> \"B\" [label=\"1/1\"] [style=dashed, color=red];\n  \"A\" -> \"C\" [label=\"1/2\"];\n  \"B\" -> \"D\" [label=\"1/3\"];\n  \"C\" -> \"D\" [label=\"1/1\"] [style=dashed, color=red];\n}\n";
 
 /// Where B uses D.
 pub const FOUR_CROSSINGS: &[u8] = b"B.Mod:0:40-0:43\nB.Mod:0:45-0:48\nB.Mod:0:50-0:53\n";

@@ -5,7 +5,7 @@ use Rattle.cut_residual.specs.Graphs.{AreClosed, AreReached, Graph}
 use Rattle.cut_part.specs.Marks.{open_arc}
 use Rattle.cut_part.proofs.Marking.{are_chained, open_between, open_within}
 use Rattle.cut_dot.specs.Pictures.{stays}
-use Rattle.cut_dot.proofs.Staying.{staying_between, still_reached}
+use Rattle.cut_dot.proofs.Staying.{some_between, still_reached}
 use Rattle.cut_dot.proofs.reached.reached_from.Goals as goal
 
 pub new-requires-clause-within : goal.new-requires-clause-within
@@ -15,7 +15,7 @@ pub new-requires-clause-between : goal.new-requires-clause-between
 new-requires-clause-between c =
     rw (c.in_ok-arcs.ensures, c.imports.ensures, c.nodes.ensures)
     (open_between (filter (stays c.args.removed.now) c.args.net.now.imports) (length c.args.net.now.names)
-    (staying_between c.args.net.now.imports c.args.removed.now (length c.args.net.now.names) c.keeps.ensures.network.between))
+    (some_between (stays c.args.removed.now) c.args.net.now.imports (length c.args.net.now.names) c.keeps.ensures.network.between))
 
 pub returns-clause-reached : goal.returns-clause-reached
 returns-clause-reached c =

@@ -6,9 +6,9 @@ use Rattle.cut_dot.specs.Pictures.{is_drawn}
 use Rattle.cut_dot.specs.Texts.{line_of_module}
 use Rattle.cut_dot.proofs.text.push_drawn.Goals as goal
 
-pub returns-then-between-node-clause-broken : goal.returns-then-between-node-clause-broken
-returns-then-between-node-clause-broken g c =
+pub returns-then-marks-node-clause-broken : goal.returns-then-marks-node-clause-broken
+returns-then-marks-node-clause-broken g c =
     let line = line_of_module c.args.net.now c.args.from c.args.to (is_seen c.args.reached.now) c.args.node in
-    let whole = string_bytes c.args.text.now ++ (if is_drawn c.args.from c.args.to (is_seen c.args.between.now) c.args.node then line else []) in
+    let whole = string_bytes c.args.text.now ++ (if is_drawn c.args.from c.args.to (is_seen c.args.marks.now) c.args.node then line else []) in
     let same : string_bytes c.push_module.new.text ≡ whole = search rules in
     broken_as _ _ [] (string_bytes c.push_module.new.text) whole c.put_enough.result same c.put_enough.ensures.broken

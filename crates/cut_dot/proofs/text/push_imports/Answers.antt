@@ -1,9 +1,7 @@
-use Rattle.std.proofs.Common.{length, subst, List, sym, rules}
+use Rattle.std.proofs.Common.{length, rules}
 use Rattle.std.proofs.lemmas.Result.{err_from_is_err_and}
 use Rattle.std.specs.String.{string_bytes}
 use Rattle.text_pieces.proofs.Joining.{front_joined, joined}
-use Rattle.cut_net.specs.declared.priced.Priced.{Priced}
-use Rattle.cut_net.specs.WellFormed.{AreBetween}
 use Rattle.cut_part.specs.Inside.{inside}
 use Rattle.cut_part.proofs.Adding.{from_in, to_in}
 use Rattle.cut_residual.specs.Graphs.{is_seen}
@@ -12,26 +10,22 @@ use Rattle.cut_dot.proofs.Passing.{one_around, one_taken}
 use Rattle.cut_dot.proofs.text.push_imports.Goals as goal
 
 pub push_inside-requires-clause-from : goal.push_inside-requires-clause-from
-push_inside-requires-clause-from g c =
-    let between = subst (λ (v : List Priced). AreBetween v (length c.args.net.now.names)) (sym c.imports-imports.ensures) c.keeps.ensures.network.between in
-    from_in c.imports-imports.result.now (length c.args.net.now.names) c.loop-import.import-index between c.loop-import-test.true
+push_inside-requires-clause-from g c = from_in c.args.imports.now (length c.args.net.now.names) c.loop-import.import-index c.requires.imports c.loop-import-test.true
 
 pub push_inside-requires-clause-to : goal.push_inside-requires-clause-to
-push_inside-requires-clause-to g c =
-    let between = subst (λ (v : List Priced). AreBetween v (length c.args.net.now.names)) (sym c.imports-imports.ensures) c.keeps.ensures.network.between in
-    to_in c.imports-imports.result.now (length c.args.net.now.names) c.loop-import.import-index between c.loop-import-test.true
+push_inside-requires-clause-to g c = to_in c.args.imports.now (length c.args.net.now.names) c.loop-import.import-index c.requires.imports c.loop-import-test.true
 
 pub returns-in_err-push_inside-clause-broken : goal.returns-in_err-push_inside-clause-broken
 returns-in_err-push_inside-clause-broken g c =
     let p = err_from_is_err_and c.from_residual.result c.from_residual.ensures.1 in
     let line = line_of_import c.args.net.now c.args.removed.now c.args.flow.now in
-    let around = one_around line (inside (is_seen c.args.between.now)) c.imports-imports.result.now c.loop-import.import-index _ c.loop-import-test.true in
-    rw (p.1, ← c.imports-imports.ensures) (front_joined _ _ _ (string_bytes c.args.text.now) _ _ (string_bytes c.loop-import.text) _ _ around c.loop-import.invariant.gathered c.in_err-push_inside.ensures.broken)
+    let around = one_around line (inside (is_seen c.args.marks.now)) c.args.imports.now c.loop-import.import-index _ c.loop-import-test.true in
+    rw p.1 (front_joined _ _ _ (string_bytes c.args.text.now) _ _ (string_bytes c.loop-import.text) _ _ around c.loop-import.invariant.gathered c.in_err-push_inside.ensures.broken)
 
 pub loop-import-preserved : goal.loop-import-preserved
 loop-import-preserved g c =
     let line = line_of_import c.args.net.now c.args.removed.now c.args.flow.now in
-    let more = one_taken line (inside (is_seen c.args.between.now)) c.imports-imports.result.now c.loop-import.import-index _ c.loop-import-test.true in
+    let more = one_taken line (inside (is_seen c.args.marks.now)) c.args.imports.now c.loop-import.import-index _ c.loop-import-test.true in
     record {
       gathered = joined _ _ _ (string_bytes c.args.text.now) _ _ (string_bytes c.loop-import.text) (string_bytes c.push_inside.new.text) _ more c.loop-import.invariant.gathered c.in_ok-push_inside.ensures.gathered;
       failures = search rules;

@@ -11,6 +11,6 @@ use Rattle.cut_dot.proofs.text.push_imports.Given as goal
 abbrev pub invariant-loop-import : goal.invariant-loop-import
 invariant-loop-import g l = record {
   gathered : PutsAllBut (g.S.Sink.taken l.initial.sink) (g.S.Sink.taken l.sink)
-      (string_bytes l.initial.text ++ lines (line_of_import l.net l.removed l.flow) (inside (is_seen l.between)) (take l.import-index l.imports)) (string_bytes l.text);
+      (string_bytes l.initial.text ++ lines (line_of_import l.net l.removed l.flow) (inside (is_seen l.marks)) (take l.import-index l.imports)) (string_bytes l.text);
   failures : g.S.Sink.failures l.sink ≡ g.S.Sink.failures l.initial.sink;
 }

@@ -12,13 +12,13 @@ pub returns-in_err-push_drawn-clause-broken : goal.returns-in_err-push_drawn-cla
 returns-in_err-push_drawn-clause-broken g c =
     let p = err_from_is_err_and c.from_residual.result c.from_residual.ensures.1 in
     let line = line_of_module c.args.net.now c.args.from c.args.to (is_seen c.args.reached.now) in
-    let around = number_around line (is_drawn c.args.from c.args.to (is_seen c.args.between.now)) (length c.args.net.now.names) c.loop-node.node (omega arith) in
+    let around = number_around line (is_drawn c.args.from c.args.to (is_seen c.args.marks.now)) (length c.args.net.now.names) c.loop-node.node (omega arith) in
     rw p.1 (front_joined _ _ _ (string_bytes c.args.text.now) _ _ (string_bytes c.loop-node.text) _ _ around c.loop-node.invariant.gathered c.in_err-push_drawn.ensures.broken)
 
 pub loop-node-preserved : goal.loop-node-preserved
 loop-node-preserved g c =
     let line = line_of_module c.args.net.now c.args.from c.args.to (is_seen c.args.reached.now) in
-    let more = one_counted line (is_drawn c.args.from c.args.to (is_seen c.args.between.now)) c.loop-node.node in
+    let more = one_counted line (is_drawn c.args.from c.args.to (is_seen c.args.marks.now)) c.loop-node.node in
     record {
       gathered = joined _ _ _ (string_bytes c.args.text.now) _ _ (string_bytes c.loop-node.text) (string_bytes c.push_drawn.new.text) _ more c.loop-node.invariant.gathered c.in_ok-push_drawn.ensures.gathered;
       failures = search rules;

@@ -12,6 +12,6 @@ use Rattle.cut_dot.proofs.text.push_modules.Given as goal
 abbrev pub invariant-loop-node : goal.invariant-loop-node
 invariant-loop-node g l = record {
   gathered : PutsAllBut (g.S.Sink.taken l.initial.sink) (g.S.Sink.taken l.sink)
-      (string_bytes l.initial.text ++ lines (line_of_module l.net l.from l.to (is_seen l.reached)) (is_drawn l.from l.to (is_seen l.between)) (range_with_len 0 l.node)) (string_bytes l.text);
+      (string_bytes l.initial.text ++ lines (line_of_module l.net l.from l.to (is_seen l.reached)) (is_drawn l.from l.to (is_seen l.marks)) (range_with_len 0 l.node)) (string_bytes l.text);
   failures : g.S.Sink.failures l.sink ≡ g.S.Sink.failures l.initial.sink;
 }
