@@ -153,11 +153,13 @@ const char *const FAULT = "oscip: ("
     "|(Truncated|LongVarint|Group|ZeroField|BadText) \\d+)\n";
 const char *const REPORT = "cut \\w+ \\w+\n(weight \\d+\n(remove \\w+ \\w+ \\d+\n)*(flow \\w+ \\w+ [1-9]\\d*\n)*|blocked( \\w+)+\n)end\n";
 const char *const PLACES = "([^]*:\\d+:\\d+-\\d+:\\d+\n)*";
+const char *const NETWORK = "(module \\w+\n)*(import \\w+ \\w+ \\d+\n)*";
+const char *const CHAIN = "(import \\w+ \\w+ \\d+\n)*";
 
 // What standard output has to be after status 0.
 const std::map<Text, const char *> ANSWERS = {
     {"cut", REPORT}, {"cut-net", REPORT}, {"check", "yes\n"}, {"check-net", "yes\n"}, {"dot", "digraph [^]*\\}\n"}, {"dot-net", "digraph [^]*\\}\n"},
-    {"def", PLACES}, {"refs", PLACES}, {"crossings", PLACES}, {"unresolved", "([^]*:\\d+:\\d+ \\w+\n)*"}, {"index", "([0-9a-f]*\n)?"}};
+    {"def", PLACES}, {"refs", PLACES}, {"crossings", PLACES}, {"net", NETWORK}, {"why", CHAIN}, {"why-net", CHAIN}, {"unresolved", "([^]*:\\d+:\\d+ \\w+\n)*"}, {"index", "([0-9a-f]*\n)?"}};
 
 bool is_like(const Text &text, const char *pattern) {
     static std::map<const char *, std::regex> made;
@@ -245,9 +247,10 @@ void try_net(const Examples &examples) {
     const Text &net = one_of(examples.nets);
     write_file("net", one_in(8) ? net : changed(net, examples.reports));
     write_file("report", changed(one_of(examples.reports), examples.nets));
-    switch (below(4)) {
+    switch (below(5)) {
     case 0: tried(priced({"check-net", "net", "report"}, examples)); break;
     case 1: tried(priced({"dot-net", "net", "report"}, examples)); break;
+    case 2: tried({"why-net", "net", some_name(), some_name()}); break;
     default: tried_cut(priced({"cut-net", "net", some_name(), some_name(), some_workers()}, examples));
     }
 }
@@ -256,6 +259,17 @@ void try_index(const Examples &examples) {
     write_file("index", changed(one_of(examples.indexes), examples.nets));
     Words words = {one_in(2) ? "def" : "refs", "index", one_in(4) ? "src/model.ts" : "src/view.ts", std::to_string(below(20)), std::to_string(below(40))};
     tried(words);
+}
+
+// Gives the network of the tree, as it is put, to the search for a chain, which has to find what it finds in the tree.
+void tried_why(const Text &first, const Text &last) {
+    Ended net = tried({"net", "tree"});
+    write_file("net", net.put);
+    Words words = {"why-net", "net", first, last};
+    Ended one = tried({"why", "tree", first, last});
+    if (net.status != 0) return;
+    Ended other = tried(words);
+    if (one.status != other.status || one.put != other.put) stop(words, other, "not the chain in the tree");
 }
 
 void try_tree(const Examples &examples) {
@@ -268,13 +282,14 @@ void try_tree(const Examples &examples) {
         write_file("tree/More.Mod", one_in(4) ? module : changed(module, examples.modules));
     }
     write_file("report", changed(one_of(examples.reports), examples.nets));
-    switch (below(8)) {
+    switch (below(9)) {
     case 0: tried(priced({"check", "tree", "report"}, examples)); break;
     case 1: tried(priced({"dot", "tree", "report"}, examples)); break;
     case 2: tried({"crossings", "tree", some_name(), some_name()}); break;
     case 3: tried({"unresolved", "tree"}); break;
     case 4: tried_cut(priced({"cut", "tree", some_name(), some_name(), some_workers()}, examples)); break;
     case 5: tried({"index", "tree", "out", some_workers()}); break;
+    case 6: tried_why(some_name(), some_name()); break;
     default: {
         Ended one = tried({"index", "tree", "--hex", "--workers=1"});
         Words words = {"index", "tree", "--hex", "--workers=4"};
@@ -284,7 +299,7 @@ void try_tree(const Examples &examples) {
     }
 }
 
-const Words SAID = {"cut", "cut-net", "check", "check-net", "dot", "dot-net", "def", "refs", "crossings", "index", "unresolved", "help", "--help", "-h", "-V", "--version",
+const Words SAID = {"cut", "cut-net", "check", "check-net", "dot", "dot-net", "def", "refs", "crossings", "why", "why-net", "index", "unresolved", "help", "--help", "-h", "-V", "--version",
     "--workers", "--workers=2", "--workers=99", "--prices", "--prices=prices", "--hex", "--package", "--package=p", "--package= p", "--root=r", "--", "-", "net", "report", "tree", "index", "gone", "A", "B", "0", "3",
     "-1", "2147483648", "", "\xff"};
 
@@ -304,7 +319,7 @@ void try_each(const Text &text, const Text &name, const std::vector<Words> &comm
 void try_all(const Examples &examples) {
     write_file("net", examples.nets[1]);
     write_file("report", examples.reports[1]);
-    try_each(examples.nets[1], "net", {{"cut-net", "net", "Edit", "Net", "--workers=2"}, {"check-net", "net", "report"}});
+    try_each(examples.nets[1], "net", {{"cut-net", "net", "Edit", "Net", "--workers=2"}, {"check-net", "net", "report"}, {"why-net", "net", "Edit", "Net"}});
     write_file("net", examples.nets[1]);
     try_each(examples.reports[1], "report", {{"check-net", "net", "report"}, {"dot-net", "net", "report"}});
     write_file("report", examples.reports[1]);
@@ -320,7 +335,7 @@ void try_all(const Examples &examples) {
     try_each(read_file("index"), "index", {{"def", "index", "A.Mod", "0", "7"}, {"refs", "index", "C.Mod", "0", "93"}});
     std::filesystem::create_directory("one");
     for (const auto &[name, text] : examples.tree) {
-        std::vector<Words> commands = {{"cut", "tree", "A", "D"}, {"cut", "tree", "A", "D", PRICED}, {"unresolved", "tree"}, {"index", "tree", "--hex"}};
+        std::vector<Words> commands = {{"cut", "tree", "A", "D"}, {"cut", "tree", "A", "D", PRICED}, {"net", "tree"}, {"unresolved", "tree"}, {"index", "tree", "--hex"}};
         try_each(text, "tree/" + name, commands);
         write_file("tree/" + name, text);
     }

@@ -127,6 +127,14 @@ trial 0 dot four four.cut
 trial 0 crossings four B D
 trial 0 crossings editor Printer Spooler
 trial 1 crossings four A Absent
+trial 0 net four
+trial 0 net editor
+trial 1 net wrong
+trial 0 why four A D
+trial 0 why four D A
+trial 1 why four A Absent
+trial 0 why-net editor.net Editor Net
+trial 1 why-net cycle.net A B
 trial 1 dot-net six.net short.cut
 trial 1 dot-net cycle.net six.cut
 trial 1 dot wrong four.cut
