@@ -10,9 +10,6 @@ use cut_residual::{CurrentArcs, OutArc, ResidualGraph, order_of};
 use std::alloc::{AllocError, Global};
 use std::marker::Model;
 
-/// Up to so many residual arcs of a node are gone over again at each discharge, which takes less than to keep how many are passed.
-const FEW_ARCS: usize = 64;
-
 /// A graph with its flow, and for each node its excess, its label and its current arc; those that wait have excess.
 #[derive(Drop)]
 struct Trial {
@@ -187,9 +184,7 @@ impl Trial {
         let mut next = self.current.passed(node);
         for _ in 0..self.graph.residual_arcs(node).len() {
             if self.excesses[node as usize] == 0 {
-                if next > FEW_ARCS {
-                    self.current.pass(node, next);
-                }
+                self.current.pass(node, next);
                 return Ok(least);
             }
             let down = self.next_down(node, next);
