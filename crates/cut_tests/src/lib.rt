@@ -1,9 +1,9 @@
-//! Tests of the public calls of `cut_residual`, `cut_net`, `cut_part`, `cut_report`, `cut_trial`, `cut_preflow`, `cut_check`, `cut_solve`
-//! and `cut_plain`, of what no command shows: sinks that fail, calls that the solver makes, its workers at gates, `plain`, prices upon
-//! prices, what is put of networks and of chains, verdicts on what no report says, and that the order of residual arcs, the order in which
-//! imports are narrowed, the order of imports of the same modules and the flow of the trial are what they were.
+//! Tests of the public calls of `cut_residual`, `cut_net`, `cut_part`, `cut_report`, `cut_trial`, `cut_preflow`, `cut_check`, `cut_dot`,
+//! `cut_solve` and `cut_plain`, of what no command shows: pictures by flow, sinks that fail, calls that the solver makes, its workers at
+//! gates, `plain`, prices upon prices, what is put of networks and of chains, verdicts on what no report says, and that the order of residual
+//! arcs, the order in which imports are narrowed, the order of imports of the same modules and the flow of the trial are what they were.
 //! What `cut-net` and `check-net` print stands in `rows/`.
-//! Stands on those nine, on `byte_sink` and on `test_doubles`.
+//! Stands on those ten, on `byte_sink` and on `test_doubles`.
 //! It has nothing but tests: worked networks and cuts, each with what is known of it.
 #![tactic(auto)]
 
@@ -25,6 +25,8 @@ mod listed;
 mod networks;
 #[cfg(test)]
 mod orders;
+#[cfg(test)]
+mod pictures;
 #[cfg(test)]
 mod preflows;
 #[cfg(test)]

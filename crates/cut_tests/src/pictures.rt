@@ -1,0 +1,93 @@
+//! Pictures by flow: of a cut, of a chain of pins, and into a sink that fails.
+
+use crate::worked::net_of;
+use byte_sink::SinkFault;
+use cut_dot::draw_flow;
+use cut_net::Net;
+use std::alloc::{AllocError, Global};
+use std::process::Abort;
+use std::test::Fail;
+use test_doubles::ByOne;
+
+/// Three ways from A to D, one of which weighs nothing, and E, which imports A. The modules are A, B, C, D, E and Z.
+const NETWORK: &[u8] =
+    b"import A B 1\nimport A C 2\nimport A Z 0\nimport B D 3\nimport C D 1\nimport E A 4\nimport Z D 5\n";
+
+/// A cut. It removes an import that carries nothing, D doesn't import A, and over that of A by E nothing flows.
+const CUT: &[u8] = b"cut A D\nweight 2\nremove A B 1\nremove A Z 0\nremove C D 1\n\
+    flow A B 1\nflow A C 1\nflow B D 1\nflow C D 1\nflow D A 7\nend\n";
+
+/// Its picture by flow: E and the imports E A and Z D, over which nothing flows, aren't there.
+const CUT_BY_FLOW: &str = "digraph cut {\n  rankdir=LR;\n  \
+    label=\"flow/weight; red: removed; bold: pinned; gray: still reached; double border: the two ends\";\n  \
+    \"A\" [peripheries=2] [style=filled];\n  \"B\";\n  \"C\" [style=filled];\n  \"D\" [peripheries=2];\n  \"Z\";\n  \
+    \"A\" -> \"B\" [label=\"1/1\"] [style=dashed, color=red];\n  \
+    \"A\" -> \"C\" [label=\"1/2\"];\n  \
+    \"A\" -> \"Z\" [label=\"0/0\"] [style=dashed, color=red];\n  \
+    \"B\" -> \"D\" [label=\"1/3\"];\n  \
+    \"C\" -> \"D\" [label=\"1/1\"] [style=dashed, color=red];\n}\n";
+
+/// What can't be cut, as if A B and B D were pinned.
+const BLOCKED: &[u8] = b"cut A D\nblocked A B D\nend\n";
+
+/// Its picture by flow: A and D alone.
+const BLOCKED_BY_FLOW: &str = "digraph cut {\n  rankdir=LR;\n  \
+    label=\"flow/weight; red: removed; bold: pinned; gray: still reached; double border: the two ends\";\n  \
+    \"A\" [peripheries=2] [style=filled];\n  \"D\" [peripheries=2] [style=filled];\n}\n";
+
+/// Puts the picture by flow of what a report says.
+fn put_by_flow(alloc: Global, net: &Net, report: &[u8], sink: &mut ByOne) -> Result<(), SinkFault> {
+    let Ok(report) = cut_report::read(alloc, report, net) else {
+        return Err(SinkFault::Memory);
+    };
+    draw_flow(alloc, net, report.from, report.to, &report.answer, sink)
+}
+
+/// Checks what a sink has that fails behind so many bytes, of which the text has as many or more.
+fn has_front(
+    rt: &impl Abort,
+    alloc: Global,
+    net: &Net,
+    report: &[u8],
+    puts: u64,
+    text: &str,
+) -> Result<(), AllocError> {
+    let mut sink = ByOne::new(alloc, puts);
+    let is_whole = puts == text.len() as u64;
+    match put_by_flow(alloc, net, report, &mut sink) {
+        Ok(()) => assert!(rt; is_whole),
+        Err(SinkFault::Device) => assert!(rt; !is_whole),
+        Err(SinkFault::Memory) => return Err(AllocError),
+    }
+    assert_eq!(rt; (sink.failures, sink.empty), (u64::from(!is_whole), 0));
+    assert_eq!(rt; sink.taken.len() as u64, puts);
+    assert!(rt; text.as_bytes().starts_with(sink.taken.as_slice()));
+    Ok(())
+}
+
+/// Checks the picture, and that a sink that fails at each put in turn has the front of it.
+fn is_drawn(
+    rt: &impl Abort,
+    alloc: Global,
+    net: &[u8],
+    report: &[u8],
+    text: &str,
+) -> Result<(), AllocError> {
+    let net = net_of(alloc, net, b"")?;
+    for puts in 0..=text.len() as u64 {
+        has_front(rt, alloc, &net, report, puts, text)?;
+    }
+    Ok(())
+}
+
+#[test]
+fn a_cut_by_flow(rt: HostRuntime) -> Result<(), Fail> {
+    is_drawn(&rt, rt.alloc(), NETWORK, CUT, CUT_BY_FLOW)?;
+    Ok(())
+}
+
+#[test]
+fn nothing_flows_where_pins_lead(rt: HostRuntime) -> Result<(), Fail> {
+    is_drawn(&rt, rt.alloc(), NETWORK, BLOCKED, BLOCKED_BY_FLOW)?;
+    Ok(())
+}
