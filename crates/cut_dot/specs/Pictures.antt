@@ -15,7 +15,7 @@ use Rattle.cut_dot.specs.Texts.{picture_text}
 abbrev pub numbers : Network → List ℕ
 numbers net = range_with_len 0 (length net.names)
 
--- the module is in the picture: it is between, or one of the two ends
+-- the module is in the picture: it is one of these (those between, or those at an end of a drawn import), or one of the two ends
 abbrev pub is_drawn : ℕ → ℕ → (ℕ → Bool) → ℕ → Bool
 is_drawn a b between m = between m || is_chain_end a b m
 
