@@ -91,7 +91,7 @@ fn workers_of(found: &ArgMatches<'_>) -> Result<u32, Refusal>
 }
 
 /// The names of two modules, which the arguments of these names give.
-fn names_of(
+fn two_names(
     alloc: Global,
     found: &ArgMatches<'_>,
     first: &str,
@@ -146,7 +146,7 @@ fn net_question(alloc: Global, name: &str, found: &ArgMatches<'_>) -> Result<Net
         return Ok(NetQuestion::Dot(reported_of(alloc, found)?));
     }
     if name == "why" {
-        return Ok(NetQuestion::Why(names_of(alloc, found, "A", "B")?));
+        return Ok(NetQuestion::Why(two_names(alloc, found, "A", "B")?));
     }
     Err(Refusal::Missing)
 }
@@ -157,7 +157,7 @@ fn tree_question(alloc: Global, name: &str, found: &ArgMatches<'_>) -> Result<Tr
     ensures { IfOk result (IsTreeQuestionOf name.now (rows_of (found_of found.now))) }
 {
     if name == "crossings" {
-        return Ok(TreeQuestion::Crossings(names_of(alloc, found, "M", "N")?));
+        return Ok(TreeQuestion::Crossings(two_names(alloc, found, "M", "N")?));
     }
     if name == "net" {
         return Ok(TreeQuestion::Net);
