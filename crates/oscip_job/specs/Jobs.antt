@@ -1,5 +1,5 @@
 -- The command line as clap reads it, and the job that its words give.
-use Rattle.std.specs.Prelude.{◌≡◌, ◌≢◌, ◌++◌, ◌<◌, ◌≤◌, ◌^◌, ℕ, List, [], ◌∷◌, Option, Some, None, codes, option_map, pos, slice_get, String, true}
+use Rattle.std.specs.Prelude.{◌≡◌, ◌≢◌, ◌↔◌, ◌++◌, ◌<◌, ◌≤◌, ◌^◌, ℕ, List, [], ◌∷◌, Option, Some, None, codes, option_map, pos, slice_get, String, true}
 use Rattle.std.specs.declared.alloc.Global.{Global}
 use Rattle.std.specs.Str.Parse.{digits_value, without_leading_plus, IsNumeral}
 use Rattle.std.specs.String.{string_bytes}
@@ -10,6 +10,7 @@ use Rattle.clap.specs.declared.builder.value_parser.ValueParser.TheVariants as p
 use Rattle.oscip_job.specs.declared.job.Job.{Job}
 use Rattle.oscip_job.specs.declared.job.Job.TheVariants.{Tree, Network, Ask, Index, Unresolved}
 use Rattle.oscip_job.specs.declared.job.Cutting.{Cutting}
+use Rattle.oscip_job.specs.declared.job.Drawing.{Drawing}
 use Rattle.oscip_job.specs.declared.job.Indexing.{Indexing}
 use Rattle.oscip_job.specs.declared.job.NetQuestion.{NetQuestion}
 use Rattle.oscip_job.specs.declared.job.NetQuestion.TheVariants.{Cut, Check, Dot, Why}
@@ -84,13 +85,21 @@ check_net_app = with_prices (with_rule (with_rule (new_app (codes "check-net")) 
 abbrev pub why_net_app : App
 why_net_app = with_modules (with_rule (new_app (codes "why-net")) (required_rule (codes "FILE")))
 
--- dot [--prices FILE] DIR REPORT
-abbrev pub dot_app : App
-dot_app = with_prices (with_rule (with_rule (new_app (codes "dot")) (required_rule (codes "DIR"))) (required_rule (codes "REPORT")))
+-- --flow
+abbrev pub flow_rule : Rule
+flow_rule = record (new_rule (codes "flow")) { long = Some (codes "flow"); action = Some actions.SetTrue }
 
--- dot-net [--prices FILE] FILE REPORT
+-- the command with that option
+abbrev pub with_flow : App → App
+with_flow app = with_rule app flow_rule
+
+-- dot [--flow] [--prices FILE] DIR REPORT
+abbrev pub dot_app : App
+dot_app = with_flow (with_prices (with_rule (with_rule (new_app (codes "dot")) (required_rule (codes "DIR"))) (required_rule (codes "REPORT"))))
+
+-- dot-net [--flow] [--prices FILE] FILE REPORT
 abbrev pub dot_net_app : App
-dot_net_app = with_prices (with_rule (with_rule (new_app (codes "dot-net")) (required_rule (codes "FILE"))) (required_rule (codes "REPORT")))
+dot_net_app = with_flow (with_prices (with_rule (with_rule (new_app (codes "dot-net")) (required_rule (codes "FILE"))) (required_rule (codes "REPORT"))))
 
 -- a number from 0 to 2147483647 that has to be given
 abbrev pub number_rule : Text → Rule
@@ -227,11 +236,19 @@ HasCutting rows it =
 abbrev pub HasReported : List Row → Reported → Type 0
 HasReported rows it = Finds rows (codes "REPORT") (string_bytes it.report) × MayFind rows (codes "prices") it.prices
 
+-- --flow was given
+abbrev pub AsksForFlow : List Row → Type 0
+AsksForFlow rows = Finds rows (codes "flow") (codes "true")
+
+-- the report and its prices, and whether --flow was given
+abbrev pub HasDrawing : List Row → Drawing → Type 0
+HasDrawing rows it = HasReported rows it.reported × (it.by_flow ≡ true ↔ AsksForFlow rows)
+
 -- what is asked of a network holds the values that were found for its arguments
 abbrev pub HasNetQuestion : List Row → NetQuestion → Type 0
 HasNetQuestion rows (Cut cutting) = HasCutting rows cutting
 HasNetQuestion rows (Check reported) = HasReported rows reported
-HasNetQuestion rows (Dot reported) = HasReported rows reported
+HasNetQuestion rows (Dot drawing) = HasDrawing rows drawing
 HasNetQuestion rows (Why names) = HasTwoNames rows (codes "A") (codes "B") names
 
 -- so does what is asked of a tree
@@ -252,7 +269,7 @@ HasValues rows (Unresolved folder) = Finds rows (codes "DIR") (string_bytes fold
 abbrev pub net_question_name : NetQuestion → Text
 net_question_name (Cut cutting) = codes "cut"
 net_question_name (Check reported) = codes "check"
-net_question_name (Dot reported) = codes "dot"
+net_question_name (Dot drawing) = codes "dot"
 net_question_name (Why names) = codes "why"
 
 -- the word for what is asked of a tree
@@ -283,7 +300,7 @@ Holds (Some found) job = (found.0 ≡ command_name job) × HasValues found.1 job
 abbrev pub HasNetWorkers : NetQuestion → Type 0
 HasNetWorkers (Cut cutting) = MayWork cutting.workers
 HasNetWorkers (Check reported) = Unit {0}
-HasNetWorkers (Dot reported) = Unit {0}
+HasNetWorkers (Dot drawing) = Unit {0}
 HasNetWorkers (Why names) = Unit {0}
 
 abbrev pub HasTreeWorkers : TreeQuestion → Type 0

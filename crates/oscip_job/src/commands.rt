@@ -1,7 +1,7 @@
 //! The commands of the program and their words, as `clap` takes them.
 ghost use Rattle.std.specs.Prelude.{◌≡◌, IfOk, codes, false};
 ghost use Rattle.clap.specs.Words.{app_of, new_app, rule_of, with_rule, with_subcommand, App};
-ghost use Rattle.oscip_job.specs.Jobs.{asking_app, crossings_app, index_app, net_app, number_rule, oscip, program_app, required_rule, text_rule, unresolved_app, with_imports, with_indexers, with_indexes, with_modules, with_nets, with_output, with_pictures, with_position, with_prices, with_trees, with_workers};
+ghost use Rattle.oscip_job.specs.Jobs.{asking_app, crossings_app, index_app, net_app, number_rule, oscip, program_app, required_rule, text_rule, unresolved_app, with_flow, with_imports, with_indexers, with_indexes, with_modules, with_nets, with_output, with_pictures, with_position, with_prices, with_trees, with_workers};
 ghost use Rattle.oscip_job.specs.Making.{Reads};
 
 use clap::{Arg, ArgAction, Command, value_parser};
@@ -218,6 +218,20 @@ fn checking<'a>(
     let command = named(alloc, name, about, end);
     let command = with_required(alloc, command, id, help);
     with_report(alloc, command, report_help)
+}
+
+/// The command with the option of the picture by flow.
+fn with_flow<'a>(alloc: Global, command: Made<'a>) -> Made<'a>
+    ensures { (app : App) → IfOk command.entry (λ c. Reads app c.value) → IfOk result (λ c. Reads (with_flow app) c.value) }
+{
+    let command = command?;
+    let flow = Arg::new(alloc, "flow")
+        .long("flow")
+        .action(ArgAction::SetTrue)
+        .help(
+            "Draw only the imports that the report removes or gives flow, and the modules at their ends",
+        );
+    with_arg(alloc, command, flow)
 }
 
 /// The command with the names of two modules, M and N.
@@ -505,6 +519,7 @@ fn with_pictures<'a>(alloc: Global, program: Made<'a>) -> Made<'a>
         FOLDER_HELP,
         "The report of a cut between two of the modules",
     );
+    let tree = with_flow(alloc, tree);
     let program = with_sub(alloc, program, tree);
     let net = checking(
         alloc,
@@ -515,6 +530,7 @@ fn with_pictures<'a>(alloc: Global, program: Made<'a>) -> Made<'a>
         NETWORK_HELP,
         "The report of a cut between two of its modules",
     );
+    let net = with_flow(alloc, net);
     with_sub(alloc, program, net)
 }
 

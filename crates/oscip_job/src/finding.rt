@@ -2,11 +2,11 @@
 ghost use Rattle.std.specs.Prelude.{◌≡◌, ◌++◌, ◌≤◌, ◌↔◌, IfOk, IfSome, codes, map, true};
 ghost use Rattle.std.specs.String.{string_bytes};
 ghost use Rattle.clap.specs.Words.{found_of, kind_of, rows_of, subcommand_of, subcommand_rows_of};
-ghost use Rattle.oscip_job.specs.Jobs.{asking_name, oscip, AsksForHex, Finds, FindsNumber, HasCutting, HasTwoNames, HasIndexing, HasOutput, HasPackage, HasPosition, HasQuestion, HasReported, HasWorkers, Holds, IsJobOf, IsNetQuestionOf, IsPackage, IsPositionOf, IsTreeQuestionOf, MayFind, MayWork, NamesNumbers, NamesPosition, NamesWithin, NamesWorkers};
+ghost use Rattle.oscip_job.specs.Jobs.{asking_name, oscip, AsksForFlow, AsksForHex, Finds, FindsNumber, HasCutting, HasDrawing, HasTwoNames, HasIndexing, HasOutput, HasPackage, HasPosition, HasQuestion, HasReported, HasWorkers, Holds, IsJobOf, IsNetQuestionOf, IsPackage, IsPositionOf, IsTreeQuestionOf, MayFind, MayWork, NamesNumbers, NamesPosition, NamesWithin, NamesWorkers};
 
 use crate::commands::command;
 use crate::job::{
-    Cutting, Indexing, Job, JobFault, NetQuestion, Output, Places, Question, Reported,
+    Cutting, Drawing, Indexing, Job, JobFault, NetQuestion, Output, Places, Question, Reported,
     TreeQuestion, TwoNames,
 };
 use clap::ArgMatches;
@@ -131,6 +131,25 @@ fn reported_of(alloc: Global, found: &ArgMatches<'_>) -> Result<Reported, Refusa
     Ok(Reported { report, prices })
 }
 
+/// Whether the words ask for the picture by flow.
+fn asks_for_flow(found: &ArgMatches<'_>) -> bool
+    ensures { result ≡ true ↔ AsksForFlow (rows_of (found_of found.now)) }
+{
+    match found.get_str("flow") {
+        None => false,
+        Some(text) => text == "true",
+    }
+}
+
+/// The words of a command that draws, but for what the report is on.
+fn drawing_of(alloc: Global, found: &ArgMatches<'_>) -> Result<Drawing, Refusal>
+    ensures { IfOk result (HasDrawing (rows_of (found_of found.now))) }
+{
+    let by_flow = asks_for_flow(found);
+    let reported = reported_of(alloc, found)?;
+    Ok(Drawing { reported, by_flow })
+}
+
 /// What the command of this name asks of the network of a tree, or with `-net` behind the name of one in a file.
 fn net_question(alloc: Global, name: &str, found: &ArgMatches<'_>) -> Result<NetQuestion, Refusal>
     requires { NamesWorkers (rows_of (found_of found.now)) }
@@ -143,7 +162,7 @@ fn net_question(alloc: Global, name: &str, found: &ArgMatches<'_>) -> Result<Net
         return Ok(NetQuestion::Check(reported_of(alloc, found)?));
     }
     if name == "dot" {
-        return Ok(NetQuestion::Dot(reported_of(alloc, found)?));
+        return Ok(NetQuestion::Dot(drawing_of(alloc, found)?));
     }
     if name == "why" {
         return Ok(NetQuestion::Why(two_names(alloc, found, "A", "B")?));

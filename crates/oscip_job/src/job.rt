@@ -78,6 +78,14 @@ pub struct Reported {
     pub prices: Option<String>,
 }
 
+/// A report of which a picture is drawn, and which picture.
+#[derive(Drop)]
+pub struct Drawing {
+    pub reported: Reported,
+    /// Whether it is the picture by flow, which has only the imports that the report removes or gives flow.
+    pub by_flow: bool,
+}
+
 /// What is asked of a network, one that stands in a file or that of a tree.
 #[derive(Drop)]
 pub enum NetQuestion {
@@ -86,7 +94,7 @@ pub enum NetQuestion {
     /// Whether a report on it is right.
     Check(Reported),
     /// A picture of what a report on it says.
-    Dot(Reported),
+    Dot(Drawing),
     /// The least chain of imports from the first module to the second.
     Why(TwoNames),
 }

@@ -9,6 +9,6 @@ mod job;
 
 pub use finding::job_of;
 pub use job::{
-    Cutting, Indexing, Job, JobFault, NetQuestion, Output, Places, Question, Reported,
+    Cutting, Drawing, Indexing, Job, JobFault, NetQuestion, Output, Places, Question, Reported,
     TreeQuestion, TwoNames,
 };
