@@ -1,9 +1,10 @@
 -- What a run of a job reads and puts.
 use Rattle.std.specs.Prelude.{◌≡◌, ℕ, Bool, true, List, Option, None, Result, Ok, Err, IfOk}
 use Rattle.std.specs.String.{string_bytes}
+use Rattle.cut_net.specs.declared.priced.Priced.{Priced}
 use Rattle.cut_net.specs.Network.{Network}
 use Rattle.oscip_run.specs.CutRuns.{IsCutRun}
-use Rattle.oscip_run.specs.DotRuns.{IsDotRun}
+use Rattle.oscip_run.specs.DotRuns.{IsAskedPicture, IsDotRun}
 use Rattle.oscip_run.specs.ImportRuns.{IsWhyRun}
 use Rattle.oscip_run.specs.Runs.{IsCheckRun}
 use Rattle.oscip_run.specs.declared.fault.RunFault.{RunFault}
@@ -20,10 +21,10 @@ abbrev pub IsCutJobRun : (Network → Type 0) → (RunFault → Type 0) → List
 IsCutJobRun IsOf IsRefused first second old new result =
     IsCutRun IsOf IsRefused first second old new (without_answer result) × IfOk result (λ agrees. agrees ≡ true)
 
--- a run that draws; a picture that is put is no check that says no
-abbrev pub IsDotJobRun : (Network → Type 0) → (RunFault → Type 0) → List ℕ → Option (List ℕ) → Option (List ℕ) → Result Bool RunFault → Type 0
-IsDotJobRun IsOf IsRefused report old new result =
-    IsDotRun IsOf IsRefused report old new (without_answer result) × IfOk result (λ agrees. agrees ≡ true)
+-- a run that draws such a picture; one that is put is no check that says no
+abbrev pub IsDotJobRun : (Network → ℕ → ℕ → List Priced → List Priced → List ℕ → Type 0) → (Network → Type 0) → (RunFault → Type 0) → List ℕ → Option (List ℕ) → Option (List ℕ) → Result Bool RunFault → Type 0
+IsDotJobRun Shows IsOf IsRefused report old new result =
+    IsDotRun Shows IsOf IsRefused report old new (without_answer result) × IfOk result (λ agrees. agrees ≡ true)
 
 -- a run that tells the chain between two names; nor is one that is put, or none
 abbrev pub IsWhyJobRun : (Network → Type 0) → (RunFault → Type 0) → List ℕ → List ℕ → Option (List ℕ) → Option (List ℕ) → Result Bool RunFault → Type 0
@@ -36,5 +37,5 @@ IsWhyJobRun IsOf IsRefused first second old new result =
 abbrev pub IsJobRun : (Option (List ℕ) → Network → Type 0) → (Option (List ℕ) → RunFault → Type 0) → NetQuestion → List ℕ → Option (List ℕ) → Option (List ℕ) → Option (List ℕ) → Result Bool RunFault → Type 0
 IsJobRun IsOf IsRefused (Cut cutting) report prices old new result = IsCutJobRun (IsOf prices) (IsRefused prices) (string_bytes cutting.from) (string_bytes cutting.to) old new result
 IsJobRun IsOf IsRefused (Check reported) report prices old new result = IsCheckRun (IsOf prices) (IsRefused prices) report old new result
-IsJobRun IsOf IsRefused (Dot reported) report prices old new result = IsDotJobRun (IsOf prices) (IsRefused prices) report old new result
+IsJobRun IsOf IsRefused (Dot drawing) report prices old new result = IsDotJobRun (IsAskedPicture drawing.by_flow) (IsOf prices) (IsRefused prices) report old new result
 IsJobRun IsOf IsRefused (Why names) report prices old new result = IsWhyJobRun (IsOf None) (IsRefused None) (string_bytes names.from) (string_bytes names.to) old new result

@@ -29,7 +29,7 @@ pub record PathsBeside : Type 0 where
 abbrev pub paths_beside : NetQuestion → PathsBeside
 paths_beside (Cut cutting) = record { report = None; prices = option_map string_bytes cutting.prices }
 paths_beside (Check reported) = record { report = Some (string_bytes reported.report); prices = option_map string_bytes reported.prices }
-paths_beside (Dot reported) = record { report = Some (string_bytes reported.report); prices = option_map string_bytes reported.prices }
+paths_beside (Dot drawing) = record { report = Some (string_bytes drawing.reported.report); prices = option_map string_bytes drawing.reported.prices }
 paths_beside (Why names) = record { report = None; prices = None }
 
 -- Below Answers are the answers of a reader.

@@ -19,9 +19,8 @@ fn report_of(question: &NetQuestion) -> Option<&str>
     ensures { option_copied result ≡ (paths_beside question.now).report }
 {
     match question {
-        NetQuestion::Check(reported) | NetQuestion::Dot(reported) => {
-            Some(reported.report.as_str())
-        }
+        NetQuestion::Check(reported) => Some(reported.report.as_str()),
+        NetQuestion::Dot(drawing) => Some(drawing.reported.report.as_str()),
         NetQuestion::Cut(_) | NetQuestion::Why(_) => None,
     }
 }
@@ -32,7 +31,8 @@ fn prices_of(question: &NetQuestion) -> Option<&str>
 {
     match question {
         NetQuestion::Cut(cutting) => cutting.prices.as_deref(),
-        NetQuestion::Check(reported) | NetQuestion::Dot(reported) => reported.prices.as_deref(),
+        NetQuestion::Check(reported) => reported.prices.as_deref(),
+        NetQuestion::Dot(drawing) => drawing.reported.prices.as_deref(),
         NetQuestion::Why(_) => None,
     }
 }

@@ -45,8 +45,8 @@ pub fn answer<R: Threads + Wait + Sync, G: Gate + Sync, S: Sink>(
             Ok(true)
         }
         NetQuestion::Check(_) => check_net_bytes(alloc, network, report, prices, sink),
-        NetQuestion::Dot(_) => {
-            dot_net_bytes(alloc, network, report, prices, sink)?;
+        NetQuestion::Dot(drawing) => {
+            dot_net_bytes(alloc, network, report, prices, drawing.by_flow, sink)?;
             Ok(true)
         }
         NetQuestion::Why(names) => {
@@ -84,8 +84,8 @@ pub fn answer_tree<R: Threads + Wait + Sync, G: Gate + Sync, S: Sink>(
             Ok(true)
         }
         NetQuestion::Check(_) => check_tree(rt, alloc, sources, report, prices, sink),
-        NetQuestion::Dot(_) => {
-            dot_tree(rt, alloc, sources, report, prices, sink)?;
+        NetQuestion::Dot(drawing) => {
+            dot_tree(rt, alloc, sources, report, prices, drawing.by_flow, sink)?;
             Ok(true)
         }
         NetQuestion::Why(names) => {

@@ -1,32 +1,33 @@
 use Rattle.std.proofs.Common.{refl}
 use Rattle.std.proofs.lemmas.Result.{err_from_is_err_and}
 use Rattle.cut_report.specs.Reading.{entry_of}
+use Rattle.oscip_run.specs.DotRuns.{IsAskedPicture}
 use Rattle.oscip_run.proofs.DotRuns.{drawn, flow_ascends, picture_of, refused, removed_ascend}
 use Rattle.oscip_run.proofs.drawing.dot_in.Goals as goal
 
-pub draw-requires-clause-from : goal.draw-requires-clause-from
-draw-requires-clause-from g c = c.in_ok-report.ensures.exact.report.from
+pub put_picture-requires-clause-from : goal.put_picture-requires-clause-from
+put_picture-requires-clause-from g c = c.in_ok-report.ensures.exact.report.from
 
-pub draw-requires-clause-to : goal.draw-requires-clause-to
-draw-requires-clause-to g c = c.in_ok-report.ensures.exact.report.to
+pub put_picture-requires-clause-to : goal.put_picture-requires-clause-to
+put_picture-requires-clause-to g c = c.in_ok-report.ensures.exact.report.to
 
-pub draw-requires-clause-removed : goal.draw-requires-clause-removed
-draw-requires-clause-removed g c = removed_ascend c.args.net.now c.in_ok-report.report.answer c.in_ok-report.ensures.exact.report.says
+pub put_picture-requires-clause-removed : goal.put_picture-requires-clause-removed
+put_picture-requires-clause-removed g c = removed_ascend c.args.net.now c.in_ok-report.report.answer c.in_ok-report.ensures.exact.report.says
 
-pub draw-requires-clause-flow : goal.draw-requires-clause-flow
-draw-requires-clause-flow g c = flow_ascends c.args.net.now c.in_ok-report.report.answer c.in_ok-report.ensures.exact.report.says
+pub put_picture-requires-clause-flow : goal.put_picture-requires-clause-flow
+put_picture-requires-clause-flow g c = flow_ascends c.args.net.now c.in_ok-report.report.answer c.in_ok-report.ensures.exact.report.says
 
 pub returns-in_err-report-clause-run : goal.returns-in_err-report-clause-run
 returns-in_err-report-clause-run g c =
     let p = err_from_is_err_and c.from_residual.result c.from_residual.ensures.1 in
-    rw (p.1, p.2) (refused c.args.net.now _ _ _ c.in_err-report.ensures.exact)
+    rw (p.1, p.2) (refused (IsAskedPicture c.args.by_flow) c.args.net.now _ _ _ c.in_err-report.ensures.exact)
 
-pub returns-in_err-draw-clause-run : goal.returns-in_err-draw-clause-run
-returns-in_err-draw-clause-run g c =
-    let p = err_from_is_err_and c.from_residual-in_err-draw.result c.from_residual-in_err-draw.ensures.1 in
-    rw (p.1, p.2) (drawn c.args.net.now _ c.in_ok-report.report _ _ _ c.in_ok-report.ensures.exact c.in_err-draw.ensures.run)
+pub returns-in_err-put_picture-clause-run : goal.returns-in_err-put_picture-clause-run
+returns-in_err-put_picture-clause-run g c =
+    let p = err_from_is_err_and c.from_residual-in_err-put_picture.result c.from_residual-in_err-put_picture.ensures.1 in
+    rw (p.1, p.2) (drawn (IsAskedPicture c.args.by_flow) c.args.net.now _ c.in_ok-report.report _ _ _ c.in_ok-report.ensures.exact c.in_err-put_picture.ensures.run)
 
 pub returns-clause-run : goal.returns-clause-run
 returns-clause-run g c =
-    let put = c.in_ok-draw.ensures.run in
-    (put.0, record { net = c.args.net.now; reads = refl; entry = entry_of c.in_ok-report.report; says = c.in_ok-report.ensures.exact; picture = picture_of c.args.net.now c.in_ok-report.report.from c.in_ok-report.report.to c.in_ok-report.report.answer put.0 put.1 }, put.2)
+    let put = c.in_ok-put_picture.ensures.run in
+    (put.0, record { net = c.args.net.now; reads = refl; entry = entry_of c.in_ok-report.report; says = c.in_ok-report.ensures.exact; picture = picture_of (IsAskedPicture c.args.by_flow) c.args.net.now c.in_ok-report.report.from c.in_ok-report.report.to c.in_ok-report.report.answer put.0 put.1 }, put.2)
