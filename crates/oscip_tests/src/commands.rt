@@ -46,6 +46,12 @@ const PUTS: &[Command] = &[
     (&["check-net", "six.net", "six.cut"], &[], None, b"yes\n"),
     (&["dot-net", "six.net", "six.cut"], &[], None, SIX_DOT),
     (
+        &["dot-net", "--flow", "six.net", "six.cut"],
+        &[],
+        None,
+        SIX_DOT,
+    ),
+    (
         &["cut", "four", "A", "D", "--workers", "2"],
         FOUR,
         None,
