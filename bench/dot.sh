@@ -26,6 +26,8 @@ draw() {
 "$oscip" cut --workers 1 "$here/../examples/editor" Edit Net > edit.cut
 "$oscip" dot "$here/../examples/editor" edit.cut > edit.dot
 draw edit
+"$oscip" dot --flow "$here/../examples/editor" edit.cut > flow.dot
+draw flow
 printf 'import node Graph 1\nimport Graph edge 0\nimport edge subgraph 2\nimport subgraph strict 1\n' > kept.net
 "$oscip" cut-net kept.net node strict > kept.cut
 "$oscip" dot-net kept.net kept.cut > kept.dot

@@ -243,13 +243,19 @@ Words priced(Words words, const Examples &examples) {
     return words;
 }
 
+// A command that draws, of two by flow.
+Words pictured(Words words) {
+    if (one_in(2)) words.push_back("--flow");
+    return words;
+}
+
 void try_net(const Examples &examples) {
     const Text &net = one_of(examples.nets);
     write_file("net", one_in(8) ? net : changed(net, examples.reports));
     write_file("report", changed(one_of(examples.reports), examples.nets));
     switch (below(5)) {
     case 0: tried(priced({"check-net", "net", "report"}, examples)); break;
-    case 1: tried(priced({"dot-net", "net", "report"}, examples)); break;
+    case 1: tried(priced(pictured({"dot-net", "net", "report"}), examples)); break;
     case 2: tried({"why-net", "net", some_name(), some_name()}); break;
     default: tried_cut(priced({"cut-net", "net", some_name(), some_name(), some_workers()}, examples));
     }
@@ -284,7 +290,7 @@ void try_tree(const Examples &examples) {
     write_file("report", changed(one_of(examples.reports), examples.nets));
     switch (below(9)) {
     case 0: tried(priced({"check", "tree", "report"}, examples)); break;
-    case 1: tried(priced({"dot", "tree", "report"}, examples)); break;
+    case 1: tried(priced(pictured({"dot", "tree", "report"}), examples)); break;
     case 2: tried({"crossings", "tree", some_name(), some_name()}); break;
     case 3: tried({"unresolved", "tree"}); break;
     case 4: tried_cut(priced({"cut", "tree", some_name(), some_name(), some_workers()}, examples)); break;
@@ -300,7 +306,7 @@ void try_tree(const Examples &examples) {
 }
 
 const Words SAID = {"cut", "cut-net", "check", "check-net", "dot", "dot-net", "def", "refs", "crossings", "why", "why-net", "index", "unresolved", "help", "--help", "-h", "-V", "--version",
-    "--workers", "--workers=2", "--workers=99", "--prices", "--prices=prices", "--hex", "--package", "--package=p", "--package= p", "--root=r", "--", "-", "net", "report", "tree", "index", "gone", "A", "B", "0", "3",
+    "--workers", "--workers=2", "--workers=99", "--prices", "--prices=prices", "--hex", "--flow", "--package", "--package=p", "--package= p", "--root=r", "--", "-", "net", "report", "tree", "index", "gone", "A", "B", "0", "3",
     "-1", "2147483648", "", "\xff"};
 
 // Each front of a text, and the text with one byte changed at each place, in the file of that name; then the commands.

@@ -124,6 +124,9 @@ trial 3 cut absent A D
 trial 0 dot-net six.net six.cut
 trial 0 dot-net editor.net editor.cut
 trial 0 dot four four.cut
+trial 0 dot-net --flow editor.net editor.cut
+trial 0 dot-net --flow --prices=pins.prices six.net blocked.cut
+trial 0 dot --flow four four.cut
 trial 0 crossings four B D
 trial 0 crossings editor Printer Spooler
 trial 1 crossings four A Absent
