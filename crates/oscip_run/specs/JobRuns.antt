@@ -21,7 +21,7 @@ abbrev pub IsCutJobRun : (Network → Type 0) → (RunFault → Type 0) → List
 IsCutJobRun IsOf IsRefused first second old new result =
     IsCutRun IsOf IsRefused first second old new (without_answer result) × IfOk result (λ agrees. agrees ≡ true)
 
--- a run that draws such a picture; one that is put is no check that says no
+-- a run that draws such pictures as Shows says; one that is put is no check that says no
 abbrev pub IsDotJobRun : (Network → ℕ → ℕ → List Priced → List Priced → List ℕ → Type 0) → (Network → Type 0) → (RunFault → Type 0) → List ℕ → Option (List ℕ) → Option (List ℕ) → Result Bool RunFault → Type 0
 IsDotJobRun Shows IsOf IsRefused report old new result =
     IsDotRun Shows IsOf IsRefused report old new (without_answer result) × IfOk result (λ agrees. agrees ≡ true)
