@@ -79,7 +79,7 @@ indexes : (modules : List ModuleInterface) (order : List ℕ) → AreAllPlaces (
 indexes modules order all = record { sound = sound; complete = complete }
   where
     none : ModuleInterface
-    none = record { name = [] }
+    none = record { name = []; declarations = []; bases = []; imports = [] }
 
     itself : (name : List ℕ) → bytes_eq name name ≡ true
     itself name = (bytes_eq-Decides name name).1 refl

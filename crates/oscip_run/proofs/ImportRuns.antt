@@ -10,7 +10,7 @@ use Rattle.cut_net.specs.Cuts.{Any, Chain, Imports}
 use Rattle.cut_net.specs.NetReading.{import_line}
 use Rattle.cut_net.specs.NetText.{net_line, IsNetOutcome, NetLine}
 use Rattle.cut_net.specs.Network.{Network, index_of}
-use Rattle.cut_report.specs.NetLines.{chain_text, import_between, imports_along, net_rows, net_text}
+use Rattle.cut_report.specs.NetLines.{chain_text, ended_lines, import_between, imports_along, net_text}
 use Rattle.cut_solve.specs.Faults.{UnlessMemory}
 use Rattle.cut_solve.specs.Solving.{IsSolveOutcome}
 use Rattle.cut_solve.specs.Solving as solving
@@ -73,8 +73,8 @@ line_stands : (line more : List ℕ) → (line ++ (10 ∷ [])) ++ more ≢ []
 line_stands [] more e = absurd cc
 line_stands (b ∷ line) more e = absurd cc
 
-rows_stand : (line : NetLine) (more : List NetLine) → net_rows (line ∷ more) ≢ []
-rows_stand line more = line_stands (net_line line) (net_rows more)
+rows_stand : (line : NetLine) (more : List NetLine) → ended_lines (line ∷ more) ≢ []
+rows_stand line more = line_stands (net_line line) (ended_lines more)
 
 -- a chain between two modules has lines
 has_lines : (n : Network) (a b : ℕ) (chain : List ℕ) → a ≢ b → AreChain (Imports n.imports Any) a b chain → chain_text n chain ≢ []
