@@ -228,9 +228,7 @@ fn with_flow<'a>(alloc: Global, command: Made<'a>) -> Made<'a>
     let flow = Arg::new(alloc, "flow")
         .long("flow")
         .action(ArgAction::SetTrue)
-        .help(
-            "Draw only the imports that the report removes or gives flow, and the modules at their ends",
-        );
+        .help("Draw only the imports that the report removes or gives flow");
     with_arg(alloc, command, flow)
 }
 
