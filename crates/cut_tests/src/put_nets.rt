@@ -3,7 +3,7 @@ ghost use Rattle.std.specs.Prelude.{◌≡◌, [], IsTrue};
 
 use crate::told::is_told;
 use crate::worked::{DIAMOND, TWO_WAYS, net_of};
-use byte_sink::Sink;
+use byte_sink::{Sink, SinkFault};
 use cut_net::Net;
 use cut_report::{least_chain_of, write_chain, write_net};
 use std::alloc::{AllocError, Global};
@@ -59,12 +59,21 @@ fn is_unpinned(net: &Net) -> bool
     net.pins().is_empty()
 }
 
+/// Whether the whole was put. Fails where memory is refused.
+fn is_whole(put: Result<(), SinkFault>) -> Result<bool, AllocError> {
+    match put {
+        Ok(()) => Ok(true),
+        Err(SinkFault::Device) => Ok(false),
+        Err(SinkFault::Memory) => Err(AllocError),
+    }
+}
+
 /// Puts a network in which nothing is pinned.
 fn put_net<S: Sink>(alloc: Global, net: &Net, sink: &mut S) -> Result<bool, AllocError> {
     if !is_unpinned(net) {
         return Err(AllocError);
     }
-    Ok(write_net(alloc, net, sink).is_ok())
+    is_whole(write_net(alloc, net, sink))
 }
 
 /// Puts the least chain from a module to another; whether there is one.
@@ -79,7 +88,7 @@ fn put_chain<S: Sink>(
         return Err(AllocError);
     }
     match least_chain_of(alloc, net, from, to)? {
-        Some(chain) => Ok(Some(write_chain(alloc, net, chain.as_slice(), sink).is_ok())),
+        Some(chain) => Ok(Some(is_whole(write_chain(alloc, net, chain.as_slice(), sink))?)),
         None => Ok(None),
     }
 }
