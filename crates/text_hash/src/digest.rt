@@ -1,19 +1,28 @@
-//! The digest of a text, at an instruction a byte, where std's own hash takes several. Two of four words take in each block of sixteen bytes,
-//! and their product goes into the other two, which no block reaches by itself: so no block alone makes up for what stands before it. At the
-//! end std hashes the words, the length and the bytes that are left (SipHash-1-3; Aumasson and Bernstein 2012).
-ghost use Rattle.std.specs.Prelude.{◌≡◌, ◌-◌, ◌*◌, ◌/◌, ◌^◌, bit_and, fold, map};
-ghost use Rattle.std.specs.Int.{from_le_bytes, w128};
-ghost use Rattle.text_hash.specs.Digest.{digest, first_words, with_block};
+//! The digest of a text, at about an instruction a byte, where std's own hash takes several. Each word moves both sides of one of four pairs,
+//! in two ways, and the product of the sides moves the pair before it: a word, which has 64 bits, can't set a pair, which has 128.
+//! std hashes the length, the bytes behind the last block and then the pairs (SipHash-1-3; Aumasson and Bernstein 2012).
+ghost use Rattle.std.specs.Prelude.{◌≡◌, ◌-◌, ◌*◌, ◌/◌, ◌^◌, bit_and, fold};
+ghost use Rattle.text_hash.specs.Digest.{digest, first_state, with_block, with_word};
 
 use std::hash::{DefaultHasher, Hasher};
 
-/// The words of a digest behind some blocks.
+/// The bits of a word that are taken in: those in which names, which are of ASCII, differ. Who solves for a word finds few without others.
+const SEVEN_BITS: u64 = 0x7F7F_7F7F_7F7F_7F7F;
+
+/// Two sides that are moved by the same words.
 #[derive(Clone, Copy)]
-pub(crate) struct Words {
+struct Pair {
     left: u64,
     right: u64,
-    low: u64,
-    high: u64,
+}
+
+/// The state behind the words so far: its pairs in the order in which they take in the next ones.
+#[derive(Clone, Copy)]
+pub(crate) struct State {
+    first: Pair,
+    second: Pair,
+    third: Pair,
+    fourth: Pair,
 }
 
 /// The two halves of a product, the lower one first.
@@ -28,43 +37,71 @@ fn product(left: u64, right: u64) -> (u64, u64)
     )
 }
 
-impl Words {
-    /// The words before the first block.
-    fn new() -> Words
-        ensures { result ≡ first_words }
+impl State {
+    /// The state before the first word.
+    fn new() -> State
+        ensures { result ≡ first_state }
     {
-        Words {
-            left: 0x243f_6a88_85a3_08d3,
-            right: 0x1319_8a2e_0370_7344,
-            low: 0xa409_3822_299f_31d0,
-            high: 0x082e_fa98_ec4e_6c89,
+        State {
+            first: Pair {
+                left: 0x243f_6a88_85a3_08d3,
+                right: 0x1319_8a2e_0370_7344,
+            },
+            second: Pair {
+                left: 0xa409_3822_299f_31d0,
+                right: 0x082e_fa98_ec4e_6c89,
+            },
+            third: Pair {
+                left: 0x4528_21e6_38d0_1377,
+                right: 0xbe54_66cf_34e9_0c6c,
+            },
+            fourth: Pair {
+                left: 0xc0ac_29b7_c97c_50dd,
+                right: 0x3f84_d5b5_b547_0917,
+            },
         }
     }
 
-    /// The words behind one more block.
-    fn with_block(self, block: u128) -> Words
-        ensures { result ≡ with_block self block }
+    /// The state behind one more word.
+    fn with_word(self, word: u64) -> State
+        ensures { result ≡ with_word self word }
     {
-        let left = self.left ^ (block & 0xFFFF_FFFF_FFFF_FFFF) as u64;
-        let right = self.right ^ (block >> 64) as u64;
+        let word = word & SEVEN_BITS;
+        let left = self.first.left ^ word;
+        let right = self.first.right.wrapping_sub(word);
         let (low, high) = product(left, right);
-        Words {
-            left: self.low.wrapping_add(right),
-            right: self.high ^ left,
-            low: self.low.rotate_left(29).wrapping_add(low),
-            high: self.high.rotate_left(31) ^ high,
+        State {
+            first: self.second,
+            second: self.third,
+            third: Pair {
+                left: self.fourth.left.wrapping_sub(low),
+                right: self.fourth.right.wrapping_sub(high),
+            },
+            fourth: Pair { left, right },
         }
     }
 
-    /// The words behind so many blocks.
-    fn of(blocks: &[[u8; 16]]) -> Words
-        ensures { result ≡ fold with_block first_words (map (from_le_bytes w128) blocks.now) }
+    /// The state behind the four words of one more block, with which each pair stands where it stood.
+    fn with_block(self, block: &[u8; 32]) -> State
+        ensures { result ≡ with_block self block.now }
     {
-        let mut words = Words::new();
+        let (words, _) = block.as_chunks::<8>();
+        self.with_word(u64::from_le_bytes(words[0]))
+            .with_word(u64::from_le_bytes(words[1]))
+            .with_word(u64::from_le_bytes(words[2]))
+            .with_word(u64::from_le_bytes(words[3]))
+    }
+
+    /// The state behind so many blocks.
+    #[inline(never)]
+    fn of(blocks: &[[u8; 32]]) -> State
+        ensures { result ≡ fold with_block first_state blocks.now }
+    {
+        let mut state = State::new();
         for block in blocks {
-            words = words.with_block(u128::from_le_bytes(*block));
+            state = state.with_block(block);
         }
-        words
+        state
     }
 }
 
@@ -72,14 +109,18 @@ impl Words {
 pub(crate) fn digest(text: &[u8]) -> u64
     ensures { result ≡ digest text.now }
 {
-    let (blocks, rest) = text.as_chunks::<16>();
-    let words = Words::of(blocks);
+    let (blocks, rest) = text.as_chunks::<32>();
+    let state = State::of(blocks);
     let mut hasher = DefaultHasher::new();
-    hasher.write_u64(words.left);
-    hasher.write_u64(words.right);
-    hasher.write_u64(words.low);
-    hasher.write_u64(words.high);
     hasher.write_usize(text.len());
     hasher.write(rest);
+    hasher.write_u64(state.first.left);
+    hasher.write_u64(state.first.right);
+    hasher.write_u64(state.second.left);
+    hasher.write_u64(state.second.right);
+    hasher.write_u64(state.third.left);
+    hasher.write_u64(state.third.right);
+    hasher.write_u64(state.fourth.left);
+    hasher.write_u64(state.fourth.right);
     hasher.finish()
 }

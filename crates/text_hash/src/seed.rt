@@ -18,8 +18,8 @@ pub struct Seed {
 }
 
 impl Seed {
-    /// The seed that a text gives by its digest. It has no secret, but what an author writes so that it falls together with one seed changes
-    /// the seed.
+    /// The seed that a text gives by its digest. It has no secret: what an author writes so that it falls together with one seed changes
+    /// the seed, and to bring it back he has to solve for many words of the text at once. Nothing proves that this is hard.
     fn of(text: &[u8]) -> Seed
         ensures { result.hasher ≡ fold folding.write folding.initial (fed.u64 (digest text.now)) }
     {
