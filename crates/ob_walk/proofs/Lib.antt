@@ -1,5 +1,4 @@
 pub mod DeclarationWalks
-pub mod DeclaredNames
 pub mod ExpressionWalks
 pub mod NameWalks
 pub mod Passes

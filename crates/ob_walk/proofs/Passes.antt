@@ -5,10 +5,10 @@ use Rattle.std.proofs.lemmas.List.{append-nil, take_all, take_more, length-take-
 use Rattle.std.proofs.lemmas.List.Elements.{filter_map-append}
 use Rattle.std.proofs.lemmas.Grind.{take_at_read}
 use Rattle.ob_walk.specs.declared.item.Item.{Item}
-use Rattle.ob_walk.specs.Items.{items_of, number_at, used_by}
+use Rattle.ob_walk.specs.Items.{items_of, declared_by, number_at, used_by}
 use Rattle.ob_tree.specs.declared.role.Role.TheVariants.{Declares, Aliases, Imports, Uses, Completes, Selects, Names, Repeats}
 use Rattle.ob_tree.specs.Marks.{Out, Begins, Ends, Identifier, Value, Word, tokens_of}
-use Rattle.ob_tree.specs.Derives.{numbers_from, used_in}
+use Rattle.ob_tree.specs.Derives.{declared_in, numbers_from, used_in}
 use Rattle.ob_tree.proofs.TokenNumbers.{all_numbers}
 
 -- ---- one more item
@@ -48,6 +48,21 @@ numbers-more is at d h =
 
 -- ---- the items of one sort
 
+pub declared-items : (ms : Out) → filter_map declared_by (items_of ms) ≡ declared_in ms
+declared-items [] = refl
+declared-items (Begins c n ∷ ms) = declared-items ms
+declared-items (Ends c ∷ ms) = declared-items ms
+declared-items (Identifier (Declares starred) n ∷ ms) = ap (λ (ns : List ℕ). n ∷ ns) (declared-items ms)
+declared-items (Identifier Aliases n ∷ ms) = ap (λ (ns : List ℕ). n ∷ ns) (declared-items ms)
+declared-items (Identifier Imports n ∷ ms) = declared-items ms
+declared-items (Identifier Uses n ∷ ms) = declared-items ms
+declared-items (Identifier Completes n ∷ ms) = declared-items ms
+declared-items (Identifier Selects n ∷ ms) = declared-items ms
+declared-items (Identifier Names n ∷ ms) = declared-items ms
+declared-items (Identifier (Repeats name) n ∷ ms) = declared-items ms
+declared-items (Value k n ∷ ms) = declared-items ms
+declared-items (Word k ∷ ms) = declared-items ms
+
 pub used-items : (ms : Out) → filter_map used_by (items_of ms) ≡ used_in ms
 used-items [] = refl
 used-items (Begins c n ∷ ms) = used-items ms
@@ -63,4 +78,4 @@ used-items (Identifier (Repeats name) n ∷ ms) = used-items ms
 used-items (Value k n ∷ ms) = used-items ms
 used-items (Word k ∷ ms) = used-items ms
 
-pub ruleset passes = (all_numbers, filter_map-append, take_at_read, take_all, used-items, item_numbers, append-nil)
+pub ruleset passes = (all_numbers, filter_map-append, take_at_read, take_all, declared-items, used-items, item_numbers, append-nil)

@@ -19,6 +19,19 @@ number_at at (items.Identifier r n) = n
 number_at at (items.Value n) = n
 number_at at items.Word = at
 
+-- the number of an identifier that is declared, and of one that is looked up
+abbrev pub declared_by : Item → Option ℕ
+declared_by (items.Identifier (Declares starred) n) = Some n
+declared_by (items.Identifier Aliases n) = Some n
+declared_by (items.Identifier Imports n) = None
+declared_by (items.Identifier Uses n) = None
+declared_by (items.Identifier Completes n) = None
+declared_by (items.Identifier Selects n) = None
+declared_by (items.Identifier Names n) = None
+declared_by (items.Identifier (Repeats name) n) = None
+declared_by (items.Value n) = None
+declared_by items.Word = None
+
 abbrev pub used_by : Item → Option ℕ
 used_by (items.Identifier (Declares starred) n) = None
 used_by (items.Identifier Aliases n) = None

@@ -5,7 +5,6 @@
 
 mod item;
 mod items;
-mod numbers;
 mod walk;
 mod walkers;
 

@@ -1,7 +1,6 @@
 //! The tokens of a tree in order, each with what it does where it stands.
 
 pub(crate) mod declarations;
-pub(crate) mod declared;
 mod expressions;
 mod names;
 mod statements;

@@ -10,9 +10,7 @@ ghost use Rattle.ob_walk.specs.Items.{items_of, number_at};
 
 use crate::item::Item;
 use crate::items::Items;
-use crate::numbers::Numbers;
 use crate::walk::declarations::walk_module;
-use crate::walk::declared::module_names;
 use ob_tree::declaration::Module;
 use ob_tree::role::Role;
 use std::alloc::{AllocError, Global};
@@ -59,12 +57,21 @@ pub fn yield_of(alloc: Global, module: &Module) -> Result<Vec<u32>, AllocError>
 /// The numbers of the identifiers that a module declares, in order: those of its imports, constants, types, variables,
 /// fields, procedures and parameters, at every depth. A stack of 2 MiB is enough for a tree of 200 levels, and a deeper one needs
 /// more in proportion.
+#[tactic(auto, using(crate::proofs::Passes::passes))]
 pub fn declarations(alloc: Global, module: &Module) -> Result<Vec<u32>, AllocError>
     ensures { IfOk result (λ v. v.items ≡ declared_in (module_outline «module».now)) }
 {
-    let mut numbers = Numbers::new(alloc);
-    module_names(&mut numbers, module);
-    numbers.list()
+    let items = items(alloc, module)?;
+    let mut numbers = Vec::new(alloc);
+    for item in &items {
+        match *item {
+            Item::Identifier(Role::Declares { starred: _ } | Role::Aliases, number) => {
+                numbers.push(number)?;
+            }
+            Item::Identifier(_, _) | Item::Value(_) | Item::Word => {}
+        }
+    }
+    Ok(numbers)
 }
 
 /// The numbers of the identifiers that are looked up in a module, in order: the heads of designators and of qualified
