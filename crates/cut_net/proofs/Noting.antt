@@ -53,7 +53,7 @@ map_none_is f None e = refl
 
 -- ---- names
 
-names_apart : (names : List (List ℕ)) → AreNamesInOrder names → AreApart names
+pub names_apart : (names : List (List ℕ)) → AreNamesInOrder names → AreApart names
 names_apart names up i j below lt e = let same = same_name names (ascending_apart names up) i j (omega arith) lt e in omega arith
 
 pub named_is : (net : Network) (m n : List ℕ) (i : Priced) → is_named net m n i ≡ true → (m ≡ name_of net i.from) × (n ≡ name_of net i.to)
@@ -109,7 +109,7 @@ absent_is (Some x) t none = absurd (none x refl)
 
 module _ (net : Network) (is : IsNetwork net) where
   -- one import has two names
-  same_place : (j k : ℕ) (m n : List ℕ) → j < length net.imports → k < length net.imports → is_named net m n (get_or net.imports j none_there) ≡ true → is_named net m n (get_or net.imports k none_there) ≡ true → j ≡ k
+  pub same_place : (j k : ℕ) (m n : List ℕ) → j < length net.imports → k < length net.imports → is_named net m n (get_or net.imports j none_there) ≡ true → is_named net m n (get_or net.imports k none_there) ≡ true → j ≡ k
   same_place j k m n lj lk e f =
       let i = get_or net.imports j none_there in
       let l = get_or net.imports k none_there in

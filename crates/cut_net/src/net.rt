@@ -39,7 +39,8 @@ impl Model for Net {
         × ArePins (record { names = map string_bytes n.names.items; imports = n.imports.items; pins = n.pins.items }) };
 }
 
-pub(crate) fn place_of(names: &[String], name: &str) -> Option<usize>
+/// The place of a name among names in order, or none where it is none of them.
+pub fn place_of(names: &[String], name: &str) -> Option<usize>
     requires { IsStrictlySortedBy string_cmp names.now }
     ensures { result ≡ position (λ x. bytes_eq (string_bytes x) name.now) names.now }
 {

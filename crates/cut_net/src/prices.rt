@@ -21,8 +21,8 @@ use std::alloc::{AllocError, Global};
 /// What the weights of the imports without a pin may sum to.
 const MOST_WEIGHT: u64 = 1 << 40;
 
-/// The number of the import between the modules of two names.
-fn number_of(net: &Net, importer: &str, imported: &str) -> Option<usize>
+/// The number of the import between the modules of two names, or none where the network lacks it.
+pub fn import_named(net: &Net, importer: &str, imported: &str) -> Option<usize>
     ensures found { IfSome result (λ k. (k < length net.now.imports) × (is_named net.now importer.now imported.now (slice_index_or net.now.imports k none_there) ≡ true)) }
     ensures none { IfNone result ((i : Priced) → Contains net.now.imports i → is_named net.now importer.now imported.now i ≡ true → ⊥) }
 {
@@ -51,7 +51,7 @@ fn note(net: &Net, told: &mut Vec<Option<Change>>, piece: &[u8]) -> Result<(), P
     let Some(line) = price_line_in(piece) else {
         return Err(PriceLineFault::BadLine);
     };
-    let Some(number) = number_of(net, line.importer, line.imported) else {
+    let Some(number) = import_named(net, line.importer, line.imported) else {
         return Err(PriceLineFault::NoSuchImport);
     };
     if told[number].is_some() {

@@ -7,9 +7,9 @@ use Rattle.std.proofs.lemmas.List.Elements.{Contains-append_left, Contains-appen
 use Rattle.std.proofs.lemmas.List.Sums.{sum_by-set, sum_by-cons}
 use Rattle.digraph.specs.declared.edge.Edge.{Edge}
 use Rattle.digraph.specs.Edges.{Leads, predecessors}
-use Rattle.digraph.specs.Levels.{level_of, unset, HasChain, AreLevels, ArePutOn}
+use Rattle.digraph.specs.Levels.{level_of, unset, AreLevels, ArePutOn, HasChainInto}
 use Rattle.digraph.specs.Marks.{row_at}
-use Rattle.digraph.proofs.Members.{from_map, in_filter, in_map, of_filter, one_member}
+use Rattle.digraph.proofs.Members.{from_map, in_filter, in_map, of_filter}
 
 -- a node has a level or has none
 pub has_level : (o : Option ℕ) → ((j : ℕ) × (o ≡ Some j)) ⊎ (o ≡ None)
@@ -113,17 +113,17 @@ put_all nodes level old now listed i putting all = record {
 -- ---- rounds
 
 -- the levels up to this one are found, and the front is those who are on it
-pub record IsRound (edges : List Edge) (nodes end : ℕ) (levels : List (Option ℕ)) (front : List ℕ) (level : ℕ) : Type 0 where
+pub record IsRound (edges : List Edge) (nodes : ℕ) (ends : List ℕ) (levels : List (Option ℕ)) (front : List ℕ) (level : ℕ) : Type 0 where
   pub size : length levels ≡ nodes
-  pub start : level_of levels end ≡ Some 0
+  pub start : (v : ℕ) → Contains ends v → level_of levels v ≡ Some 0
   pub low : (v j : ℕ) → level_of levels v ≡ Some j → j ≤ level
-  pub chains : (v j : ℕ) → level_of levels v ≡ Some j → HasChain edges v end j
+  pub chains : (v j : ℕ) → level_of levels v ≡ Some j → HasChainInto edges v ends j
   pub closed : (v w j : ℕ) → Leads edges v w → level_of levels w ≡ Some j → j < level → (i : ℕ) × (level_of levels v ≡ Some i) × (i ≤ j + 1)
   pub front_is : (v : ℕ) → Contains front v → level_of levels v ≡ Some level
   pub front_has : (v : ℕ) → level_of levels v ≡ Some level → Contains front v
   pub few : 0 < length front → level + unset levels ≤ nodes
 
-none_level : (n v : ℕ) → level_of (replicate n None) v ≡ None
+pub none_level : (n v : ℕ) → level_of (replicate n None) v ≡ None
 none_level zero v = refl
 none_level (suc n) zero = refl
 none_level (suc n) (suc v) = none_level n v
@@ -136,31 +136,25 @@ length_none : (n : ℕ) → length (replicate {A = Option ℕ} n None) ≡ n
 length_none zero = refl
 length_none (suc n) = let rest = length_none n in omega arith
 
-pub first_round : (edges : List Edge) (nodes end : ℕ) → end < nodes → IsRound edges nodes end (set (replicate nodes None) end (Some 0)) (end ∷ []) 0
-first_round edges nodes end lt =
-    let none : List (Option ℕ) = replicate nodes None in
-    let long = length_none nodes in
-    let own : level_of (set none end (Some 0)) end ≡ Some 0 = get_or-set_same none end (Some 0) None (omega arith) in
-    let only : (v j : ℕ) → level_of (set none end (Some 0)) v ≡ Some j → (v ≡ end) × (j ≡ 0) = λ v j is. elim (cases_eq v end) [
-      | inl e ↦ (e, same_level (level_of (set none end (Some 0)) v) j 0 is (ap (level_of (set none end (Some 0))) e ∙ own))
-      | inr ne ↦ never_both (level_of (set none end (Some 0)) v) j is (get_or-set_other none end v (Some 0) None ne ∙ none_level nodes v)
+-- the ends, put on level 0
+pub first_round : (edges : List Edge) (nodes : ℕ) (ends : List ℕ) (levels : List (Option ℕ)) (front : List ℕ) → ArePutOn ends 0 (replicate nodes None) levels front → IsRound edges nodes ends levels front 0
+first_round edges nodes ends levels front put =
+    let only : (v j : ℕ) → level_of levels v ≡ Some j → Contains ends v × (j ≡ 0) = λ v j is. elim (put.only v j is) [
+      | inl was ↦ never_both (level_of (replicate nodes None) v) j was (none_level nodes v)
+      | inr new ↦ (new.1, new.2)
     ] in
     record {
-      size = length-set none end (Some 0) ∙ long;
-      start = own;
-      low = λ v j is. let o = only v j is in let z = o.1 in omega arith;
-      chains = λ v j is. let o = only v j is in ([], o.0, sym o.1);
+      size = put.size ∙ length_none nodes;
+      start = λ v has. put.put v has (none_level nodes v);
+      low = λ v j is. let z = (only v j is).1 in omega arith;
+      chains = λ v j is. let o = only v j is in (v, o.0, ([], refl, sym o.1));
       closed = λ v w j leads is below. absurd (omega arith);
-      front_is = λ v has. ap (level_of (set none end (Some 0))) (sym (one_member end v has)) ∙ own;
-      front_has = λ v is. (0, omega arith, sym (only v 0 is).0);
-      few = λ _.
-          let counted = sum_by-set (λ (o : Option ℕ). cond (is_some o) 0 1) none end (Some 0) None (omega arith) in
-          let here : cond {A = ℕ} (is_some (get_or none end None)) 0 1 ≡ 1 = ap (λ (o : Option ℕ). cond {A = ℕ} (is_some o) 0 1) (none_level nodes end) in
-          let all = unset_all nodes in
-          omega arith;
+      front_is = λ v has. let new = put.listed_are v has in put.put v new.1 new.0;
+      front_has = λ v is. put.are_listed v is (none_level nodes v);
+      few = λ _. let count = put.count in let all = unset_all nodes in omega arith;
     }
 
-module _ (edges : List Edge) (nodes end : ℕ) (levels : List (Option ℕ)) (front : List ℕ) (level : ℕ) (round : IsRound edges nodes end levels front level)
+module _ (edges : List Edge) (nodes : ℕ) (ends : List ℕ) (levels : List (Option ℕ)) (front : List ℕ) (level : ℕ) (round : IsRound edges nodes ends levels front level)
     (before : List ℕ) (are_before : (v : ℕ) → Contains before v ↔ ((w : ℕ) × Contains front w × Leads edges v w))
     (now : List (Option ℕ)) (next : List ℕ) (put : ArePutOn before (level + 1) levels now next) where
   -- a level that is no new one was there before
@@ -177,10 +171,10 @@ module _ (edges : List Edge) (nodes end : ℕ) (levels : List (Option ℕ)) (fro
       let place : via.1.0 < length front = via.1.1 in
       omega arith
 
-  pub next_round : IsRound edges nodes end now next (level + 1)
+  pub next_round : IsRound edges nodes ends now next (level + 1)
   next_round = record {
     size = put.size ∙ round.size;
-    start = put.kept end 0 round.start;
+    start = λ v has. put.kept v 0 (round.start v has);
     low = λ v j is. elim (put.only v j is) [
       | inl was ↦ let le = round.low v j was in omega arith
       | inr new ↦ let e = new.2 in omega arith
@@ -191,8 +185,8 @@ module _ (edges : List Edge) (nodes end : ℕ) (levels : List (Option ℕ)) (fro
           let via = (are_before v).0 new.1 in
           let chain = round.chains via.0 level (round.front_is via.0 via.1) in
           let e = new.2 in
-          let long : length chain.0 ≡ level = chain.2 in
-          (via.0 ∷ chain.0, (via.2, chain.1), omega arith)
+          let long : length chain.2.0 ≡ level = chain.2.2 in
+          (chain.0, chain.1, (via.0 ∷ chain.2.0, (via.2, chain.2.1), omega arith))
     ];
     closed = λ v w j leads is below.
         let was = was_there w j is (omega arith) in
@@ -220,8 +214,8 @@ module _ (edges : List Edge) (nodes end : ℕ) (levels : List (Option ℕ)) (fro
         omega arith;
   }
 
-pub all_rounds : (edges : List Edge) (nodes end : ℕ) (levels : List (Option ℕ)) (front : List ℕ) (level : ℕ) → IsRound edges nodes end levels front level → length front ≡ 0 → AreLevels edges end levels
-all_rounds edges nodes end levels front level round none = record {
+pub all_rounds : (edges : List Edge) (nodes : ℕ) (ends : List ℕ) (levels : List (Option ℕ)) (front : List ℕ) (level : ℕ) → IsRound edges nodes ends levels front level → length front ≡ 0 → AreLevels edges ends levels
+all_rounds edges nodes ends levels front level round none = record {
   start = round.start;
   chains = round.chains;
   closed = λ v w j leads is. elim (cases_lt j level) [

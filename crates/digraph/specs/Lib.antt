@@ -2,6 +2,7 @@ pub mod Arrivals
 pub mod Chains
 pub mod Cycle
 pub mod Edges
+pub mod Graphs
 pub mod Levels
 pub mod Marks
 pub mod Ranks

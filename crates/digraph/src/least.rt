@@ -1,13 +1,13 @@
 //! The least of the chains with the fewest edges.
-ghost use Rattle.std.specs.Prelude.{◌≡◌, ◌<◌, ◌≤◌, ℕ, AllPairs, Contains, IfNone, IfOk, IfSome, Some, length, vec_len};
+ghost use Rattle.std.specs.Prelude.{◌≡◌, ◌<◌, ◌≤◌, ◌++◌, ℕ, AllPairs, Contains, IfNone, IfOk, IfSome, List, OnOk, Some, vec_len};
 ghost use Rattle.digraph.specs.Chains.{Chain};
-ghost use Rattle.digraph.specs.Edges.{successors, AreBetween, IsAscending, Leads};
-ghost use Rattle.digraph.specs.Levels.{level_of, AreLevels, IsLeastChain, IsLeastOn};
-ghost use Rattle.digraph.specs.Marks.{lists, row_at};
+ghost use Rattle.digraph.specs.Edges.{AreBetween, IsAscending, Leads};
+ghost use Rattle.digraph.specs.Graphs.{IsGraph};
+ghost use Rattle.digraph.specs.Levels.{level_of, AreChainInto, AreLevels, IsLeastChain, IsLeastChainInto, IsLeastOf, IsLeastOn, IsNearest, IsWayInto};
 
-use crate::Edge;
-use crate::levels::{level_at, levels_of};
-use crate::rows::{flipped, rows_of};
+use crate::graph::graph_of;
+use crate::levels::level_at;
+use crate::{Edge, Graph};
 use std::alloc::{AllocError, Global};
 
 /// The least of ascending nodes on this level.
@@ -24,44 +24,75 @@ fn least_on(levels: &[Option<u32>], nodes: &[u32], level: u32) -> Option<u32>
     None
 }
 
-/// Per node those to which it has an edge, in the order of the edges.
-fn successors_of(alloc: Global, edges: &[Edge], nodes: usize) -> Result<Vec<Vec<u32>>, AllocError>
-    requires between { AreBetween edges.now nodes }
-    ensures size { IfOk result (λ rows. vec_len rows ≡ nodes) }
-    ensures rows { IfOk result (λ rows. (v : ℕ) → row_at (lists rows.items) v ≡ successors edges.now v) }
+/// Of the nodes the one on the lowest level, and of those the least, with its level.
+fn nearest(levels: &[Option<u32>], nodes: &[u32]) -> Option<(u32, u32)>
+    ensures found { IfSome result (λ x. IsNearest levels.now nodes.now x.1 x.0) }
+    ensures none { IfNone result ((u j : ℕ) → Contains nodes.now u → level_of levels.now u ≡ Some j → ⊥) }
 {
-    let turned = flipped(alloc, edges)?;
-    let rows = rows_of(alloc, turned.as_slice(), nodes)?;
-    Ok(rows)
+    let mut nearest = None;
+    for node in nodes {
+        if let Some(level) = level_at(levels, *node) {
+            let closer = match nearest {
+                None => true,
+                Some((first, lowest)) => level < lowest || (level == lowest && *node < first),
+            };
+            if closer {
+                nearest = Some((*node, level));
+            }
+        }
+    }
+    nearest
 }
 
-/// The chain that goes down the levels from a node on this one, always to the least node that is led to.
-fn chain_down(
-    alloc: Global,
-    edges: &[Edge],
-    nodes: usize,
-    levels: &[Option<u32>],
-    from: u32,
-    level: u32,
-) -> Result<Vec<u32>, AllocError>
-    requires between { AreBetween edges.now nodes }
-    requires ascending { IsAscending edges.now }
-    requires from { from < nodes }
-    requires levels { (end : ℕ) × AreLevels edges.now end levels.now }
-    requires level { level_of levels.now from ≡ Some level }
-    ensures { IfOk result (λ chain. (end : ℕ) → AreLevels edges.now end levels.now → IsLeastChain (Leads edges.now) from end chain.items) }
-{
-    let successors = successors_of(alloc, edges, nodes)?;
-    let mut chain = vec![in alloc; from; 1]?;
-    let mut at = from;
-    for below in (0..level).rev() {
-        let Some(next) = least_on(levels, successors[at as usize].as_slice(), below) else {
-            unreachable!();
-        };
-        at = next;
-        chain.push(at)?;
+impl Graph<'_> {
+    /// Goes down the levels from a node on this one, always to the least node that is led to, and adds the nodes to the chain.
+    fn go_down(
+        &self,
+        levels: &[Option<u32>],
+        from: u32,
+        level: u32,
+        chain: &mut Vec<u32>,
+    ) -> Result<(), AllocError>
+        requires graph { IsGraph self.now }
+        requires from { from < vec_len self.now.before }
+        requires levels { (ends : List ℕ) × AreLevels self.now.edges.now ends levels.now }
+        requires level { level_of levels.now from ≡ Some level }
+        ensures { OnOk result ((ends : List ℕ) → AreLevels self.now.edges.now ends levels.now → (more : List ℕ) × (chain.new.items ≡ chain.old.items ++ more) × IsLeastOf (IsWayInto self.now.edges.now ends from) more) }
+    {
+        let mut at = from;
+        for below in (0..level).rev() {
+            let Some(next) = least_on(levels, self.after[at as usize].as_slice(), below) else {
+                unreachable!();
+            };
+            at = next;
+            chain.push(at)?;
+        }
+        Ok(())
     }
-    Ok(chain)
+
+    /// The chain of one or more edges from a node to one of the ends that these are the levels of: the one with the fewest edges, and of those the one with
+    /// the least nodes from the first on; none where no such chain leads to an end. Fails where memory is refused.
+    pub fn least_chain_into(
+        &self,
+        alloc: Global,
+        levels: &[Option<u32>],
+        from: u32,
+    ) -> Result<Option<Vec<u32>>, AllocError>
+        requires graph { IsGraph self.now }
+        requires from { from < vec_len self.now.before }
+        requires levels { (ends : List ℕ) × AreLevels self.now.edges.now ends levels.now }
+        ensures found { IfOk result (λ answer. IfSome answer (λ chain. (ends : List ℕ) → AreLevels self.now.edges.now ends levels.now → IsLeastChainInto (Leads self.now.edges.now) from ends chain.items)) }
+        ensures none { IfOk result (λ answer. IfNone answer ((ends chain : List ℕ) → AreLevels self.now.edges.now ends levels.now → AreChainInto (Leads self.now.edges.now) from ends chain → ⊥)) }
+    {
+        let Some((next, level)) = nearest(levels, self.after[from as usize].as_slice()) else {
+            return Ok(None);
+        };
+        let mut chain = Vec::with_capacity(alloc, 2)?;
+        chain.push(from)?;
+        chain.push(next)?;
+        self.go_down(levels, next, level, &mut chain)?;
+        Ok(Some(chain))
+    }
 }
 
 /// The chain of edges with the fewest, and of those the one with the least nodes from the first on; none where no chain leads from the one node to
@@ -81,10 +112,12 @@ pub fn least_chain(
     ensures found { IfOk result (λ answer. IfSome answer (λ chain. IsLeastChain (Leads edges.now) from to chain.items)) }
     ensures none { IfOk result (λ answer. IfNone answer (Chain (Leads edges.now) from to → ⊥)) }
 {
-    let levels = levels_of(alloc, edges, nodes, to)?;
+    let graph = graph_of(alloc, edges, nodes)?;
+    let levels = graph.levels_into(alloc, &[to])?;
     let Some(level) = level_at(levels.as_slice(), from) else {
         return Ok(None);
     };
-    let chain = chain_down(alloc, edges, nodes, levels.as_slice(), from, level)?;
+    let mut chain = vec![in alloc; from; 1]?;
+    graph.go_down(levels.as_slice(), from, level, &mut chain)?;
     Ok(Some(chain))
 }

@@ -1,11 +1,10 @@
-//! Per node how few edges lead from it to an end.
-ghost use Rattle.std.specs.Prelude.{◌≡◌, ◌↔◌, ◌<◌, ◌≤◌, ℕ, All, Contains, IfOk, length, vec_len, ◌^◌};
-ghost use Rattle.digraph.specs.Edges.{AreBetween, Leads};
+//! Per node how few edges lead from it to one of some ends.
+ghost use Rattle.std.specs.Prelude.{◌≡◌, ◌↔◌, ◌<◌, ℕ, All, Contains, IfOk, length, vec_len};
+ghost use Rattle.digraph.specs.Graphs.{IsGraph};
 ghost use Rattle.digraph.specs.Levels.{level_of, AreLevels, ArePutOn};
 ghost use Rattle.digraph.specs.Marks.{lists, row_at};
 
-use crate::Edge;
-use crate::rows::rows_of;
+use crate::Graph;
 use std::alloc::{AllocError, Global};
 
 /// The level of the node; past the end there is none.
@@ -50,27 +49,21 @@ fn all_in(alloc: Global, rows: &[Vec<u32>], nodes: &[u32]) -> Result<Vec<u32>, A
     Ok(all)
 }
 
-/// The levels of all nodes from which a chain leads to the end.
-pub(crate) fn levels_of(
-    alloc: Global,
-    edges: &[Edge],
-    nodes: usize,
-    end: u32,
-) -> Result<Vec<Option<u32>>, AllocError>
-    requires between { AreBetween edges.now nodes }
-    requires few { nodes ≤ 8192 }
-    requires end { end < nodes }
-    ensures { IfOk result (λ levels. AreLevels edges.now end levels.items) }
-{
-    let predecessors = rows_of(alloc, edges, nodes)?;
-    let mut levels = vec![in alloc; None; nodes]?;
-    levels[end as usize] = Some(0);
-    let mut front = vec![in alloc; end; 1]?;
-    let mut level = 0;
-    'rounds: while !front.is_empty() {
-        level += 1;
-        let before = all_in(alloc, predecessors.as_slice(), front.as_slice())?;
-        front = put_on(alloc, &mut levels, before.as_slice(), level)?;
+impl Graph<'_> {
+    /// Per node how few edges lead from it to one of these ends, and none where no chain leads to one. An end has 0. Fails where memory is refused.
+    pub fn levels_into(&self, alloc: Global, ends: &[u32]) -> Result<Vec<Option<u32>>, AllocError>
+        requires graph { IsGraph self.now }
+        requires ends { All (λ v. v < vec_len self.now.before) ends.now }
+        ensures { IfOk result (λ levels. AreLevels self.now.edges.now ends.now levels.items) }
+    {
+        let mut levels = vec![in alloc; None; self.before.len()]?;
+        let mut front = put_on(alloc, &mut levels, ends, 0)?;
+        let mut level = 0;
+        'rounds: while !front.is_empty() {
+            level += 1;
+            let before = all_in(alloc, self.before.as_slice(), front.as_slice())?;
+            front = put_on(alloc, &mut levels, before.as_slice(), level)?;
+        }
+        Ok(levels)
     }
-    Ok(levels)
 }

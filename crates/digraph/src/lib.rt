@@ -8,6 +8,7 @@
 mod arrivals;
 mod edge;
 mod endless;
+mod graph;
 pub mod laws;
 mod least;
 mod levels;
@@ -19,6 +20,7 @@ mod walk;
 
 pub use edge::Edge;
 pub use endless::is_marked;
+pub use graph::{Graph, graph_of};
 pub use least::least_chain;
 pub use named::cycle;
 pub use on_trails::{Trails, trails_of};

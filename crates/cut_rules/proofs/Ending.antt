@@ -1,0 +1,43 @@
+-- The end of a verdict.
+use Rattle.std.proofs.Common.{◌≡◌, ℕ, true, false, Bool, List, [], ◌∷◌, ◌++◌, Option, Err, refl, sym, ap, ◌∙◌, subst, codes}
+use Rattle.std.specs.Prelude.{not}
+use Rattle.std.specs.Io.KnownBytes.{Appends}
+use Rattle.std.proofs.KnownBytes.{Appends-trans}
+use Rattle.byte_sink.specs.declared.sink.SinkFault.TheVariants as sink_faults
+use Rattle.byte_sink.specs.Sinks.{AppendsFront}
+use Rattle.text_pieces.specs.Pieces.{PutsAllBut}
+use Rattle.text_pieces.proofs.Joining.{puts_then}
+use Rattle.cut_net.specs.Network.{Network}
+use Rattle.cut_rules.specs.Judged.{told_text}
+use Rattle.cut_rules.specs.Verdicts.{is_none, verdict_text, Broken}
+
+-- of nothing nothing is put
+no_parts : (front rest : List ℕ) → [] ≡ front ++ rest → front ≡ []
+no_parts [] rest e = refl
+no_parts (b ∷ front) rest e = absurd cc
+
+pub none_told : (told : List Broken) (any : Bool) → any ≡ not (is_none told) → any ≡ false → told ≡ []
+none_told [] any e f = refl
+none_told (b ∷ told) any e f = absurd (let g : true ≡ false = sym e ∙ f in cc)
+
+pub some_told : (told : List Broken) (any : Bool) → any ≡ not (is_none told) → any ≡ true → false ≡ is_none told
+some_told [] any e f = absurd (let g : false ≡ true = sym e ∙ f in cc)
+some_told (b ∷ told) any e f = refl
+
+module _ (net : Network) (old now new : Option (List ℕ)) where
+  pub yes_put : (told : List Broken) (rest said : List ℕ) → told ≡ [] → PutsAllBut old now ([] ++ told_text net told) rest → Appends now new said → Appends old new said
+  yes_put told rest said e p q =
+      let none : [] ≡ p.0 ++ rest = sym (ap (told_text net) e) ∙ p.1 in
+      let first : Appends old now [] = subst (Appends old now) (no_parts p.0 rest none) p.2 in
+      Appends-trans old now new [] said first q
+
+  pub yes_begun : (told : List Broken) (rest said : List ℕ) → told ≡ [] → PutsAllBut old now ([] ++ told_text net told) rest → AppendsFront now new said → AppendsFront old new said
+  yes_begun told rest said e p q = (q.0, q.1, q.2, yes_put told rest q.0 e p q.3)
+
+  pub all_put : (told : List Broken) (rest : List ℕ) → false ≡ is_none told → PutsAllBut old now ([] ++ told_text net told) rest → Appends now new rest → Appends old new (verdict_text net told)
+  all_put [] rest e p q = absurd cc
+  all_put (b ∷ told) rest e p q = subst (Appends old new) (sym p.1) (Appends-trans old now new p.0 rest p.2 q)
+
+  pub all_begun : (told : List Broken) (rest : List ℕ) → false ≡ is_none told → PutsAllBut old now ([] ++ told_text net told) rest → AppendsFront now new rest → AppendsFront old new (told_text net told)
+  all_begun [] rest e p q = absurd cc
+  all_begun (b ∷ told) rest e p q = puts_then {T = ℕ} old now new (told_text net (b ∷ told)) rest (Err sink_faults.Memory) p q

@@ -1,0 +1,13 @@
+pub mod LineLaws
+pub mod Pieces
+pub mod FolderLaws
+pub mod Judging
+pub mod Drafting
+pub mod Beginning
+pub mod SpanOrder
+pub mod SameFiles
+pub mod Marking
+pub mod Telling
+pub mod Verdicts
+pub mod Ending
+pub mod OneRefusal

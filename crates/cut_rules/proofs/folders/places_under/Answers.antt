@@ -1,0 +1,14 @@
+use Rattle.std.proofs.Common.{◌++◌, ◌∷◌, [], ◌∙◌, ℕ, List, ap, rules}
+use Rattle.std.proofs.lemmas.List.Sorted.{IsPartitionPoint-from_clause}
+use Rattle.cut_rules.specs.Folders.{is_before, is_not_behind}
+use Rattle.cut_rules.proofs.FolderLaws.{before_first, not_behind_first, places_are}
+use Rattle.cut_rules.proofs.folders.places_under.Goals as goal
+
+pub returns-clause-are : goal.returns-clause-are
+returns-clause-are c =
+    let files = c.args.files.now in
+    let text = c.as_slice-front.result.now in
+    let is_text = c.as_slice-front.ensures.value ∙ c.in_ok-push.ensures.items ∙ ap (λ (t : List ℕ). t ++ 47 ∷ []) c.in_ok-front.ensures.items in
+    places_are files c.args.folder.now text is_text c.partition_point-from.result c.partition_point-to.result
+    (IsPartitionPoint-from_clause (is_before text) files _ c.partition_point-from.ensures.partitioned (before_first files c.requires text) (λ a r q h. search rules))
+    (IsPartitionPoint-from_clause (is_not_behind text) files _ c.partition_point-to.ensures.partitioned (not_behind_first files c.requires text) (λ a r q h. search rules))

@@ -1,0 +1,61 @@
+-- Piece after piece.
+use Rattle.std.proofs.Common.{◌+◌, ℕ, eqb, length, ap, refl, sym, ◌∙◌, subst, rules, tests}
+use Rattle.std.proofs.lemmas.List.{length_push}
+use Rattle.std.proofs.lemmas.Option.{slice_get_read}
+use Rattle.std.proofs.lemmas.Iterator.Consumers.{YieldsList-at, YieldsList-turn, YieldsList-end}
+use Rattle.std.proofs.lemmas.Iterator.Splits.{YieldsList-from_slice_split}
+use Rattle.cut_net.specs.Network.{texts}
+use Rattle.cut_rules.specs.Drafts.{IsDraft, IsTextSoFar}
+use Rattle.cut_rules.specs.RuleLines.{pieces_of}
+use Rattle.cut_rules.proofs.Beginning.{empty_draft, refusal_is}
+use Rattle.cut_rules.proofs.reading.draft_of.Goals as goal
+
+pub loop-piece-init : goal.loop-piece-init
+loop-piece-init c = (refl, empty_draft c.args.known.now.net.now c.args.known.now.files.now (texts c.args.known.now.sets.now) (pieces_of c.args.bytes.now) c.in_ok-draft.draft c.in_ok-draft.ensures)
+
+pub take-requires-clause-there : goal.take-requires-clause-there
+take-requires-clause-there c =
+    let turn = YieldsList-turn (YieldsList-at c.into_iter-piece-iterator.ensures.into_iter_gives
+    (YieldsList-from_slice_split _ (λ b. eqb b 10) c.args.bytes.now c.split-piece-items.ensures.rest c.split-piece-items.ensures.done c.split-piece-items.ensures.closure (λ x b q k. search (rules, tests))))
+    c.loop-piece.yielded _ c.loop-piece.yielded_by _ _ c.in-Some.piece c.in-Some.is c.next.ensures.steps in
+    let pieces = pieces_of c.args.bytes.now in
+    let count = length c.loop-piece.yielded in
+    let there = slice_get_read pieces _ count c.in-Some.piece.now refl turn.0 turn.1 in
+    let (number, drafted) = c.loop-piece.invariant in
+    let next = ap (λ (n : ℕ). n + 1) number in
+    let text : IsTextSoFar c.args.known.now.net.now c.args.known.now.files.now c.args.known.now.sets.now pieces (c.loop-piece.line + 1) c.in-Some.piece.now c.loop-piece.draft = record { place = count; number = next; there = there; sets_are = c.requires.sets; drafted = drafted } in
+    (pieces, text)
+
+pub returns-in-Err-clause-fault : goal.returns-in-Err-clause-fault
+returns-in-Err-clause-fault c =
+    let turn = YieldsList-turn (YieldsList-at c.into_iter-piece-iterator.ensures.into_iter_gives
+    (YieldsList-from_slice_split _ (λ b. eqb b 10) c.args.bytes.now c.split-piece-items.ensures.rest c.split-piece-items.ensures.done c.split-piece-items.ensures.closure (λ x b q k. search (rules, tests))))
+    c.loop-piece.yielded _ c.loop-piece.yielded_by _ _ c.in-Some.piece c.in-Some.is c.next.ensures.steps in
+    let pieces = pieces_of c.args.bytes.now in
+    let count = length c.loop-piece.yielded in
+    let there = slice_get_read pieces _ count c.in-Some.piece.now refl turn.0 turn.1 in
+    let (number, drafted) = c.loop-piece.invariant in
+    let next = ap (λ (n : ℕ). n + 1) number in
+    let text : IsTextSoFar c.args.known.now.net.now c.args.known.now.files.now c.args.known.now.sets.now pieces (c.loop-piece.line + 1) c.in-Some.piece.now c.loop-piece.draft = record { place = count; number = next; there = there; sets_are = c.requires.sets; drafted = drafted } in
+    refusal_is c.args.known.now.net.now c.args.known.now.files.now (texts c.args.known.now.sets.now) pieces (c.loop-piece.line + 1) count c.in-Err.fault c.at.result next c.at.ensures drafted.sound (c.in-Err.ensures pieces text)
+
+pub loop-piece-preserved : goal.loop-piece-preserved
+loop-piece-preserved c =
+    let turn = YieldsList-turn (YieldsList-at c.into_iter-piece-iterator.ensures.into_iter_gives
+    (YieldsList-from_slice_split _ (λ b. eqb b 10) c.args.bytes.now c.split-piece-items.ensures.rest c.split-piece-items.ensures.done c.split-piece-items.ensures.closure (λ x b q k. search (rules, tests))))
+    c.loop-piece.yielded _ c.loop-piece.yielded_by _ _ c.in-Some.piece c.in-Some.is c.next.ensures.steps in
+    let pieces = pieces_of c.args.bytes.now in
+    let count = length c.loop-piece.yielded in
+    let there = slice_get_read pieces _ count c.in-Some.piece.now refl turn.0 turn.1 in
+    let (number, drafted) = c.loop-piece.invariant in
+    let next = ap (λ (n : ℕ). n + 1) number in
+    let text : IsTextSoFar c.args.known.now.net.now c.args.known.now.files.now c.args.known.now.sets.now pieces (c.loop-piece.line + 1) c.in-Some.piece.now c.loop-piece.draft = record { place = count; number = next; there = there; sets_are = c.requires.sets; drafted = drafted } in
+    (next ∙ sym (length_push c.loop-piece.yielded c.in-Some.piece), subst (λ (n : ℕ). IsDraft c.args.known.now.net.now c.args.known.now.files.now (texts c.args.known.now.sets.now) pieces n c.take.new.self) (next ∙ sym (length_push c.loop-piece.yielded c.in-Some.piece)) (c.in_default.ensures pieces text))
+
+pub returns-clause-drafted : goal.returns-clause-drafted
+returns-clause-drafted c =
+    let done = YieldsList-end (YieldsList-at c.into_iter-piece-iterator.ensures.into_iter_gives
+    (YieldsList-from_slice_split _ (λ b. eqb b 10) c.args.bytes.now c.split-piece-items.ensures.rest c.split-piece-items.ensures.done c.split-piece-items.ensures.closure (λ x b q k. search (rules, tests))))
+    c.loop-piece.yielded _ c.loop-piece.yielded_by _ _ c.in-None.is c.next.ensures.steps in
+    let (number, drafted) = c.loop-piece.invariant in
+    subst (λ (n : ℕ). IsDraft c.args.known.now.net.now c.args.known.now.files.now (texts c.args.known.now.sets.now) (pieces_of c.args.bytes.now) n c.loop-piece.draft) done.1 drafted

@@ -1,0 +1,8 @@
+use Rattle.std.proofs.Common.{◌≡◌, length}
+use Rattle.cut_net.specs.Network.{texts}
+use Rattle.cut_rules.specs.Drafts.{IsDraft}
+use Rattle.cut_rules.specs.RuleLines.{pieces_of}
+use Rattle.cut_rules.proofs.reading.draft_of.Given as goal
+
+abbrev pub invariant-loop-piece : goal.invariant-loop-piece
+invariant-loop-piece l = (l.line ≡ length l.yielded) × IsDraft l.known.net.now l.known.files.now (texts l.known.sets.now) (pieces_of l.bytes) (length l.yielded) l.draft

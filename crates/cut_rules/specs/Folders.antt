@@ -1,0 +1,19 @@
+-- Files in the order of their paths.
+use Rattle.std.specs.Prelude.{ℕ, ◌||◌, Bool, List, nat_eq}
+use Rattle.std.specs.List.{starts_with}
+use Rattle.std.specs.declared.cmp.Ordering.{Ordering}
+use Rattle.std.specs.Ordering.{is_lt, nat_cmp}
+use Rattle.std.specs.Cmp.Lexicographic.{slice_cmp}
+use Rattle.cut_rules.specs.declared.file.File.{File}
+
+-- which of two comes first, by the bytes of their paths
+abbrev pub path_cmp : File → File → Ordering
+path_cmp f g = slice_cmp nat_cmp f.path.now g.path.now
+
+-- the path comes before the text
+abbrev pub is_before : List ℕ → File → Bool
+is_before text f = is_lt (slice_cmp nat_cmp f.path.now text)
+
+-- it does, or begins with it
+abbrev pub is_not_behind : List ℕ → File → Bool
+is_not_behind text f = is_before text f || starts_with nat_eq f.path.now text
