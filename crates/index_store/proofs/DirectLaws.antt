@@ -1,6 +1,6 @@
 -- What a walk over the records finds is what all occurrences of the index give.
 use Rattle.std.proofs.Common.{◌≡◌, ℕ, zero, suc, Bool, true, false, not, List, [], ◌∷◌, ◌++◌, length, take, map, fold, Option, None, Result, Ok, Err, refl, sym, ap, ap₂, ◌∙◌, arith, inl, inr}
-use Rattle.std.specs.Prelude.{◌||◌, Contains, IfOk, filter, option_map, if◌then◌else◌}
+use Rattle.std.specs.Prelude.{◌||◌, ◌↔◌, Contains, IfOk, filter, option_map, if◌then◌else◌}
 use Rattle.std.specs.List.{AllByRecursion, flat_map}
 use Rattle.std.specs.Str.{IsUtf8, bytes_eq}
 use Rattle.std.proofs.lemmas.Bool.{cases_Bool, false≢true}
@@ -79,11 +79,11 @@ lacks_it path (d ∷ documents) e (suc k, l, is) = elim (cases_Bool (bytes_eq d.
   | inr other ↦ lacks_it path documents (rw other at e) (k, omega (arith, l), is)
 ]
 
-documents_said : (bytes : List ℕ) (index : PlainIndex) → Means bytes index → index.documents ≡ map document_of (each_of 2 records_inside (payload_records 0 bytes).0)
+pub documents_said : (bytes : List ℕ) (index : PlainIndex) → Means bytes index → index.documents ≡ map document_of (each_of 2 records_inside (payload_records 0 bytes).0)
 documents_said bytes index means =
     ap (λ (i : PlainIndex). i.documents) means.said ∙ sym (ap (λ (x : List PayloadRecord × Option WireFault). (index_of x.0).documents) (records_found 0 bytes means.pieces means.are_records))
 
-all_map : {A B : Type 0} (P : B → Type 0) (f : A → B) (xs : List A) → AllByRecursion (λ x. P (f x)) xs → AllByRecursion P (map f xs)
+pub all_map : {A B : Type 0} (P : B → Type 0) (f : A → B) (xs : List A) → AllByRecursion (λ x. P (f x)) xs → AllByRecursion P (map f xs)
 all_map P f [] h = tt
 all_map P f (x ∷ xs) h = (h.0, all_map P f xs h.1)
 
@@ -97,6 +97,16 @@ path_there bytes path index means e = rw (documents_said bytes index means) (has
 pub path_lacking : (bytes path : List ℕ) (index : PlainIndex) → Means bytes index → has_document path (map document_of (each_of 2 records_inside (payload_records 0 bytes).0)) ≡ false → HasPath index path → ⊥
 path_lacking bytes path index means e has = lacks_it path (map document_of (each_of 2 records_inside (payload_records 0 bytes).0)) e (rw (documents_said bytes index means) at has)
 
+-- a search by the path alone
+pub path_exactly : (bytes path : List ℕ) (index : PlainIndex) → Means bytes index → (has_document path (map document_of (each_of 2 records_inside (payload_records 0 bytes).0)) ≡ true) ↔ HasPath index path
+path_exactly bytes path index means = (
+  path_there bytes path index means,
+  λ has. elim (cases_Bool (has_document path (map document_of (each_of 2 records_inside (payload_records 0 bytes).0)))) [
+    | inl there ↦ there
+    | inr lacks ↦ absurd (path_lacking bytes path index means lacks has)
+  ],
+)
+
 pub symbol_there : (bytes path : List ℕ) (at : Position) (best : Option (Span × List ℕ)) (index : PlainIndex) → Means bytes index → best ≡ fold (nearest_at path at) None (map document_of (each_of 2 records_inside (payload_records 0 bytes).0))
     → IsSymbolAt (all_found index) path at (option_map (λ x. x.1) best)
 symbol_there bytes path at best index means e =
@@ -105,7 +115,7 @@ symbol_there bytes path at best index means e =
 
 -- ---- places
 
-filter_append : (keep : PlacedOccurrence → Bool) (xs ys : List PlacedOccurrence) → filter keep (xs ++ ys) ≡ filter keep xs ++ filter keep ys
+pub filter_append : (keep : PlacedOccurrence → Bool) (xs ys : List PlacedOccurrence) → filter keep (xs ++ ys) ≡ filter keep xs ++ filter keep ys
 filter_append keep [] ys = refl
 filter_append keep (x ∷ xs) ys = elim (cases_Bool (keep x)) [
   | inl kept ↦ rw (kept, filter_append keep xs ys) refl

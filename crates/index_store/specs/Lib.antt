@@ -7,3 +7,5 @@ pub mod Queries
 pub mod Stores
 pub mod Asked
 pub mod Direct
+pub mod Symbols
+pub mod Telling

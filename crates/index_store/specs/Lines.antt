@@ -10,9 +10,13 @@ use Rattle.index_store.specs.Queries.{PlainPlace}
 abbrev pub position_text : Position → List ℕ
 position_text at = decimal at.line ++ codes ":" ++ decimal at.column
 
--- PATH:LINE:COL-LINE:COL and the end of the line: where the place begins and where it ends, with the path's control characters written out
+-- PATH:LINE:COL-LINE:COL: where the place begins and where it ends, with the path's control characters written out
+abbrev pub place_text : PlainPlace → List ℕ
+place_text place = escaped place.path ++ codes ":" ++ position_text place.span.start ++ codes "-" ++ position_text place.span.end
+
+-- a line of it
 abbrev pub place_line : PlainPlace → List ℕ
-place_line place = escaped place.path ++ codes ":" ++ position_text place.span.start ++ codes "-" ++ position_text place.span.end ++ codes "\n"
+place_line place = place_text place ++ codes "\n"
 
 -- a line for each place, in their order
 abbrev pub place_lines : List PlainPlace → List ℕ

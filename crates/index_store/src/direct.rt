@@ -22,9 +22,9 @@ use std::alloc::{AllocError, Global};
 
 /// A span with its symbol.
 #[derive(Clone, Copy)]
-struct Near<'a> {
-    span: Span,
-    symbol: &'a [u8],
+pub(crate) struct Near<'a> {
+    pub(crate) span: Span,
+    pub(crate) symbol: &'a [u8],
 }
 
 /// The span of an occurrence, whose numbers are put in the place of those that are there.
@@ -37,7 +37,7 @@ fn span_inside(occurrence: Inside<'_>, numbers: &mut Vec<i32>) -> Result<Option<
 }
 
 /// The span and the symbol of an occurrence that has both.
-fn near_inside<'a>(
+pub(crate) fn near_inside<'a>(
     occurrence: Inside<'a>,
     numbers: &mut Vec<i32>,
 ) -> Result<Option<Near<'a>>, AllocError>
@@ -99,6 +99,20 @@ fn has_text(field: u32, message: Inside<'_>, text: &[u8]) -> bool
     ensures { result ≡ bytes_eq (latest [] (each_of field bytes_in (records_of message.entry))) text.now }
 {
     last_bytes(field, message) == text
+}
+
+/// Whether one of the documents of an index has this path.
+pub(crate) fn has_document(index: Inside<'_>, path: &[u8]) -> bool
+    requires { index.start + length index.bytes.now < 2 ^ 64 }
+    ensures { result ≡ has_document path.now (documents_of index.entry) }
+{
+    let mut rest = index;
+    while let Some(document) = next_message(2, &mut rest) {
+        if has_text(1, document, path) {
+            return true;
+        }
+    }
+    false
 }
 
 /// What is found of a path: whether a document has it, and the nearest there.
@@ -211,7 +225,7 @@ struct Sought<'s> {
     path: &'s [u8],
 }
 
-fn is_local(symbol: &[u8]) -> bool
+pub(crate) fn is_local(symbol: &[u8]) -> bool
     ensures { result ≡ is_local symbol.now }
 {
     symbol.starts_with(b"local ")

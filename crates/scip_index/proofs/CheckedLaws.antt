@@ -1,4 +1,4 @@
--- What checked bytes keep: they mean what their records say, and the paths of their documents are UTF-8.
+-- What checked bytes keep: they mean what their records say, and the paths of their documents and the symbols of the occurrences are UTF-8.
 use Rattle.std.proofs.Common.{◌≡◌, ℕ, List, [], ◌∷◌, ◌++◌, Option, Some, None, Result, Ok, Err, refl, sym, subst, inl, inr}
 use Rattle.std.specs.Prelude.{◌==◌, IfErr, OnOk}
 use Rattle.std.specs.List.{AllByRecursion}
@@ -13,7 +13,7 @@ use Rattle.proto_wire.specs.declared.record.WireValue.TheVariants.{Varint, Eight
 use Rattle.proto_wire.specs.Faults.{Stops, UnlessMemory}
 use Rattle.proto_wire.specs.Records.{PayloadRecord}
 use Rattle.proto_wire.specs.Readings.{payload_records}
-use Rattle.proto_wire.specs.Messages.{bytes_given, bytes_in, each_of, fault_of, field_fault, first_of, if_field, latest, message_fault, message_fault_given, records_inside, records_inside_given, text_fault, text_fault_given, IsClean, IsFirstFault}
+use Rattle.proto_wire.specs.Messages.{bytes_given, bytes_in, each_of, fault_of, field_fault, first_of, if_field, latest, message_fault, message_fault_given, numbers_fault, records_inside, records_inside_given, text_fault, text_fault_given, IsClean, IsFirstFault}
 use Rattle.proto_wire.proofs.FaultLaws.{UnlessMemory-then}
 use Rattle.proto_wire.proofs.MessageLaws.{first_fault_iff, no_fault_iff}
 use Rattle.proto_wire.proofs.PieceReadings.{records_found}
@@ -45,7 +45,7 @@ clean_records inside start bytes clean =
     let h = (no_fault_iff inside start bytes).0 clean in
     subst (λ (x : List PayloadRecord × Option WireFault). IsClean inside x.0) (sym (records_found start bytes h.0 h.1)) h.2
 
-all_append : {X : Type 0} (P : X → Type 0) (xs ys : List X) → AllByRecursion P xs → AllByRecursion P ys → AllByRecursion P (xs ++ ys)
+pub all_append : {X : Type 0} (P : X → Type 0) (xs ys : List X) → AllByRecursion P xs → AllByRecursion P ys → AllByRecursion P (xs ++ ys)
 all_append P [] ys a b = b
 all_append P (x ∷ xs) ys a b = (a.0, all_append P xs ys a.1 b)
 
@@ -83,28 +83,65 @@ HasPathText pieces = IsUtf8 (latest [] (each_of 1 bytes_in pieces))
 path_text : (pieces : List PayloadRecord) → IsClean document_fault pieces → HasPathText pieces
 path_text pieces clean = latest_text [] (each_of 1 bytes_in pieces) (IsUtf8-from_ascii [] IsAscii-nil) (texts_of_document pieces clean)
 
-document_given : (value : WireValue) (body : ℕ) (payload : List ℕ) → message_fault_given document_fault value body payload ≡ None → AllByRecursion HasPathText (records_inside_given value body payload)
-document_given (Varint n) body payload e = tt
-document_given Eight body payload e = tt
-document_given (Bytes count) body payload e = (path_text (payload_records body payload).0 (clean_records document_fault body payload e), tt)
-document_given Four body payload e = tt
+-- ---- symbols
 
-document_of_field : (p : PayloadRecord) → field_fault 2 p.wire (message_fault document_fault p) ≡ None → AllByRecursion HasPathText (if_field 2 p.wire (records_inside p))
-unfolding field_fault if_field
-document_of_field p e = elim (cases_Bool (p.wire.field == 2)) [
-  | inl here ↦ rw here (document_given p.wire.value p.wire.body p.payload (rw here at e))
-  | inr other ↦ rw other tt
-]
-
-documents_texts : (pieces : List PayloadRecord) → IsClean index_fault pieces → AllByRecursion HasPathText (each_of 2 records_inside pieces)
+texts_of_occurrence : (pieces : List PayloadRecord) → IsClean occurrence_fault pieces → AllByRecursion IsUtf8 (each_of 2 bytes_in pieces)
 unfolding each_of
-documents_texts [] clean = tt
-documents_texts (p ∷ pieces) clean =
+texts_of_occurrence [] clean = tt
+texts_of_occurrence (p ∷ pieces) clean =
+    let behind = first_of (field_fault 2 p.wire (text_fault p)) (field_fault 7 p.wire (numbers_fault p)) in
+    all_append IsUtf8 (if_field 2 p.wire (bytes_in p)) (each_of 2 bytes_in pieces)
+    (text_of_field 2 p (former (field_fault 2 p.wire (text_fault p)) (field_fault 7 p.wire (numbers_fault p)) (latter (field_fault 1 p.wire (numbers_fault p)) behind clean.0))) (texts_of_occurrence pieces clean.1)
+
+abbrev pub HasSymbolText : List PayloadRecord → Type 0
+HasSymbolText pieces = IsUtf8 (latest [] (each_of 2 bytes_in pieces))
+
+symbol_text : (pieces : List PayloadRecord) → IsClean occurrence_fault pieces → HasSymbolText pieces
+symbol_text pieces clean = latest_text [] (each_of 2 bytes_in pieces) (IsUtf8-from_ascii [] IsAscii-nil) (texts_of_occurrence pieces clean)
+
+-- ---- messages inside
+
+-- what the clean records of a message have, those of a message of a field of clean records have
+module _ (inside : PayloadRecord → Option WireFault) (Has : List PayloadRecord → Type 0) (has : (pieces : List PayloadRecord) → IsClean inside pieces → Has pieces) where
+  message_given : (value : WireValue) (body : ℕ) (payload : List ℕ) → message_fault_given inside value body payload ≡ None → AllByRecursion Has (records_inside_given value body payload)
+  message_given (Varint n) body payload e = tt
+  message_given Eight body payload e = tt
+  message_given (Bytes count) body payload e = (has (payload_records body payload).0 (clean_records inside body payload e), tt)
+  message_given Four body payload e = tt
+
+  message_of_field : (k : ℕ) (p : PayloadRecord) → field_fault k p.wire (message_fault inside p) ≡ None → AllByRecursion Has (if_field k p.wire (records_inside p))
+  unfolding field_fault if_field
+  message_of_field k p e = elim (cases_Bool (p.wire.field == k)) [
+    | inl here ↦ rw here (message_given p.wire.value p.wire.body p.payload (rw here at e))
+    | inr other ↦ rw other tt
+  ]
+
+abbrev pub HaveSymbolTexts : List PayloadRecord → Type 0
+HaveSymbolTexts pieces = AllByRecursion HasSymbolText (each_of 2 records_inside pieces)
+
+symbol_texts : (pieces : List PayloadRecord) → IsClean document_fault pieces → HaveSymbolTexts pieces
+unfolding each_of
+symbol_texts [] clean = tt
+symbol_texts (p ∷ pieces) clean =
+    let last = first_of (field_fault 3 p.wire (message_fault symbol_fault p)) (field_fault 4 p.wire (text_fault p)) in
+    let both = latter (field_fault 1 p.wire (text_fault p)) (first_of (field_fault 2 p.wire (message_fault occurrence_fault p)) last) clean.0 in
+    all_append HasSymbolText (if_field 2 p.wire (records_inside p)) (each_of 2 records_inside pieces)
+    (message_of_field occurrence_fault HasSymbolText symbol_text 2 p (former (field_fault 2 p.wire (message_fault occurrence_fault p)) last both)) (symbol_texts pieces clean.1)
+
+documents_have : (Has : List PayloadRecord → Type 0) → ((pieces : List PayloadRecord) → IsClean document_fault pieces → Has pieces) → (pieces : List PayloadRecord) → IsClean index_fault pieces → AllByRecursion Has (each_of 2 records_inside pieces)
+unfolding each_of
+documents_have Has has [] clean = tt
+documents_have Has has (p ∷ pieces) clean =
     let behind = first_of (field_fault 2 p.wire (message_fault document_fault p)) (field_fault 3 p.wire (message_fault symbol_fault p)) in
     let both = latter (field_fault 1 p.wire (message_fault metadata_fault p)) behind clean.0 in
-    all_append HasPathText (if_field 2 p.wire (records_inside p)) (each_of 2 records_inside pieces)
-    (document_of_field p (former (field_fault 2 p.wire (message_fault document_fault p)) (field_fault 3 p.wire (message_fault symbol_fault p)) both)) (documents_texts pieces clean.1)
+    all_append Has (if_field 2 p.wire (records_inside p)) (each_of 2 records_inside pieces)
+    (message_of_field document_fault Has has 2 p (former (field_fault 2 p.wire (message_fault document_fault p)) (field_fault 3 p.wire (message_fault symbol_fault p)) both))
+    (documents_have Has has pieces clean.1)
 
 -- the paths of the documents of bytes that mean an index are UTF-8
 pub paths_are_texts : (bytes : List ℕ) → fault_of index_fault 0 bytes ≡ None → AllByRecursion HasPathText (each_of 2 records_inside (payload_records 0 bytes).0)
-paths_are_texts bytes clean = documents_texts (payload_records 0 bytes).0 (clean_records index_fault 0 bytes clean)
+paths_are_texts bytes clean = documents_have HasPathText path_text (payload_records 0 bytes).0 (clean_records index_fault 0 bytes clean)
+
+-- and so are the symbols of their occurrences
+pub symbols_are_texts : (bytes : List ℕ) → fault_of index_fault 0 bytes ≡ None → AllByRecursion HaveSymbolTexts (each_of 2 records_inside (payload_records 0 bytes).0)
+symbols_are_texts bytes clean = documents_have HaveSymbolTexts symbol_texts (payload_records 0 bytes).0 (clean_records index_fault 0 bytes clean)

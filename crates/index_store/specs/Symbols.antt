@@ -1,0 +1,79 @@
+-- The definitions that an index has, a line for each.
+use Rattle.std.specs.Prelude.{◌&&◌, ◌||◌, not, ℕ, Bool, true, List, [], ◌++◌, codes, map, filter, Option, Some, None, if◌then◌else◌}
+use Rattle.std.specs.List.{AllByRecursion, flat_map}
+use Rattle.std.specs.Option.{is_some}
+use Rattle.std.specs.Str.{IsUtf8, bytes_eq}
+use Rattle.text_escape.specs.Escapes.{escaped}
+use Rattle.scip_index.specs.Plain.{PlainDocument, PlainIndex, PlainOccurrence}
+use Rattle.index_store.specs.declared.span.Span.{Span}
+use Rattle.index_store.specs.Direct.{covering_of}
+use Rattle.index_store.specs.Lines.{place_text}
+use Rattle.index_store.specs.Queries.{PlacedOccurrence, PlainPlace, all_found, is_definition, is_local, place_of}
+
+-- it has the definition role and a symbol
+abbrev pub defines_symbol : PlainOccurrence → Bool
+defines_symbol o = is_definition o && not (bytes_eq o.symbol [])
+
+-- it is listed: of all documents the definitions of symbols that aren't local, of those of a path all definitions
+abbrev pub is_listed : Option (List ℕ) → PlacedOccurrence → Bool
+is_listed None f = defines_symbol f.occurrence && not (is_local f.occurrence.symbol)
+is_listed (Some path) f = defines_symbol f.occurrence && bytes_eq f.path path
+
+-- a symbol and a place where it is defined
+pub record PlainDefinition : Type 0 where
+  pub place : PlainPlace
+  pub symbol : List ℕ
+
+abbrev pub defined_at : List ℕ → PlainPlace → PlainDefinition
+defined_at symbol place = record { place = place; symbol = symbol }
+
+-- the definition of an occurrence, where its range is a place
+abbrev pub definition_of : PlacedOccurrence → List PlainDefinition
+definition_of f = map (defined_at f.occurrence.symbol) (place_of f)
+
+-- the definitions with a place, in the index's order
+abbrev pub definitions_listed : PlainIndex → Option (List ℕ) → List PlainDefinition
+definitions_listed index path = flat_map definition_of (filter (is_listed path) (all_found index))
+
+-- PATH:LINE:COL-LINE:COL SYMBOL, with the control characters of both texts written out
+abbrev pub definition_line : PlainDefinition → List ℕ
+definition_line d = place_text d.place ++ codes " " ++ escaped d.symbol ++ codes "\n"
+
+abbrev pub definition_lines : List PlainDefinition → List ℕ
+definition_lines definitions = flat_map definition_line definitions
+
+-- ---- document by document
+
+-- the span and the symbol of an occurrence that is listed in its document, with those of local symbols or without
+abbrev pub spans_listed : Bool → PlainOccurrence → List (Span × List ℕ)
+spans_listed with_local o = if is_definition o && (with_local || not (is_local o.symbol)) then covering_of o else []
+
+-- the line of a span and a symbol of a document of this path
+abbrev pub line_at : List ℕ → Span × List ℕ → List ℕ
+line_at path x = definition_line (record { place = record { path = path; span = x.0 }; symbol = x.1 })
+
+abbrev pub lines_of_occurrence : Bool → List ℕ → PlainOccurrence → List ℕ
+lines_of_occurrence with_local path o = flat_map (line_at path) (spans_listed with_local o)
+
+abbrev pub lines_in : Bool → List ℕ → List PlainOccurrence → List ℕ
+lines_in with_local path occurrences = flat_map (lines_of_occurrence with_local path) occurrences
+
+-- a document of this path is asked for: all documents are, or those of a path
+abbrev pub is_asked : Option (List ℕ) → List ℕ → Bool
+is_asked None path = true
+is_asked (Some asked) path = bytes_eq path asked
+
+-- the lines of a document, if it is asked for; of one that is asked for by its path those of local symbols too
+abbrev pub lines_of_document : Option (List ℕ) → PlainDocument → List ℕ
+lines_of_document asked d = if is_asked asked d.relative_path then lines_in (is_some asked) d.relative_path d.occurrences else []
+
+-- the symbols of these occurrences are UTF-8
+abbrev pub HaveTextSymbols : List PlainOccurrence → Type 0
+HaveTextSymbols occurrences = AllByRecursion (λ o. IsUtf8 o.symbol) occurrences
+
+-- the path of a document and the symbols of its occurrences are UTF-8
+abbrev pub IsTextDocument : PlainDocument → Type 0
+IsTextDocument d = IsUtf8 d.relative_path × HaveTextSymbols d.occurrences
+
+abbrev pub AreTextDocuments : List PlainDocument → Type 0
+AreTextDocuments documents = AllByRecursion IsTextDocument documents
