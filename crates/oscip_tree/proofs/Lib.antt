@@ -14,3 +14,6 @@ pub mod CrossedTrees
 pub mod PartsOfFiles
 pub mod TreeRows
 pub mod FilesRead
+pub mod OwnFaults
+pub mod OneParting
+pub mod LocatedFiles

@@ -103,7 +103,7 @@ no_first_fault sources files fault ok f =
     no_file_fault f.source file fault (ok.each (length f.before) f.source file at at_file) f.has_fault
 
 -- the imports of an accepted tree aren't refused
-no_graph_fault : (sources : List Source) (files : List ModuleFile) (fault : GraphFault) → IsTree sources files → IsGraphFault sources fault → ⊥
+pub no_graph_fault : (sources : List Source) (files : List ModuleFile) (fault : GraphFault) → IsTree sources files → IsGraphFault sources fault → ⊥
 no_graph_fault sources files fault tree f =
     let same : files_of f.files ≡ files_of files = same_files sources f.files files f.accepted tree.accepted in
     let outcome : IsGraphOutcome (files_of files) (Err f.refusal) = subst (λ (fs : List File). IsGraphOutcome fs (Err f.refusal)) same f.is_outcome in

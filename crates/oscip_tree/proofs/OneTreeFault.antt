@@ -35,8 +35,9 @@ use Rattle.ob_scope.specs.Members.{members_of}
 use Rattle.ob_scope.specs.Scope.{IsFirstTwice}
 use Rattle.ob_scope.specs.Scoped.{IsScopeFault}
 use Rattle.ob_scope.proofs.Meanings.{first_once}
+use Rattle.oscip_tree.specs.OwnFaults.{IsSound}
 use Rattle.oscip_tree.specs.TreeFaults.{after_space, graph_fault_text, parse_fault_text, placed_text, scan_fault_text, scope_fault_text, tree_fault_text, wants_memory}
-use Rattle.oscip_tree.specs.Trees.{files_of, parse_offset, scan_offset, scope_offset, HasParseFault, HasScanFault, HasScopeFault, IsAccepted, IsFault, IsFileFault, IsFirstFault, IsGraphFault, IsTreeFault, ModuleFile}
+use Rattle.oscip_tree.specs.Trees.{files_of, parse_offset, scan_offset, scope_offset, HasParseFault, HasScanFault, HasScopeFault, IsFault, IsFileFault, IsFirstFault, IsGraphFault, IsTreeFault}
 use Rattle.oscip_tree.specs.declared.source.Source.{Source}
 use Rattle.oscip_tree.specs.declared.tree_fault.TreeFault.{TreeFault}
 use Rattle.oscip_tree.specs.declared.tree_fault.TreeFault.TheVariants as faults
@@ -174,7 +175,7 @@ one_scope_fault bytes f g some other (ts, m, reads, tree, h) k =
 -- ---- one file
 
 -- of a file's tokens, of its tree and of its names there is a fault where those before are right
-one_file_fault : (s : Source) (f g : TreeFault) → wants_memory f ≡ false → wants_memory g ≡ false → IsFileFault s f → IsFileFault s g → tree_fault_text f ≡ tree_fault_text g
+pub one_file_fault : (s : Source) (f g : TreeFault) → wants_memory f ≡ false → wants_memory g ≡ false → IsFileFault s f → IsFileFault s g → tree_fault_text f ≡ tree_fault_text g
 one_file_fault s (faults.Scan path at f) (faults.Scan other to g) some more (known, h) (sure, k) =
     let same : f ≡ g = one_scan_fault s.bytes.items f g known sure h.has_fault k.has_fault in
     one_text s (string_bytes path) (string_bytes other) at to (scan_offset f) (scan_offset g) (scan_fault_text f) (scan_fault_text g) (HasScanFault f) (HasScanFault g) h k (ap scan_offset same) (ap scan_fault_text same)
@@ -203,11 +204,7 @@ one_file_fault s faults.Memory g some more h k = absurd (false≢true (sym some)
 
 -- ---- all files
 
--- the file is accepted
-abbrev HasTree : Source → Type 0
-HasTree s = (file : ModuleFile) × IsAccepted s file
-
-first_faulty : (sources : List Source) (fault : TreeFault) (f : IsFirstFault sources fault) → wants_memory fault ≡ false → IsFirstWithout HasTree sources f.before f.source f.after
+first_faulty : (sources : List Source) (fault : TreeFault) (f : IsFirstFault sources fault) → wants_memory fault ≡ false → IsFirstWithout IsSound sources f.before f.source f.after
 first_faulty sources fault f known = record {
   split = f.split;
   have = λ i s at.
@@ -220,7 +217,7 @@ first_faulty sources fault f known = record {
 
 one_first_fault : (sources : List Source) (f g : TreeFault) → wants_memory f ≡ false → wants_memory g ≡ false → IsFirstFault sources f → IsFirstFault sources g → tree_fault_text f ≡ tree_fault_text g
 one_first_fault sources f g some more h k =
-    let same : h.source ≡ k.source = one_first HasTree sources h.before h.after k.before k.after h.source k.source (first_faulty sources f h some) (first_faulty sources g k more) in
+    let same : h.source ≡ k.source = one_first IsSound sources h.before h.after k.before k.after h.source k.source (first_faulty sources f h some) (first_faulty sources g k more) in
     one_file_fault k.source f g some more (subst (λ (s : Source). IsFileFault s f) same h.has_fault) k.has_fault
 
 -- ---- the imports
@@ -236,7 +233,7 @@ told_refusal : (fault : GraphFault) (refusal : GraphRefusal) → IsRefusalOf fau
 told_refusal graphs.Memory refusal said = absurd said
 told_refusal fault refusal said = ap (λ (r : GraphRefusal). outcome_text (Err r)) (sym said)
 
-one_graph_fault : (sources : List Source) (f g : GraphFault) → IsGraphFault sources f → IsGraphFault sources g → graph_fault_text f ≡ graph_fault_text g
+pub one_graph_fault : (sources : List Source) (f g : GraphFault) → IsGraphFault sources f → IsGraphFault sources g → graph_fault_text f ≡ graph_fault_text g
 one_graph_fault sources f g h k =
     let files : files_of k.files ≡ files_of h.files = same_files sources k.files h.files k.accepted h.accepted in
     let outcome : IsGraphOutcome (files_of h.files) (Err k.refusal) = subst (λ (fs : List File). IsGraphOutcome fs (Err k.refusal)) files k.is_outcome in

@@ -69,6 +69,33 @@ first_fault sources i source files fault l is accepted h =
     ∙ ap (λ (s : Source). take i sources ++ s ∷ drop (suc i) sources) (sym is) in
     subst (λ (xs : List Source). IsFaultOfFiles xs fault) (sym split) (fault_behind (take i sources) (drop (suc i) sources) files source fault accepted h)
 
+-- ---- pieces
+
+drop_twice : (a b : ℕ) (xs : List Source) → drop b (drop a xs) ≡ drop (a + b) xs
+drop_twice zero b xs = ap (λ (n : ℕ). drop n xs) (omega arith)
+drop_twice (suc a) b [] = drop-nil b ∙ sym (drop-nil (suc a + b))
+drop_twice (suc a) b (x ∷ xs) =
+    let more : suc (a + b) ≡ suc a + b = omega arith in
+    drop_twice a b xs ∙ ap (λ (n : ℕ). drop n (x ∷ xs)) more
+
+-- chunks of one size are pieces
+pub chunks_are_pieces : {A : Type 0} (IsOf : List Source → A → Type 0) (size : ℕ) (answers : List A) (sources : List Source) → length sources ≤ length answers * size →
+    ((n : ℕ) (d : A) → n < length answers → IsOf (slice_chunk sources size n) (get_or answers n d)) → AreOfPieces IsOf sources answers
+chunks_are_pieces IsOf size [] sources l each = nil_from_length sources (let none = zero-mul size in omega arith)
+chunks_are_pieces IsOf size (answer ∷ answers) sources l each =
+    let first : slice_chunk sources size 0 ≡ take size sources = ap (λ (n : ℕ). take size (drop n sources)) (zero-mul size) in
+    let more = suc-mul (length answers) size in
+    let long = length-drop size sources in (
+      take size sources,
+      drop size sources,
+      sym (take-append-drop size sources),
+      subst (λ (xs : List Source). IsOf xs answer) first (each zero answer (omega arith)),
+      chunks_are_pieces IsOf size answers (drop size sources) (omega arith) (λ n d lt.
+          let next : drop (suc n * size) sources ≡ drop (n * size) (drop size sources) =
+          ap (λ (k : ℕ). drop k sources) (let s = suc-mul n size in omega arith) ∙ sym (drop_twice size (n * size) sources) in
+          subst (λ (xs : List Source). IsOf xs (get_or answers n d)) (ap (take size) next) (each (suc n) d (omega arith))),
+    )
+
 module _ {K : Type 0} (is_of : ModuleFile → K → Type 0) where
   -- ---- what is kept of files
 
@@ -79,14 +106,14 @@ module _ {K : Type 0} (is_of : ModuleFile → K → Type 0) where
     each = λ i file kept p q. absurd cc;
   }
 
-  all_joined : (xs ys : List Source) (fs gs : List ModuleFile) (ks ms : List K) → AreAllOf is_of xs fs ks → AreAllOf is_of ys gs ms → AreAllOf is_of (xs ++ ys) (fs ++ gs) (ks ++ ms)
+  pub all_joined : (xs ys : List Source) (fs gs : List ModuleFile) (ks ms : List K) → AreAllOf is_of xs fs ks → AreAllOf is_of ys gs ms → AreAllOf is_of (xs ++ ys) (fs ++ gs) (ks ++ ms)
   all_joined xs ys fs gs ks ms p q = record {
     accepted = accepted_joined xs ys fs gs p.accepted q.accepted;
     as_many = longer ks ms fs gs p.as_many q.as_many;
     each = each_joined is_of fs gs ks ms p.as_many p.each q.each;
   }
 
-  all_one : (source : Source) (file : ModuleFile) (kept : K) → IsAccepted source file → is_of file kept → AreAllOf is_of (source ∷ []) (file ∷ []) (kept ∷ [])
+  pub all_one : (source : Source) (file : ModuleFile) (kept : K) → IsAccepted source file → is_of file kept → AreAllOf is_of (source ∷ []) (file ∷ []) (kept ∷ [])
   all_one source file kept accepted is = record {
     accepted = record { as_many = refl; each = λ i s f p q. one IsAccepted source file accepted i s f p q };
     as_many = refl;
@@ -108,31 +135,6 @@ module _ {K : Type 0} (is_of : ModuleFile → K → Type 0) where
 
   -- ---- pieces
 
-  drop_twice : (a b : ℕ) (xs : List Source) → drop b (drop a xs) ≡ drop (a + b) xs
-  drop_twice zero b xs = ap (λ (n : ℕ). drop n xs) (omega arith)
-  drop_twice (suc a) b [] = drop-nil b ∙ sym (drop-nil (suc a + b))
-  drop_twice (suc a) b (x ∷ xs) =
-      let more : suc (a + b) ≡ suc a + b = omega arith in
-      drop_twice a b xs ∙ ap (λ (n : ℕ). drop n (x ∷ xs)) more
-
-  -- chunks of one size are pieces
-  pub chunks_are_pieces : (size : ℕ) (answers : List (Result (Vec K Global) TreeFault)) (sources : List Source) → length sources ≤ length answers * size →
-      ((n : ℕ) (d : Result (Vec K Global) TreeFault) → n < length answers → IsReading is_of (slice_chunk sources size n) (get_or answers n d)) → AreOfPieces is_of sources answers
-  chunks_are_pieces size [] sources l each = nil_from_length sources (let none = zero-mul size in omega arith)
-  chunks_are_pieces size (answer ∷ answers) sources l each =
-      let first : slice_chunk sources size 0 ≡ take size sources = ap (λ (n : ℕ). take size (drop n sources)) (zero-mul size) in
-      let more = suc-mul (length answers) size in
-      let long = length-drop size sources in (
-        take size sources,
-        drop size sources,
-        sym (take-append-drop size sources),
-        subst (λ (xs : List Source). IsReading is_of xs answer) first (each zero answer (omega arith)),
-        chunks_are_pieces size answers (drop size sources) (omega arith) (λ n d lt.
-            let next : drop (suc n * size) sources ≡ drop (n * size) (drop size sources) =
-            ap (λ (k : ℕ). drop k sources) (let s = suc-mul n size in omega arith) ∙ sym (drop_twice size (n * size) sources) in
-            subst (λ (xs : List Source). IsReading is_of xs (get_or answers n d)) (ap (take size) next) (each (suc n) d (omega arith))),
-      )
-
   -- the files before a piece have been read, and the rest is there
   pub record AreReadBefore (sources : List Source) (all : List K) (answers : List (Result (Vec K Global) TreeFault)) : Type 0 where
     pub front : List Source
@@ -140,9 +142,9 @@ module _ {K : Type 0} (is_of : ModuleFile → K → Type 0) where
     pub whole : sources ≡ front ++ rest
     pub files : List ModuleFile
     pub are : AreAllOf is_of front files all
-    pub pieces : AreOfPieces is_of rest answers
+    pub pieces : AreOfPieces (IsReading is_of) rest answers
 
-  pub before_pieces : (sources : List Source) (answers : List (Result (Vec K Global) TreeFault)) → AreOfPieces is_of sources answers → AreReadBefore sources [] answers
+  pub before_pieces : (sources : List Source) (answers : List (Result (Vec K Global) TreeFault)) → AreOfPieces (IsReading is_of) sources answers → AreReadBefore sources [] answers
   before_pieces sources answers pieces = record { front = []; rest = sources; whole = refl; files = []; are = all_none; pieces = pieces }
 
   pub next_piece : (sources : List Source) (all : List K) (more : Vec K Global) (answers : List (Result (Vec K Global) TreeFault)) → AreReadBefore sources all (Ok more ∷ answers) →

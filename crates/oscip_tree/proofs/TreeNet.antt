@@ -1,6 +1,6 @@
 -- The network of a tree is that of its graph and its scopes.
 use Rattle.std.proofs.Common.{◌≡◌, ℕ, zero, suc, ◌<◌, true, List, [], ◌∷◌, ◌++◌, length, get_or, map, Some, refl, sym, ap, ◌∙◌, subst, inl, inr, arith}
-use Rattle.std.specs.Prelude.{All, Contains, slice_get}
+use Rattle.std.specs.Prelude.{◌↔◌, All, Contains, slice_get}
 use Rattle.std.specs.Str.{bytes_eq}
 use Rattle.std.proofs.lemmas.Bool.{cases_lt, false≢true}
 use Rattle.std.proofs.lemmas.List.{get_or-map, get_or_default, length-map}
@@ -204,15 +204,19 @@ module _ (sources : List Source) (files : List ModuleFile) (g : ImportGraph) (ke
             ]
       ]
 
+      -- the network has the names of the tree's modules and of those that they import
+      pub named_of_tree : (net : Network) → IsNetOf (graph_lines g ss) net → (n : List ℕ) → Contains net.names n ↔ IsNode (files_of files) n
+      named_of_tree net is n = (
+        λ has. node_of n (mentioned n ((is.named n).0 has)),
+        λ node. (is.named n).1 (Module n, Contains-append_left (map Module g.names) (map (graph_import g ss) g.pairs) (Module n) (in_map Module g.names n (nodes_known (files_of files) g.names kept.is_graph.nodes n node)), refl),
+      )
+
       pub net_of_tree : OneWeight → IsAcyclic (Imports (files_of files)) → (net : Network) → IsNetOf (graph_lines g ss) net → IsNetOfTree sources net
       net_of_tree once acyclic net is = record {
         files = files;
         is_tree = record { accepted = read.accepted; graph = g; kept = kept; acyclic = acyclic };
         names_ascend = is.names_ascend;
-        named = λ n. (
-          λ has. node_of n (mentioned n ((is.named n).0 has)),
-          λ node. (is.named n).1 (Module n, Contains-append_left (map Module g.names) (map (graph_import g ss) g.pairs) (Module n) (in_map Module g.names n (nodes_known (files_of files) g.names kept.is_graph.nodes n node)), refl),
-        );
+        named = named_of_tree net is;
         between = is.between;
         imports_ascend = is.imports_ascend;
         listed = λ (i : Priced) from to. (

@@ -29,8 +29,8 @@ abbrev pub IsReading : {K : Type 0} → (ModuleFile → K → Type 0) → List S
 IsReading is_of sources (Ok all) = (files : List ModuleFile) × AreAllOf is_of sources files all.items
 IsReading is_of sources (Err fault) = IsFaultOfFiles sources fault
 
--- these are the answers of reading pieces that together, one behind the other, are the files
-abbrev pub AreOfPieces : {K : Type 0} → (ModuleFile → K → Type 0) → List Source → List (Result (Vec K Global) TreeFault) → Type 0
-AreOfPieces is_of sources [] = sources ≡ []
-AreOfPieces is_of sources (answer ∷ answers) =
-    (piece : List Source) × (rest : List Source) × (sources ≡ piece ++ rest) × IsReading is_of piece answer × AreOfPieces is_of rest answers
+-- these are the answers to pieces that together, one behind the other, are the files
+abbrev pub AreOfPieces : {A : Type 0} → (List Source → A → Type 0) → List Source → List A → Type 0
+AreOfPieces IsOf sources [] = sources ≡ []
+AreOfPieces IsOf sources (answer ∷ answers) =
+    (piece : List Source) × (rest : List Source) × (sources ≡ piece ++ rest) × IsOf piece answer × AreOfPieces IsOf rest answers

@@ -7,3 +7,5 @@ pub mod TreeFaults
 pub mod Crossings
 pub mod Parts
 pub mod Readings
+pub mod OwnFaults
+pub mod Located

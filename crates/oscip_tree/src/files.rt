@@ -42,7 +42,7 @@ fn by_chunks<K: OfFile + Send, R: Threads + Sync>(
     size: usize,
 ) -> Result<Vec<Result<Vec<K>, TreeFault>>, AllocError>
     requires { 0 < size }
-    ensures { IfOk result (λ answers. AreOfPieces K.is_of sources.now answers.items) }
+    ensures { IfOk result (λ answers. AreOfPieces (IsReading K.is_of) sources.now answers.items) }
 {
     let answers = thread::map_chunks(
         rt,
@@ -57,7 +57,7 @@ fn by_chunks<K: OfFile + Send, R: Threads + Sync>(
 }
 
 /// How many files a chunk has, so that there are at most as many chunks as workers.
-fn size_of_chunks(files: usize, workers: u32) -> usize
+pub(crate) fn size_of_chunks(files: usize, workers: u32) -> usize
     ensures { 0 < result }
 {
     files.div_ceil(workers.max(1) as usize).max(1)

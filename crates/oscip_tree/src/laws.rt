@@ -1,9 +1,10 @@
 //! Laws of trees of files: no tree is accepted and refused, an accepted tree has one network, and a refused tree one fault.
 //! Each function is a law: its body is empty, and its contract is proved.
-ghost use Rattle.std.specs.Prelude.{◌≡◌, ℕ, Contains, false, length, true, List};
+ghost use Rattle.std.specs.Prelude.{◌≡◌, ◌↔◌, ◌∷◌, [], ℕ, Contains, false, length, map, true, List};
 ghost use Rattle.cut_net.specs.declared.priced.Priced.{Priced};
 ghost use Rattle.cut_net.specs.Network.{Network, name_of};
 ghost use Rattle.oscip_tree.specs.Crossings.{AreUses};
+ghost use Rattle.oscip_tree.specs.OwnFaults.{ArePartedFiles, AreTreeFaults};
 ghost use Rattle.oscip_tree.specs.TreeFaults.{tree_fault_text, wants_memory};
 ghost use Rattle.oscip_tree.specs.Trees.{IsNetOfTree, IsTree, IsTreeFault, ModuleFile};
 ghost use Rattle.oscip_tree.specs.declared.crossing.Span.{Span};
@@ -33,4 +34,21 @@ pub fn one_fault()
 pub fn weight_of_uses()
     ensures { (sources : List Source) (net : Network) (path : List ℕ) (spans : List Span) (i : Priced) →
         IsNetOfTree sources net → Contains net.imports i → AreUses sources (name_of net i.from) (name_of net i.to) path spans → i.amount ≡ length spans }
+{}
+
+/// The files of a tree are parted in one way: it is fixed which are accepted, and what is told of the others.
+pub fn one_parting()
+    ensures accepted { (sources accepted others : List Source) (faults more : List TreeFault) →
+        ArePartedFiles sources accepted faults → ArePartedFiles sources others more → accepted ≡ others }
+    ensures told { (sources accepted others : List Source) (faults more : List TreeFault) →
+        ArePartedFiles sources accepted faults → ArePartedFiles sources others more → map tree_fault_text faults ≡ map tree_fault_text more }
+{}
+
+/// All that a tree is refused for is told in one way: nothing exactly where it is accepted, and the tree's fault first.
+pub fn one_telling()
+    ensures told { (sources : List Source) (faults more : List TreeFault) →
+        AreTreeFaults sources faults → AreTreeFaults sources more → map tree_fault_text faults ≡ map tree_fault_text more }
+    ensures nothing { (sources : List Source) (faults : List TreeFault) →
+        AreTreeFaults sources faults → faults ≡ [] ↔ ((files : List ModuleFile) × IsTree sources files) }
+    ensures first { (sources : List Source) (fault : TreeFault) (more : List TreeFault) → AreTreeFaults sources (fault ∷ more) → IsTreeFault sources fault }
 {}

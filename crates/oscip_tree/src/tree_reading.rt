@@ -1,7 +1,7 @@
 //! A tree of Oberon-07 modules, read from the bytes of its files, and the network of its imports.
-ghost use Rattle.std.specs.Prelude.{◌≡◌, IfErr, IfOk, List, length, map};
+ghost use Rattle.std.specs.Prelude.{◌≡◌, ◌↔◌, ℕ, Contains, IfErr, IfOk, List, length, map};
 ghost use Rattle.cut_net.specs.Network.{texts};
-ghost use Rattle.ob_imports.specs.Files.{file_of as parsed_file, files_of as parsed_files};
+ghost use Rattle.ob_imports.specs.Files.{file_of as parsed_file, files_of as parsed_files, IsNode};
 ghost use Rattle.oscip_tree.specs.declared.source.Source.{Source};
 ghost use Rattle.oscip_tree.specs.Trees.{IsAccepted, IsNetOfTree, IsTreeFault, ModuleFile, file_of, files_of};
 ghost use Rattle.oscip_tree.specs.TreeReading.{AreFilesRead, AreScopesOf, IsTreeOf};
@@ -51,7 +51,7 @@ pub(crate) fn parsed_of(
     })
 }
 
-fn all_parsed(
+pub(crate) fn all_parsed(
     alloc: Global,
     sources: &[Source],
     scopes: &[Scopes],
@@ -83,9 +83,10 @@ pub(crate) fn scoped_tree<R: Threads + Sync>(
 }
 
 /// The network of the imports of a tree that is read.
-fn net_in(alloc: Global, tree: &Tree) -> Result<Net, AllocError>
+pub(crate) fn net_in(alloc: Global, tree: &Tree) -> Result<Net, AllocError>
     requires { (sources : List Source) × IsTreeOf sources tree.now }
-    ensures { (sources : List Source) → IsTreeOf sources tree.now → IfOk result (IsNetOfTree sources) }
+    ensures net { (sources : List Source) → IsTreeOf sources tree.now → IfOk result (IsNetOfTree sources) }
+    ensures named { (sources : List Source) → (of : IsTreeOf sources tree.now) → IfOk result (λ net. (n : List ℕ) → Contains net.names n ↔ IsNode (files_of of.files) n) }
 {
     tree.graph.keeps();
     weight_of_aliases();

@@ -15,6 +15,6 @@ returns g c =
     let enough = (div_ceil_times (length sources) size c.requires).0 in
     let same : length answers ≡ vec_len c.in_ok-answers.answers = search rules in
     let many : length answers ≡ length sources / size + min 1 (length sources % size) = same ∙ c.in_ok-answers.ensures.len in
-    chunks_are_pieces is_of size answers sources (subst (λ (n : ℕ). length sources ≤ n * size) (sym many) enough) (λ n d l.
+    chunks_are_pieces (IsReading is_of) size answers sources (subst (λ (n : ℕ). length sources ≤ n * size) (sym many) enough) (λ n d l.
     let k = (c.in_ok-answers.ensures.each n d l).1 in
     subst (λ (xs : List Source). IsReading is_of xs (get_or answers n d)) k.argument_is.value k.call)

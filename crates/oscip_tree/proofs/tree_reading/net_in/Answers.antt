@@ -1,11 +1,14 @@
-use Rattle.std.proofs.Common.{arith, subst, List}
+use Rattle.std.proofs.Common.{arith, subst, ℕ, List}
+use Rattle.std.specs.Prelude.{◌↔◌, Contains}
 use Rattle.std.proofs.lemmas.List.{length-map}
 use Rattle.std.proofs.lemmas.Result.{IfOk-weaker}
 use Rattle.cut_net.specs.NetText.{IsNetOf}
+use Rattle.cut_net.specs.Network.{Network}
+use Rattle.ob_imports.specs.Files.{IsNode}
 use Rattle.ob_scope.specs.Scoped.{ModuleScopes}
 use Rattle.oscip_tree.specs.GraphNet.{graph_lines}
-use Rattle.oscip_tree.specs.Trees.{file_of}
-use Rattle.oscip_tree.proofs.TreeNet.{names_named, net_of_tree}
+use Rattle.oscip_tree.specs.Trees.{file_of, files_of}
+use Rattle.oscip_tree.proofs.TreeNet.{named_of_tree, names_named, net_of_tree}
 use Rattle.oscip_tree.proofs.tree_reading.net_in.Goals as goal
 
 pub net_of_graph-requires-clause-as_many : goal.net_of_graph-requires-clause-as_many
@@ -21,10 +24,17 @@ net_of_graph-requires-clause-named c =
     let (sources, of) = c.requires in
     names_named sources of.files c.args.tree.now.graph of.kept c.args.tree.now.scopes.items of.read
 
-pub returns : goal.returns
-returns c sources of =
+pub returns-clause-net : goal.returns-clause-net
+returns-clause-net c sources of =
     let g = c.args.tree.now.graph in
     let ss = c.args.tree.now.scopes.items in
     IfOk-weaker c.net_of_graph.result _ _
     (λ net is. net_of_tree sources of.files g of.kept ss of.read c.weight_of_aliases.ensures c.keeps.ensures c.one_weight.ensures of.acyclic net
     (subst (λ (all : List ModuleScopes). IsNetOf (graph_lines g all) net) c.as_slice.ensures.value is)) c.net_of_graph.ensures
+
+pub returns-clause-named : goal.returns-clause-named
+returns-clause-named c sources of =
+    let g = c.args.tree.now.graph in
+    let ss = c.args.tree.now.scopes.items in
+    IfOk-weaker c.net_of_graph.result _ (λ (net : Network). (n : List ℕ) → Contains net.names n ↔ IsNode (files_of of.files) n)
+    (λ net is. named_of_tree sources of.files g of.kept ss of.read c.weight_of_aliases.ensures c.keeps.ensures net (subst (λ (all : List ModuleScopes). IsNetOf (graph_lines g all) net) c.as_slice.ensures.value is)) c.net_of_graph.ensures

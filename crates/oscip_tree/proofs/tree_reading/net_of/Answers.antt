@@ -4,4 +4,4 @@ pub net_in-requires : goal.net_in-requires
 net_in-requires g c = (c.args.sources.now, rw c.deref.ensures c.in_ok-tree.ensures.tree)
 
 pub returns-clause-net : goal.returns-clause-net
-returns-clause-net g c = c.in_ok-net_in.ensures c.args.sources.now (rw c.deref.ensures c.in_ok-tree.ensures.tree)
+returns-clause-net g c = c.in_ok-net_in.ensures.net c.args.sources.now (rw c.deref.ensures c.in_ok-tree.ensures.tree)
