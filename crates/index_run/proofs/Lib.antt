@@ -4,3 +4,4 @@ pub mod IndexRuns
 pub mod Packages
 pub mod SameBytes
 pub mod Digits
+pub mod AcceptedRuns

@@ -13,7 +13,7 @@ use Rattle.oscip_job.specs.declared.job.Output.{Output}
 use Rattle.oscip_job.specs.declared.job.Output.TheVariants as outputs
 use Rattle.oscip_run.specs.Runs.{IsRefusedTree}
 use Rattle.oscip_run.specs.declared.fault.RunFault.{RunFault}
-use Rattle.oscip_run.specs.declared.fault.RunFault.TheVariants.{CannotRead, CannotWrite, Tree, Net, Price, Report, Solve, Query, Device, Memory}
+use Rattle.oscip_run.specs.declared.fault.RunFault.TheVariants.{CannotRead, CannotWrite, Tree, Net, Price, Rules, Report, Solve, Query, Device, Memory}
 use Rattle.oscip_tree.specs.declared.source.Source.{Source}
 use Rattle.scip_index.specs.Plain.{PlainIndex}
 use Rattle.scip_index.specs.Written.{written}
@@ -64,6 +64,7 @@ IsTextRun sources IsText old new (Err (Net fault)) = ⊥
 IsTextRun sources IsText old new (Err (Price fault)) = ⊥
 IsTextRun sources IsText old new (Err (Report fault)) = ⊥
 IsTextRun sources IsText old new (Err (Solve fault)) = ⊥
+IsTextRun sources IsText old new (Err (Rules fault)) = ⊥
 IsTextRun sources IsText old new (Err (Query fault)) = ⊥
 IsTextRun sources IsText old new (Err Device) = PutsTextFront IsText old new
 IsTextRun sources IsText old new (Err Memory) = Keeps old new ⊎ PutsTextFront IsText old new

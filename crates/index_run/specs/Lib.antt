@@ -1,3 +1,4 @@
 pub mod IndexRuns
 pub mod FolderRuns
 pub mod WriterFaults
+pub mod AcceptedRuns

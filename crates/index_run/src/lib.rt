@@ -3,6 +3,7 @@
 //! Its contract: what an engine puts is what the definitions say of the tree, and nothing else.
 #![tactic(auto)]
 
+mod accepted;
 mod hexadecimal;
 mod indexing;
 pub mod laws;
@@ -10,6 +11,7 @@ mod putting;
 mod reading;
 mod records;
 
+pub use accepted::answer_index_of_accepted;
 pub use hexadecimal::hex_line;
 pub use indexing::{OpenBoard, answer_index, index_hex_to, index_to, unresolved_to};
 pub use putting::put_index;

@@ -8,14 +8,17 @@ ghost use Rattle.oscip_tree.specs.Sources.{ArePathsInOrder};
 ghost use Rattle.oscip_job.specs.Jobs.{HasPackage, HasTreeWorkers, HasWorkers, IsPackage, MayWork};
 
 use byte_sink::{Sink, ToWrite};
-use index_run::{OpenBoard, answer_index, run_unresolved, sources_to_index};
+use index_run::{
+    OpenBoard, answer_index, answer_index_of_accepted, run_unresolved, sources_to_index,
+};
 use oscip_job::{Indexing, Job, JobFault, Output, TreeQuestion, job_of};
 use oscip_run::{
-    Reader, RunFault, SystemFiles, fault_line, run_crossings, run_net, run_net_text, run_question,
-    run_tree, status_of, status_of_run, status_of_words,
+    Reader, RunFault, SystemFiles, fault_line, run_crossings, run_faults, run_net, run_net_text,
+    run_question, run_rules, run_tree, status_of, status_of_run, status_of_words,
 };
-use oscip_tree::Source;
+use oscip_tree::{Source, TreeFault};
 use std::alloc::Global;
+use std::fs::{File, OpenFile};
 use std::io::ErrorKind;
 use std::process::ExitCode;
 use std::rt::{Env, Files};
@@ -52,8 +55,116 @@ fn index_to_file<R: Files + AllocGlobal + Threads + Wait + Sync>(
     }
 }
 
-/// Makes an index, once all files of its folder are read. Nothing of it is a check that says no.
-fn run_index<R: Files + AllocGlobal + Threads + Wait + Sync, F: Reader, S: Sink>(
+/// Tells each fault of the files that are left out, in one line on standard error. Whether there is none.
+fn tell_left_out<R: AllocGlobal + Eprint>(
+    rt: &R,
+    faults: Vec<TreeFault>,
+) -> Result<bool, RunFault> {
+    let is_none = faults.is_empty();
+    for fault in faults {
+        let line = fault_line(rt.alloc(), &RunFault::from(fault))?;
+        let _ = eprint!(rt; "{line}");
+    }
+    Ok(is_none)
+}
+
+/// Writes the index of the files that have no fault of their own to a new file, whose path this is, and gives it to the disk.
+/// Tells of the others. Whether there is none.
+fn index_to_new<R: Files + AllocGlobal + Eprint + Threads + Wait + Sync>(
+    rt: &R,
+    indexing: &Indexing,
+    sources: Vec<Source>,
+    mut file: R::File,
+    path: &str,
+) -> Result<bool, RunFault>
+    requires in_order { ArePathsInOrder sources.items }
+    requires package { IsPackage (string_bytes indexing.now.package) }
+    requires workers { MayWork indexing.now.workers }
+{
+    let alloc = rt.alloc();
+    let mut sink = ToWrite::new(&mut file);
+    let faults = match answer_index_of_accepted(
+        rt, alloc, indexing, sources, &OpenBoard, &mut sink,
+    ) {
+        Err(RunFault::Device) => return Err(cannot_write(alloc, path)),
+        ended => ended?,
+    };
+    let is_whole = tell_left_out(rt, faults)?;
+    match file.sync_all() {
+        Ok(()) => Ok(is_whole),
+        Err(_) => Err(cannot_write(alloc, path)),
+    }
+}
+
+/// Puts the file of the first path in the place of that of the second.
+fn put_in_place<R: Files + AllocGlobal>(rt: &R, new: &str, path: &str) -> Result<(), RunFault> {
+    match fs::rename(rt, new, path) {
+        Ok(()) => Ok(()),
+        Err(_) => Err(cannot_write(rt.alloc(), path)),
+    }
+}
+
+/// Whether something stands at this path that isn't a file, as a folder or a device.
+fn is_other<R: Files>(rt: &R, path: &str) -> bool {
+    match fs::metadata(rt, path) {
+        Ok(metadata) => !metadata.is_file(),
+        Err(_) => false,
+    }
+}
+
+/// Writes the index of the files that have no fault of their own beside the file of this path, whose place it takes once it is
+/// whole. What was written is removed where anything is refused, and what isn't a file isn't replaced.
+fn replace_index<R: Files + AllocGlobal + Eprint + Threads + Wait + Sync>(
+    rt: &R,
+    indexing: &Indexing,
+    sources: Vec<Source>,
+    path: &str,
+) -> Result<bool, RunFault>
+    requires in_order { ArePathsInOrder sources.items }
+    requires package { IsPackage (string_bytes indexing.now.package) }
+    requires workers { MayWork indexing.now.workers }
+{
+    if is_other(rt, path) {
+        return Err(cannot_write(rt.alloc(), path));
+    }
+    let new = format!(in rt.alloc(); "{path}.new")?;
+    let new = new.as_str();
+    let Ok(file) = File::create_new(rt, new) else {
+        return Err(cannot_write(rt.alloc(), new));
+    };
+    let ended = match index_to_new(rt, indexing, sources, file, new) {
+        Ok(is_whole) => put_in_place(rt, new, path).map(|()| is_whole),
+        Err(fault) => Err(fault),
+    };
+    if ended.is_err() {
+        let _ = fs::remove_file(rt, new);
+    }
+    ended
+}
+
+/// Makes the index of the files that have no fault of their own, and tells of the others. Whether there is none.
+fn index_accepted<R: Files + AllocGlobal + Eprint + Threads + Wait + Sync, S: Sink>(
+    rt: &R,
+    indexing: &Indexing,
+    sources: Vec<Source>,
+    sink: &mut S,
+) -> Result<bool, RunFault>
+    requires in_order { ArePathsInOrder sources.items }
+    requires package { IsPackage (string_bytes indexing.now.package) }
+    requires workers { MayWork indexing.now.workers }
+{
+    match &indexing.output {
+        Output::File(path) => replace_index(rt, indexing, sources, path.as_str()),
+        Output::Hex => {
+            let alloc = rt.alloc();
+            let faults = answer_index_of_accepted(rt, alloc, indexing, sources, &OpenBoard, sink)?;
+            tell_left_out(rt, faults)
+        }
+    }
+}
+
+/// Makes an index, once all files of its folder are read. False is one from which files were left out.
+fn run_index<R: Files + AllocGlobal + Eprint + Threads + Wait + Sync, F: Reader, S: Sink>(
     rt: &R,
     reader: &F,
     indexing: &Indexing,
@@ -63,6 +174,9 @@ fn run_index<R: Files + AllocGlobal + Threads + Wait + Sync, F: Reader, S: Sink>
     requires workers { MayWork indexing.now.workers }
 {
     let sources = sources_to_index(reader, indexing)?;
+    if indexing.skips_faults {
+        return index_accepted(rt, indexing, sources, sink);
+    }
     let sources = sources.as_slice();
     match &indexing.output {
         Output::File(path) => index_to_file(rt, indexing, sources, path.as_str())?,
@@ -86,11 +200,13 @@ fn ask_tree<R: AllocGlobal + Threads + Wait + Sync, F: Reader, S: Sink>(
         TreeQuestion::OfNet(question) => run_tree(rt, alloc, reader, folder, question, sink),
         TreeQuestion::Crossings(names) => run_crossings(rt, alloc, reader, folder, names, sink),
         TreeQuestion::Net => run_net_text(rt, alloc, reader, folder, sink),
+        TreeQuestion::Rules(rules) => { run_rules(rt, alloc, reader, folder, rules.as_str(), sink) }
+        TreeQuestion::Faults => run_faults(rt, alloc, reader, folder, sink),
     }
 }
 
 /// Runs the job on the real files and the real standard output.
-fn run_job<R: Files + AllocGlobal + Print + Threads + Wait + Sync + Clone + Drop>(
+fn run_job<R: Files + AllocGlobal + Print + Eprint + Threads + Wait + Sync + Clone + Drop>(
     rt: &R,
     job: &Job,
 ) -> Result<bool, RunFault>
@@ -107,7 +223,9 @@ fn run_job<R: Files + AllocGlobal + Print + Threads + Wait + Sync + Clone + Drop
             let network = network.as_str();
             run_net(rt, rt.alloc(), &reader, network, question, &mut sink)
         }
-        Job::Ask(question) => run_question(rt.alloc(), &reader, question, &mut sink),
+        Job::Ask { index, question } => {
+            run_question(rt.alloc(), &reader, index.as_str(), question, &mut sink)
+        }
         Job::Index(indexing) => run_index(rt, &reader, indexing, &mut sink),
         Job::Unresolved { folder } => {
             run_unresolved(rt, rt.alloc(), &reader, folder.as_str(), &mut sink)

@@ -4,7 +4,7 @@ use crate::digest::Digest;
 use cut_solve::OpenGate;
 use index_run::{OpenBoard, index_to, unresolved_to};
 use ob_board::IndexOptions;
-use oscip_job::Question;
+use oscip_job::IndexQuestion;
 use oscip_run::{
     RunFault, answer_question, check_net_bytes, check_tree, cut_net_bytes, cut_tree, status_of,
     status_of_run,
@@ -133,7 +133,7 @@ pub fn cut_in_net<R: Threads + Wait + AllocGlobal + Sync>(
 }
 
 /// Asks an index for the places of the symbol at a position.
-pub fn ask(alloc: Global, question: &Question, index: &[u8], digest: &mut Digest) {
+pub fn ask(alloc: Global, question: &IndexQuestion, index: &[u8], digest: &mut Digest) {
     let ended = answer_question(alloc, question, index, digest);
     digest.end(status_of_puts(&ended));
 }

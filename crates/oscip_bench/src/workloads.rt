@@ -10,7 +10,7 @@ use crate::jobs::Stopped;
 use crate::modules::{Shape, prices_of, tree_of};
 use crate::networks::{Form, network_of};
 use crate::random::{Random, name_of, push_number};
-use oscip_job::{Places, Question};
+use oscip_job::{AskedSymbol, IndexQuestion, Places, Position};
 use std::alloc::{AllocError, Global};
 use std::sync::Wait;
 use std::thread::Threads;
@@ -174,15 +174,14 @@ fn question_of(
     style: Style,
     document: u64,
     line: u64,
-) -> Result<Question, AllocError> {
+) -> Result<IndexQuestion, AllocError> {
     let path = path_of(alloc, style, document)?;
-    Ok(Question {
-        places,
-        index: String::new(alloc),
+    let symbol = AskedSymbol::At(Position {
         path: String::from_str(alloc, str::from_utf8(path.as_slice()).unwrap_or(""))?,
         line: (line % 100_000) as u32,
         column: (column_of(seed, document, line) % 1000) as u32 + 2,
-    })
+    });
+    Ok(IndexQuestion::PlacesOf { places, symbol })
 }
 
 /// Asks an index for definitions and for uses, each time for what stands in another line.
@@ -277,12 +276,14 @@ pub fn awkward<R: Threads + Wait + AllocGlobal + Sync>(
     jobs::unresolved(rt, fields.as_slice(), digest)?;
     index_tree(rt, seed, part(DENSE, size), digest)?;
     let empty = empty_records(alloc, size * 50_000)?;
-    let question = Question {
-        places: Places::Definitions,
-        index: String::new(alloc),
+    let symbol = AskedSymbol::At(Position {
         path: String::from_str(alloc, "empty")?,
         line: 0,
         column: 0,
+    });
+    let question = IndexQuestion::PlacesOf {
+        places: Places::Definitions,
+        symbol,
     };
     jobs::ask(alloc, &question, empty.as_slice(), digest);
     Ok(())

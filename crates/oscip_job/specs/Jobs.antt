@@ -1,6 +1,7 @@
 -- The command line as clap reads it, and the job that its words give.
-use Rattle.std.specs.Prelude.{◌≡◌, ◌≢◌, ◌↔◌, ◌++◌, ◌<◌, ◌≤◌, ◌^◌, ℕ, List, [], ◌∷◌, Option, Some, None, codes, option_map, pos, slice_get, String, true}
+use Rattle.std.specs.Prelude.{◌≡◌, ◌≢◌, ◌↔◌, ◌++◌, ◌<◌, ◌≤◌, ◌^◌, ℕ, Bool, List, [], ◌∷◌, Option, Some, None, codes, nat_eq, option_map, pos, slice_get, String, true, false}
 use Rattle.std.specs.declared.alloc.Global.{Global}
+use Rattle.std.specs.List.{starts_with}
 use Rattle.std.specs.Str.Parse.{digits_value, without_leading_plus, IsNumeral}
 use Rattle.std.specs.String.{string_bytes}
 use Rattle.clap.specs.Words.{App, Row, Text, first_of, one_of, new_app, new_rule, with_rule, with_subcommand}
@@ -9,8 +10,12 @@ use Rattle.clap.specs.declared.builder.action.ArgAction.TheVariants as actions
 use Rattle.clap.specs.declared.builder.value_parser.ValueParser.TheVariants as parsers
 use Rattle.oscip_job.specs.declared.job.Job.{Job}
 use Rattle.oscip_job.specs.declared.job.Job.TheVariants.{Tree, Network, Ask, Index, Unresolved}
+use Rattle.oscip_job.specs.declared.job.AskedSymbol.{AskedSymbol}
+use Rattle.oscip_job.specs.declared.job.AskedSymbol.TheVariants.{At, Named}
 use Rattle.oscip_job.specs.declared.job.Cutting.{Cutting}
 use Rattle.oscip_job.specs.declared.job.Drawing.{Drawing}
+use Rattle.oscip_job.specs.declared.job.IndexQuestion.{IndexQuestion}
+use Rattle.oscip_job.specs.declared.job.IndexQuestion.TheVariants.{PlacesOf, SymbolAt, Symbols}
 use Rattle.oscip_job.specs.declared.job.Indexing.{Indexing}
 use Rattle.oscip_job.specs.declared.job.NetQuestion.{NetQuestion}
 use Rattle.oscip_job.specs.declared.job.NetQuestion.TheVariants.{Cut, Check, Dot, Why}
@@ -18,10 +23,10 @@ use Rattle.oscip_job.specs.declared.job.Output.{Output}
 use Rattle.oscip_job.specs.declared.job.Output.TheVariants as outputs
 use Rattle.oscip_job.specs.declared.job.Places.{Places}
 use Rattle.oscip_job.specs.declared.job.Places.TheVariants.{Definitions, References}
-use Rattle.oscip_job.specs.declared.job.Question.{Question}
+use Rattle.oscip_job.specs.declared.job.Position.{Position}
 use Rattle.oscip_job.specs.declared.job.Reported.{Reported}
 use Rattle.oscip_job.specs.declared.job.TreeQuestion.{TreeQuestion}
-use Rattle.oscip_job.specs.declared.job.TreeQuestion.TheVariants.{OfNet, Crossings, Net}
+use Rattle.oscip_job.specs.declared.job.TreeQuestion.TheVariants.{OfNet, Crossings, Net, Rules, Faults}
 use Rattle.oscip_job.specs.declared.job.TwoNames.{TwoNames}
 
 -- an argument that has to be given
@@ -69,6 +74,14 @@ crossings_app = with_rule (with_rule (with_rule (new_app (codes "crossings")) (r
 abbrev pub net_app : App
 net_app = with_rule (new_app (codes "net")) (required_rule (codes "DIR"))
 
+-- rules DIR FILE
+abbrev pub rules_app : App
+rules_app = with_rule (with_rule (new_app (codes "rules")) (required_rule (codes "DIR"))) (required_rule (codes "FILE"))
+
+-- faults DIR
+abbrev pub faults_app : App
+faults_app = with_rule (new_app (codes "faults")) (required_rule (codes "DIR"))
+
 -- why DIR A B
 abbrev pub why_app : App
 why_app = with_modules (with_rule (new_app (codes "why")) (required_rule (codes "DIR")))
@@ -85,13 +98,13 @@ check_net_app = with_prices (with_rule (with_rule (new_app (codes "check-net")) 
 abbrev pub why_net_app : App
 why_net_app = with_modules (with_rule (new_app (codes "why-net")) (required_rule (codes "FILE")))
 
--- --flow
-abbrev pub flow_rule : Rule
-flow_rule = record (new_rule (codes "flow")) { long = Some (codes "flow"); action = Some actions.SetTrue }
+-- an option that is given or not
+abbrev pub flag_rule : Text → Rule
+flag_rule id = record (new_rule id) { long = Some id; action = Some actions.SetTrue }
 
--- the command with that option
+-- the command with --flow
 abbrev pub with_flow : App → App
-with_flow app = with_rule app flow_rule
+with_flow app = with_rule app (flag_rule (codes "flow"))
 
 -- dot [--flow] [--prices FILE] DIR REPORT
 abbrev pub dot_app : App
@@ -101,42 +114,56 @@ dot_app = with_flow (with_prices (with_rule (with_rule (new_app (codes "dot")) (
 abbrev pub dot_net_app : App
 dot_net_app = with_flow (with_prices (with_rule (with_rule (new_app (codes "dot-net")) (required_rule (codes "FILE"))) (required_rule (codes "REPORT"))))
 
--- a number from 0 to 2147483647 that has to be given
-abbrev pub number_rule : Text → Rule
-number_rule id = record (new_rule id) { required = true; parser = Some (parsers.Signed (pos 0) (pos 2147483647)) }
+-- a number from 0 to 2147483647
+abbrev pub number_rule : Bool → Text → Rule
+number_rule required id = record (new_rule id) { required = required; parser = Some (parsers.Signed (pos 0) (pos 2147483647)) }
 
--- LINE COL
-abbrev pub with_position : App → App
-with_position app = with_rule (with_rule app (number_rule (codes "LINE"))) (number_rule (codes "COL"))
+-- PATH LINE COL, which have to be given or not
+abbrev pub with_position : Bool → App → App
+with_position required app =
+    with_rule (with_rule (with_rule app (record (new_rule (codes "PATH")) { required = required })) (number_rule required (codes "LINE"))) (number_rule required (codes "COL"))
 
--- a command of this name, INDEX PATH LINE COL
+-- a command of this name on an index
+abbrev pub index_question_app : Text → App
+index_question_app name = with_rule (new_app name) (required_rule (codes "INDEX"))
+
+-- --symbol TEXT
+abbrev pub symbol_rule : Rule
+symbol_rule = record (new_rule (codes "symbol")) { long = Some (codes "symbol"); value_names = 1 }
+
+-- a command of this name, [--symbol TEXT] INDEX [PATH] [LINE] [COL]
 abbrev pub asking_app : Text → App
-asking_app name = with_position (with_rule (with_rule (new_app name) (required_rule (codes "INDEX"))) (required_rule (codes "PATH")))
+asking_app name = with_rule (with_position false (index_question_app name)) symbol_rule
 
--- def INDEX PATH LINE COL
 abbrev pub def_app : App
 def_app = asking_app (codes "def")
 
--- refs INDEX PATH LINE COL
 abbrev pub refs_app : App
 refs_app = asking_app (codes "refs")
 
--- --hex
-abbrev pub hex_rule : Rule
-hex_rule = record (new_rule (codes "hex")) { long = Some (codes "hex"); action = Some actions.SetTrue }
+-- symbol INDEX PATH LINE COL
+abbrev pub symbol_app : App
+symbol_app = with_position true (index_question_app (codes "symbol"))
+
+-- symbols INDEX [PATH]
+abbrev pub symbols_app : App
+symbols_app = with_rule (index_question_app (codes "symbols")) (new_rule (codes "PATH"))
 
 -- [OUT] [--hex]
 abbrev pub with_output : App → App
-with_output app = with_rule (with_rule app (new_rule (codes "OUT"))) hex_rule
+with_output app = with_rule (with_rule app (new_rule (codes "OUT"))) (flag_rule (codes "hex"))
 
 -- an option with a text, which is empty where it isn't given
 abbrev pub text_rule : Text → Rule
 text_rule id = record (new_rule id) { long = Some id; value_names = 1; defaults = [] ∷ [] }
 
--- index [--hex] [--package TEXT] [--root TEXT] [--workers N] DIR [OUT]
+-- [--package TEXT] [--root TEXT] [--workers N] [--skip-faults]
+abbrev pub with_options : App → App
+with_options app = with_rule (with_workers (with_rule (with_rule app (text_rule (codes "package"))) (text_rule (codes "root")))) (flag_rule (codes "skip-faults"))
+
+-- index [--hex] [--package TEXT] [--root TEXT] [--workers N] [--skip-faults] DIR [OUT]
 abbrev pub index_app : App
-index_app =
-    with_workers (with_rule (with_rule (with_output (with_rule (new_app (codes "index")) (required_rule (codes "DIR")))) (text_rule (codes "package"))) (text_rule (codes "root")))
+index_app = with_options (with_output (with_rule (new_app (codes "index")) (required_rule (codes "DIR"))))
 
 -- unresolved DIR
 abbrev pub unresolved_app : App
@@ -151,7 +178,7 @@ abbrev pub with_trees : App → App
 with_trees app = with_subcommand (with_subcommand (with_subcommand app cut_app.top) check_app.top) crossings_app.top
 
 abbrev pub with_imports : App → App
-with_imports app = with_subcommand (with_subcommand app net_app.top) why_app.top
+with_imports app = with_subcommand (with_subcommand (with_subcommand app net_app.top) why_app.top) rules_app.top
 
 abbrev pub with_nets : App → App
 with_nets app = with_subcommand (with_subcommand (with_subcommand app cut_net_app.top) check_net_app.top) why_net_app.top
@@ -162,12 +189,15 @@ with_pictures app = with_subcommand (with_subcommand app dot_app.top) dot_net_ap
 abbrev pub with_indexes : App → App
 with_indexes app = with_subcommand (with_subcommand app def_app.top) refs_app.top
 
+abbrev pub with_symbols : App → App
+with_symbols app = with_subcommand (with_subcommand app symbol_app.top) symbols_app.top
+
 abbrev pub with_indexers : App → App
-with_indexers app = with_subcommand (with_subcommand app index_app.top) unresolved_app.top
+with_indexers app = with_subcommand (with_subcommand (with_subcommand app index_app.top) unresolved_app.top) faults_app.top
 
 -- the program and its commands
 abbrev pub oscip : App
-oscip = with_indexers (with_indexes (with_pictures (with_nets (with_imports (with_trees program_app)))))
+oscip = with_indexers (with_symbols (with_indexes (with_pictures (with_nets (with_imports (with_trees program_app))))))
 
 -- the text that was found for an argument
 abbrev pub Finds : List Row → Text → Text → Type 0
@@ -201,26 +231,42 @@ NamesPosition rows = NamesWithin (codes "LINE") 0 2147483647 rows × NamesWithin
 abbrev pub NamesNumbers : List Row → Type 0
 NamesNumbers rows = NamesWorkers rows × NamesPosition rows
 
--- the question holds the values that were found for its arguments
-abbrev pub HasQuestion : List Row → Question → Type 0
-HasQuestion rows q =
-    Finds rows (codes "INDEX") (string_bytes q.index) × Finds rows (codes "PATH") (string_bytes q.path)
-    × FindsNumber rows (codes "LINE") q.line × FindsNumber rows (codes "COL") q.column
+-- the position holds the values that were found for its arguments
+abbrev pub HasPlace : List Row → Position → Type 0
+HasPlace rows at =
+    Finds rows (codes "PATH") (string_bytes at.path) × FindsNumber rows (codes "LINE") at.line × FindsNumber rows (codes "COL") at.column
 
--- --hex was given
-abbrev pub AsksForHex : List Row → Type 0
-AsksForHex rows = Finds rows (codes "hex") (codes "true")
+-- an argument wasn't given
+abbrev pub LacksValue : List Row → Text → Type 0
+LacksValue rows id = first_of id rows ≡ None
+
+-- the one symbol that the words name: by a position, or by --symbol
+abbrev pub HasAskedSymbol : List Row → AskedSymbol → Type 0
+HasAskedSymbol rows (At position) = LacksValue rows (codes "symbol") × HasPlace rows position
+HasAskedSymbol rows (Named symbol path) =
+    Finds rows (codes "symbol") (string_bytes symbol) × MayFind rows (codes "PATH") path × LacksValue rows (codes "LINE") × LacksValue rows (codes "COL")
+
+-- what is asked of an index holds the values that were found for its arguments
+abbrev pub HasIndexQuestion : List Row → IndexQuestion → Type 0
+HasIndexQuestion rows (PlacesOf places symbol) = HasAskedSymbol rows symbol
+HasIndexQuestion rows (SymbolAt position) = HasPlace rows position
+HasIndexQuestion rows (Symbols path) = MayFind rows (codes "PATH") path
+
+-- an option that is given or not was given
+abbrev pub IsGiven : List Row → Text → Type 0
+IsGiven rows id = Finds rows id (codes "true")
 
 -- the one place that the words name: standard output, by --hex, or a file, by OUT
 abbrev pub HasOutput : List Row → Output → Type 0
-HasOutput rows outputs.Hex = AsksForHex rows × (first_of (codes "OUT") rows ≡ None)
-HasOutput rows (outputs.File path) = (AsksForHex rows → ⊥) × Finds rows (codes "OUT") (string_bytes path)
+HasOutput rows outputs.Hex = IsGiven rows (codes "hex") × LacksValue rows (codes "OUT")
+HasOutput rows (outputs.File path) = (IsGiven rows (codes "hex") → ⊥) × Finds rows (codes "OUT") (string_bytes path)
 
 -- the index holds the values that were found for its arguments
 abbrev pub HasIndexing : List Row → Indexing → Type 0
 HasIndexing rows it =
     Finds rows (codes "DIR") (string_bytes it.folder) × HasOutput rows it.output × Finds rows (codes "package") (string_bytes it.package)
     × Finds rows (codes "root") (string_bytes it.root) × FindsNumber rows (codes "workers") it.workers
+    × (it.skips_faults ≡ true ↔ IsGiven rows (codes "skip-faults"))
 
 -- the names of two modules, which these arguments give
 abbrev pub HasTwoNames : List Row → Text → Text → TwoNames → Type 0
@@ -236,13 +282,9 @@ HasCutting rows it =
 abbrev pub HasReported : List Row → Reported → Type 0
 HasReported rows it = Finds rows (codes "REPORT") (string_bytes it.report) × MayFind rows (codes "prices") it.prices
 
--- --flow was given
-abbrev pub AsksForFlow : List Row → Type 0
-AsksForFlow rows = Finds rows (codes "flow") (codes "true")
-
 -- the report and its prices, and whether --flow was given
 abbrev pub HasDrawing : List Row → Drawing → Type 0
-HasDrawing rows it = HasReported rows it.reported × (it.by_flow ≡ true ↔ AsksForFlow rows)
+HasDrawing rows it = HasReported rows it.reported × (it.by_flow ≡ true ↔ IsGiven rows (codes "flow"))
 
 -- what is asked of a network holds the values that were found for its arguments
 abbrev pub HasNetQuestion : List Row → NetQuestion → Type 0
@@ -256,12 +298,14 @@ abbrev pub HasTreeQuestion : List Row → TreeQuestion → Type 0
 HasTreeQuestion rows (OfNet question) = HasNetQuestion rows question
 HasTreeQuestion rows (Crossings names) = HasTwoNames rows (codes "M") (codes "N") names
 HasTreeQuestion rows Net = Unit {0}
+HasTreeQuestion rows (Rules rules) = Finds rows (codes "FILE") (string_bytes rules)
+HasTreeQuestion rows Faults = Unit {0}
 
 -- the job holds the values that were found for its arguments
 abbrev pub HasValues : List Row → Job → Type 0
 HasValues rows (Tree folder question) = Finds rows (codes "DIR") (string_bytes folder) × HasTreeQuestion rows question
 HasValues rows (Network network question) = Finds rows (codes "FILE") (string_bytes network) × HasNetQuestion rows question
-HasValues rows (Ask question) = HasQuestion rows question
+HasValues rows (Ask index question) = Finds rows (codes "INDEX") (string_bytes index) × HasIndexQuestion rows question
 HasValues rows (Index indexing) = HasIndexing rows indexing
 HasValues rows (Unresolved folder) = Finds rows (codes "DIR") (string_bytes folder)
 
@@ -277,17 +321,25 @@ abbrev pub tree_question_name : TreeQuestion → Text
 tree_question_name (OfNet question) = net_question_name question
 tree_question_name (Crossings names) = codes "crossings"
 tree_question_name Net = codes "net"
+tree_question_name (Rules rules) = codes "rules"
+tree_question_name Faults = codes "faults"
 
 -- the word for which places an index is asked for
 abbrev pub asking_name : Places → Text
 asking_name Definitions = codes "def"
 asking_name References = codes "refs"
 
+-- the word for what is asked of an index
+abbrev pub index_question_name : IndexQuestion → Text
+index_question_name (PlacesOf places symbol) = asking_name places
+index_question_name (SymbolAt position) = codes "symbol"
+index_question_name (Symbols path) = codes "symbols"
+
 -- the word that names the command
 abbrev pub command_name : Job → Text
 command_name (Tree folder question) = tree_question_name question
 command_name (Network network question) = net_question_name question ++ codes "-net"
-command_name (Ask question) = asking_name question.places
+command_name (Ask index question) = index_question_name question
 command_name (Index indexing) = codes "index"
 command_name (Unresolved folder) = codes "unresolved"
 
@@ -307,26 +359,60 @@ abbrev pub HasTreeWorkers : TreeQuestion → Type 0
 HasTreeWorkers (OfNet question) = HasNetWorkers question
 HasTreeWorkers (Crossings names) = Unit {0}
 HasTreeWorkers Net = Unit {0}
+HasTreeWorkers (Rules rules) = Unit {0}
+HasTreeWorkers Faults = Unit {0}
 
 -- so those of the job
 abbrev pub HasWorkers : Job → Type 0
 HasWorkers (Tree folder question) = HasTreeWorkers question
 HasWorkers (Network network question) = HasNetWorkers question
-HasWorkers (Ask question) = Unit {0}
+HasWorkers (Ask index question) = Unit {0}
 HasWorkers (Index indexing) = MayWork indexing.workers
 HasWorkers (Unresolved folder) = Unit {0}
 
 -- the position's line and column are at most 2147483647
-abbrev pub IsPositionOf : Question → Type 0
-IsPositionOf q = (q.line ≤ 2147483647) × (q.column ≤ 2147483647)
+abbrev pub IsWithin : Position → Type 0
+IsWithin at = (at.line ≤ 2147483647) × (at.column ≤ 2147483647)
+
+-- so those of a question, where it has them
+abbrev pub HasSymbolPosition : AskedSymbol → Type 0
+HasSymbolPosition (At position) = IsWithin position
+HasSymbolPosition (Named symbol path) = Unit {0}
+
+abbrev pub HasIndexPosition : IndexQuestion → Type 0
+HasIndexPosition (PlacesOf places symbol) = HasSymbolPosition symbol
+HasIndexPosition (SymbolAt position) = IsWithin position
+HasIndexPosition (Symbols path) = Unit {0}
 
 -- so those of the job, where it has them
 abbrev pub HasPosition : Job → Type 0
 HasPosition (Tree folder question) = Unit {0}
 HasPosition (Network network question) = Unit {0}
-HasPosition (Ask question) = IsPositionOf question
+HasPosition (Ask index question) = HasIndexPosition question
 HasPosition (Index indexing) = Unit {0}
 HasPosition (Unresolved folder) = Unit {0}
+
+-- the text of a symbol of one document
+abbrev pub is_local : Text → Bool
+is_local text = starts_with nat_eq text (codes "local ")
+
+-- such a symbol comes with the path of its document
+abbrev pub HasSymbolPath : AskedSymbol → Type 0
+HasSymbolPath (At position) = Unit {0}
+HasSymbolPath (Named symbol path) = is_local (string_bytes symbol) ≡ true → path ≢ None
+
+abbrev pub HasIndexPath : IndexQuestion → Type 0
+HasIndexPath (PlacesOf places symbol) = HasSymbolPath symbol
+HasIndexPath (SymbolAt position) = Unit {0}
+HasIndexPath (Symbols path) = Unit {0}
+
+-- so that of the job, where it has one
+abbrev pub HasPath : Job → Type 0
+HasPath (Tree folder question) = Unit {0}
+HasPath (Network network question) = Unit {0}
+HasPath (Ask index question) = HasIndexPath question
+HasPath (Index indexing) = Unit {0}
+HasPath (Unresolved folder) = Unit {0}
 
 -- a package that can stand in a symbol: it isn't a full stop, and no space stands in front
 abbrev pub IsPackage : Text → Type 0
@@ -336,13 +422,13 @@ IsPackage text = (text ≢ codes ".") × (slice_get text 0 ≢ Some 32)
 abbrev pub HasPackage : Job → Type 0
 HasPackage (Tree folder question) = Unit {0}
 HasPackage (Network network question) = Unit {0}
-HasPackage (Ask question) = Unit {0}
+HasPackage (Ask index question) = Unit {0}
 HasPackage (Index indexing) = IsPackage (string_bytes indexing.package)
 HasPackage (Unresolved folder) = Unit {0}
 
--- the job is that of the command that clap found, and its numbers and its package are as they may be
+-- the job is that of the command that clap found, and its numbers, its package and its path are as they may be
 abbrev pub IsJobOf : Option (Text × List Row) → Job → Type 0
-IsJobOf found job = Holds found job × HasWorkers job × HasPosition job × HasPackage job
+IsJobOf found job = Holds found job × HasWorkers job × HasPosition job × HasPackage job × HasPath job
 
 -- ---- what is made on the way
 
@@ -352,3 +438,7 @@ IsNetQuestionOf name rows question = (name ≡ net_question_name question) × Ha
 
 abbrev pub IsTreeQuestionOf : Text → List Row → TreeQuestion → Type 0
 IsTreeQuestionOf name rows question = (name ≡ tree_question_name question) × HasTreeQuestion rows question × HasTreeWorkers question
+
+abbrev pub IsIndexQuestionOf : Text → List Row → IndexQuestion → Type 0
+IsIndexQuestionOf name rows question =
+    (name ≡ index_question_name question) × HasIndexQuestion rows question × HasIndexPosition question × HasIndexPath question

@@ -1,92 +1,18 @@
 //! The commands of the program and their words, as `clap` takes them.
 ghost use Rattle.std.specs.Prelude.{◌≡◌, IfOk, codes, false};
-ghost use Rattle.clap.specs.Words.{app_of, new_app, rule_of, with_rule, with_subcommand, App};
-ghost use Rattle.oscip_job.specs.Jobs.{asking_app, crossings_app, index_app, net_app, number_rule, oscip, program_app, required_rule, text_rule, unresolved_app, with_flow, with_imports, with_indexers, with_indexes, with_modules, with_nets, with_output, with_pictures, with_position, with_prices, with_trees, with_workers};
+ghost use Rattle.clap.specs.Words.{app_of, new_app, new_rule, rule_of, with_rule, with_subcommand, App};
+ghost use Rattle.oscip_job.specs.Jobs.{asking_app, crossings_app, faults_app, flag_rule, index_app, index_question_app, net_app, number_rule, oscip, program_app, required_rule, rules_app, symbol_app, symbol_rule, symbols_app, text_rule, unresolved_app, with_flow, with_imports, with_indexers, with_indexes, with_modules, with_nets, with_options, with_output, with_pictures, with_position, with_prices, with_symbols, with_trees, with_workers};
 ghost use Rattle.oscip_job.specs.Making.{Reads};
 
+use crate::helps::{
+    CHECK_END, CHECK_NET_END, CROSSINGS_END, CUT_END, CUT_NET_END, DEF_END, DEF_USAGE, DOT_END,
+    DOT_NET_END, FAULTS_END, FOLDER_HELP, INDEX_END, INDEX_USAGE, NET_END, NETWORK_HELP, OUT_HELP,
+    PATH_HELP, PRICES_HELP, PROGRAM_END, REFS_END, REFS_USAGE, RULES_END, RULES_HELP,
+    SKIP_FAULTS_HELP, SYMBOL_END, SYMBOL_HELP, SYMBOLS_END, UNRESOLVED_END, VERSION, WHY_END,
+    WHY_NET_END,
+};
 use clap::{Arg, ArgAction, Command, value_parser};
 use std::alloc::{AllocError, Global};
-
-/// What help says of a folder of modules.
-const FOLDER_HELP: &str =
-    "The folder of the modules: its files, and those of its folders, that end in `.Mod` or `.mod`";
-
-/// What help says of a network.
-const NETWORK_HELP: &str = "The network: lines `module M` and `import M N w`";
-
-/// What `--version` tells behind the program's name.
-const VERSION: &str = "0.1.0";
-
-/// What stands at the end of the program's help.
-const PROGRAM_END: &str = "Example: oscip cut examples/editor Edit Net{n}{n}\
-    `oscip COMMAND --help` has an example of each command and the statuses that it ends with.";
-
-/// What stands at the end of the help of a command that cuts.
-const CUT_END: &str = "Example: oscip cut examples/editor Edit Net{n}{n}\
-    Status: 0 the report is printed, 1 a module, a price or a name is refused, 2 the command line is refused,{n}\
-    3 a file can't be read or standard output takes nothing, 4 memory ran out";
-
-const CUT_NET_END: &str = "Example: oscip cut-net examples/six.net A B{n}{n}\
-    Status: 0 the report is printed, 1 the network, a price or a name is refused, 2 the command line is refused,{n}\
-    3 a file can't be read or standard output takes nothing, 4 memory ran out";
-
-/// What stands at the end of the help of a command that checks.
-const CHECK_END: &str = "Example: oscip check examples/editor edit.cut{n}{n}\
-    Status: 0 yes, 5 no, 1 a module, a price or the report is refused, 2 the command line is refused,{n}\
-    3 a file can't be read or standard output takes nothing, 4 memory ran out";
-
-/// What stands at the end of the help of the command that tells where a module uses another.
-const CROSSINGS_END: &str = "Example: oscip crossings examples/editor Edit Sync{n}{n}\
-    Status: 0 the places are printed, 1 a module or a name is refused, 2 the command line is refused,{n}\
-    3 a file can't be read or standard output takes nothing, 4 memory ran out";
-
-/// What stands at the end of the help of the command that tells the network of modules.
-const NET_END: &str = "Example: oscip net examples/editor{n}{n}\
-    Status: 0 the network is printed, 1 a module is refused, 2 the command line is refused,{n}\
-    3 a file can't be read or standard output takes nothing, 4 memory ran out";
-
-/// What stands at the end of the help of a command that tells why a module reaches another.
-const WHY_END: &str = "Example: oscip why examples/editor Edit Net{n}{n}\
-    Status: 0 the chain is printed, or there is none, 1 a module or a name is refused,{n}\
-    2 the command line is refused, 3 a file can't be read or standard output takes nothing,{n}\
-    4 memory ran out";
-
-const WHY_NET_END: &str = "Example: oscip why-net examples/six.net A B{n}{n}\
-    Status: 0 the chain is printed, or there is none, 1 the network or a name is refused,{n}\
-    2 the command line is refused, 3 a file can't be read or standard output takes nothing,{n}\
-    4 memory ran out";
-
-const CHECK_NET_END: &str = "Example: oscip check-net examples/six.net examples/six.cut{n}{n}\
-    Status: 0 yes, 5 no, 1 the network, a price or the report is refused, 2 the command line is refused,{n}\
-    3 a file can't be read or standard output takes nothing, 4 memory ran out";
-
-/// What stands at the end of the help of a command that draws.
-const DOT_END: &str = "Example: oscip dot examples/editor edit.cut{n}{n}\
-    Status: 0 the graph is printed, 1 a module, a price or the report is refused, 2 the command line is refused,{n}\
-    3 a file can't be read or standard output takes nothing, 4 memory ran out";
-
-const DOT_NET_END: &str = "Example: oscip dot-net examples/six.net examples/six.cut{n}{n}\
-    Status: 0 the graph is printed, 1 the network, a price or the report is refused, 2 the command line is refused,{n}\
-    3 a file can't be read or standard output takes nothing, 4 memory ran out";
-
-/// What stands at the end of the help of the command that makes an index.
-const INDEX_END: &str = "Example: oscip index examples/editor editor.scip{n}{n}\
-    Status: 0 the index is written, 1 a module is refused, 2 the command line is refused,{n}\
-    3 a file can't be read or written or standard output takes nothing, 4 memory ran out";
-
-/// What stands at the end of the help of the command that tells what means nothing.
-const UNRESOLVED_END: &str = "Example: oscip unresolved examples/editor{n}{n}\
-    Status: 0 the identifiers are printed, 1 a module is refused, 2 the command line is refused,{n}\
-    3 a file can't be read or standard output takes nothing, 4 memory ran out";
-
-/// What stands at the end of the help of a question to an index.
-const DEF_END: &str = "Example: oscip def examples/foreign.scip src/view.ts 2 19{n}{n}\
-    Status: 0 the places are printed, 1 the index or the path is refused, 2 the command line is refused,{n}\
-    3 a file can't be read or standard output takes nothing, 4 memory ran out";
-
-const REFS_END: &str = "Example: oscip refs examples/foreign.scip src/view.ts 2 19{n}{n}\
-    Status: 0 the places are printed, 1 the index or the path is refused, 2 the command line is refused,{n}\
-    3 a file can't be read or standard output takes nothing, 4 memory ran out";
 
 /// A command, or the want of memory that stopped its making: the steps after that hand it on. In its box the command has
 /// one name for what takes it over.
@@ -124,6 +50,23 @@ fn with_required<'a>(alloc: Global, command: Made<'a>, id: &'a str, help: &'a st
     with_arg(alloc, command, required)
 }
 
+/// The command with one more argument that may be given.
+fn with_value<'a>(alloc: Global, command: Made<'a>, id: &'a str, help: &'a str) -> Made<'a>
+    ensures { (app : App) → IfOk command.entry (λ c. Reads app c.value) → IfOk result (λ c. Reads (with_rule app (new_rule id.entry.now)) c.value) }
+{
+    let command = command?;
+    let value = Arg::new(alloc, id).help(help);
+    with_arg(alloc, command, value)
+}
+
+/// The command with the line of its usage, where `clap` can't tell which arguments go together.
+fn with_usage<'a>(alloc: Global, command: Made<'a>, usage: &'a str) -> Made<'a>
+    ensures { (app : App) → IfOk command.entry (λ c. Reads app c.value) → IfOk result (λ c. Reads app c.value) }
+{
+    let command = command?;
+    boxed(alloc, Box::into_inner(command).override_usage(usage))
+}
+
 /// The command with the names of two modules, A and B, and what help says of them.
 fn with_modules<'a>(
     alloc: Global,
@@ -159,9 +102,7 @@ fn with_prices<'a>(alloc: Global, command: Made<'a>) -> Made<'a>
     let prices = Arg::new(alloc, "prices")
         .long("prices")
         .value_name("FILE")
-        .help(
-            "The file of prices: lines `price M N k`, by which M's import of N weighs k, and `pin M N`, by which it is not to be removed",
-        );
+        .help(PRICES_HELP);
     with_arg(alloc, command, prices)
 }
 
@@ -220,16 +161,28 @@ fn checking<'a>(
     with_report(alloc, command, report_help)
 }
 
+/// The command with one more option that is given or not.
+fn with_flag<'a>(alloc: Global, command: Made<'a>, id: &'a str, help: &'a str) -> Made<'a>
+    ensures { (app : App) → IfOk command.entry (λ c. Reads app c.value) → IfOk result (λ c. Reads (with_rule app (flag_rule id.entry.now)) c.value) }
+{
+    let command = command?;
+    let flag = Arg::new(alloc, id)
+        .long(id)
+        .action(ArgAction::SetTrue)
+        .help(help);
+    with_arg(alloc, command, flag)
+}
+
 /// The command with the option of the picture by flow.
 fn with_flow<'a>(alloc: Global, command: Made<'a>) -> Made<'a>
     ensures { (app : App) → IfOk command.entry (λ c. Reads app c.value) → IfOk result (λ c. Reads (with_flow app) c.value) }
 {
-    let command = command?;
-    let flow = Arg::new(alloc, "flow")
-        .long("flow")
-        .action(ArgAction::SetTrue)
-        .help("Draw only the imports that the report removes or gives flow");
-    with_arg(alloc, command, flow)
+    with_flag(
+        alloc,
+        command,
+        "flow",
+        "Draw only the imports that the report removes or gives flow",
+    )
 }
 
 /// The command with the names of two modules, M and N.
@@ -270,6 +223,19 @@ fn net_command<'a>(alloc: Global) -> Made<'a>
     with_required(alloc, command, "DIR", FOLDER_HELP)
 }
 
+fn rules_command<'a>(alloc: Global) -> Made<'a>
+    ensures { IfOk result (λ c. Reads rules_app c.value) }
+{
+    let command = named(
+        alloc,
+        "rules",
+        "Tell whether Oberon-07 modules keep rules of which may not reach which",
+        RULES_END,
+    );
+    let command = with_required(alloc, command, "DIR", FOLDER_HELP);
+    with_required(alloc, command, "FILE", RULES_HELP)
+}
+
 /// The command of this name with the words of a search for a chain: what it is searched in, and the names of two modules.
 fn chaining<'a>(
     alloc: Global,
@@ -291,70 +257,128 @@ fn chaining<'a>(
     )
 }
 
-/// The command with one more number that has to be given, from 0 to 2,147,483,647.
-fn with_number<'a>(alloc: Global, command: Made<'a>, id: &'a str, help: &'a str) -> Made<'a>
-    ensures { (app : App) → IfOk command.entry (λ c. Reads app c.value) → IfOk result (λ c. Reads (with_rule app (number_rule id.entry.now)) c.value) }
+/// The command with one more number, from 0 to 2,147,483,647.
+fn with_number<'a>(
+    alloc: Global,
+    command: Made<'a>,
+    required: bool,
+    id: &'a str,
+    help: &'a str,
+) -> Made<'a>
+    ensures { (app : App) → IfOk command.entry (λ c. Reads app c.value) → IfOk result (λ c. Reads (with_rule app (number_rule required id.entry.now)) c.value) }
 {
     let command = command?;
     let number = Arg::new(alloc, id)
-        .required(true)
+        .required(required)
         .value_parser(value_parser!(u32).range(0..=2147483647))
         .help(help);
     with_arg(alloc, command, number)
 }
 
-/// The command with the line and the column of a position.
-fn with_position<'a>(alloc: Global, command: Made<'a>) -> Made<'a>
-    ensures { (app : App) → IfOk command.entry (λ c. Reads app c.value) → IfOk result (λ c. Reads (with_position app) c.value) }
+/// The command with the path of a document, and a line and a column of it.
+fn with_position<'a>(alloc: Global, command: Made<'a>, required: bool) -> Made<'a>
+    ensures { (app : App) → IfOk command.entry (λ c. Reads app c.value) → IfOk result (λ c. Reads (with_position required app) c.value) }
 {
+    let command = command?;
+    let path = Arg::new(alloc, "PATH").required(required).help(PATH_HELP);
+    let command = with_arg(alloc, command, path);
     let command = with_number(
         alloc,
         command,
+        required,
         "LINE",
         "A line of the document, counted from 0",
     );
     with_number(
         alloc,
         command,
+        required,
         "COL",
         "A column of that line, counted from 0 in the units of the index",
     )
 }
 
-/// The command of this name with a question's words: the index, a document of it, and a position in that.
-fn asking<'a>(alloc: Global, name: &'a str, about: &'a str, end: &'a str) -> Made<'a>
-    ensures { IfOk result (λ c. Reads (asking_app name.entry.now) c.value) }
+/// The command of this name with the index that it asks.
+fn on_index<'a>(alloc: Global, name: &'a str, about: &'a str, end: &'a str) -> Made<'a>
+    ensures { IfOk result (λ c. Reads (index_question_app name.entry.now) c.value) }
 {
     let command = named(alloc, name, about, end);
-    let command = with_required(
+    with_required(
         alloc,
         command,
         "INDEX",
         "The file of an index in the SCIP format",
+    )
+}
+
+/// The command with the option of a symbol's text.
+fn with_symbol<'a>(alloc: Global, command: Made<'a>) -> Made<'a>
+    ensures { (app : App) → IfOk command.entry (λ c. Reads app c.value) → IfOk result (λ c. Reads (with_rule app symbol_rule) c.value) }
+{
+    let command = command?;
+    let symbol = Arg::new(alloc, "symbol")
+        .long("symbol")
+        .value_name("TEXT")
+        .help(SYMBOL_HELP);
+    with_arg(alloc, command, symbol)
+}
+
+/// The command of this name with the words of a question for places: the index, and a position in a document or the text of a symbol.
+fn asking<'a>(
+    alloc: Global,
+    name: &'a str,
+    about: &'a str,
+    end: &'a str,
+    usage: &'a str,
+) -> Made<'a>
+    ensures { IfOk result (λ c. Reads (asking_app name.entry.now) c.value) }
+{
+    let command = on_index(alloc, name, about, end);
+    let command = with_position(alloc, command, false);
+    let command = with_symbol(alloc, command);
+    with_usage(alloc, command, usage)
+}
+
+fn symbol_command<'a>(alloc: Global) -> Made<'a>
+    ensures { IfOk result (λ c. Reads symbol_app c.value) }
+{
+    let command = on_index(
+        alloc,
+        "symbol",
+        "Tell the text of the symbol at a position, by an index in the SCIP format",
+        SYMBOL_END,
     );
-    let command = with_required(
+    with_position(alloc, command, true)
+}
+
+fn symbols_command<'a>(alloc: Global) -> Made<'a>
+    ensures { IfOk result (λ c. Reads symbols_app c.value) }
+{
+    let command = on_index(
+        alloc,
+        "symbols",
+        "Tell which symbols are defined where, by an index in the SCIP format",
+        SYMBOLS_END,
+    );
+    with_value(
         alloc,
         command,
         "PATH",
-        "The path of a document, as the index has it",
-    );
-    with_position(alloc, command)
+        "The path of the only document to tell of, as the index has it: its local symbols too",
+    )
 }
 
 /// The command with the words that say where an index goes: the path of a file, or `--hex`.
 fn with_output<'a>(alloc: Global, command: Made<'a>) -> Made<'a>
     ensures { (app : App) → IfOk command.entry (λ c. Reads app c.value) → IfOk result (λ c. Reads (with_output app) c.value) }
 {
-    let command = command?;
-    let out = Arg::new(alloc, "OUT").help(
-        "The file that the index is written to, in the SCIP format; it is emptied only once DIR has been read, so it may be one of DIR's files",
-    );
-    let command = with_arg(alloc, command, out)?;
-    let hex = Arg::new(alloc, "hex")
-        .long("hex")
-        .action(ArgAction::SetTrue)
-        .help("Print the index as a line of hexadecimal digits, in place of writing it to a file");
-    with_arg(alloc, command, hex)
+    let command = with_value(alloc, command, "OUT", OUT_HELP);
+    with_flag(
+        alloc,
+        command,
+        "hex",
+        "Print the index as a line of hexadecimal digits, in place of writing it to a file",
+    )
 }
 
 /// The command with one more option that takes a text, which is empty where it isn't given.
@@ -372,7 +396,7 @@ fn with_text<'a>(alloc: Global, command: Made<'a>, id: &'a str, help: &'a str) -
 
 /// The command with the options of an index.
 fn with_options<'a>(alloc: Global, command: Made<'a>) -> Made<'a>
-    ensures { (app : App) → IfOk command.entry (λ c. Reads app c.value) → IfOk result (λ c. Reads (with_workers (with_rule (with_rule app (text_rule (codes "package"))) (text_rule (codes "root")))) c.value) }
+    ensures { (app : App) → IfOk command.entry (λ c. Reads app c.value) → IfOk result (λ c. Reads (with_options app) c.value) }
 {
     let command = with_text(
         alloc,
@@ -386,7 +410,8 @@ fn with_options<'a>(alloc: Global, command: Made<'a>) -> Made<'a>
         "root",
         "The root of the project that the index names, as a URI",
     );
-    with_workers(alloc, command)
+    let command = with_workers(alloc, command);
+    with_flag(alloc, command, "skip-faults", SKIP_FAULTS_HELP)
 }
 
 fn index_command<'a>(alloc: Global) -> Made<'a>
@@ -400,7 +425,8 @@ fn index_command<'a>(alloc: Global) -> Made<'a>
     );
     let command = with_required(alloc, command, "DIR", FOLDER_HELP);
     let command = with_output(alloc, command);
-    with_options(alloc, command)
+    let command = with_options(alloc, command);
+    with_usage(alloc, command, INDEX_USAGE)
 }
 
 fn unresolved_command<'a>(alloc: Global) -> Made<'a>
@@ -411,6 +437,18 @@ fn unresolved_command<'a>(alloc: Global) -> Made<'a>
         "unresolved",
         "Tell which identifiers of Oberon-07 modules mean nothing that the modules declare",
         UNRESOLVED_END,
+    );
+    with_required(alloc, command, "DIR", FOLDER_HELP)
+}
+
+fn faults_command<'a>(alloc: Global) -> Made<'a>
+    ensures { IfOk result (λ c. Reads faults_app c.value) }
+{
+    let command = named(
+        alloc,
+        "faults",
+        "Tell which files of a folder have faults, each its first one",
+        FAULTS_END,
     );
     with_required(alloc, command, "DIR", FOLDER_HELP)
 }
@@ -467,7 +505,9 @@ fn with_imports<'a>(alloc: Global, program: Made<'a>) -> Made<'a>
         "DIR",
         FOLDER_HELP,
     );
-    with_sub(alloc, program, why)
+    let program = with_sub(alloc, program, why);
+    let rules = rules_command(alloc);
+    with_sub(alloc, program, rules)
 }
 
 /// The program with the commands on networks, but for the one that draws.
@@ -541,6 +581,7 @@ fn with_indexes<'a>(alloc: Global, program: Made<'a>) -> Made<'a>
         "def",
         "Tell where the symbol at a position is defined, by an index in the SCIP format",
         DEF_END,
+        DEF_USAGE,
     );
     let program = with_sub(alloc, program, def);
     let refs = asking(
@@ -548,18 +589,31 @@ fn with_indexes<'a>(alloc: Global, program: Made<'a>) -> Made<'a>
         "refs",
         "Tell where the symbol at a position is used and not defined, by an index in the SCIP format",
         REFS_END,
+        REFS_USAGE,
     );
     with_sub(alloc, program, refs)
 }
 
-/// The program with the commands that index modules.
+/// The program with the commands that tell the symbols of indexes.
+fn with_symbols<'a>(alloc: Global, program: Made<'a>) -> Made<'a>
+    ensures { (app : App) → IfOk program.entry (λ c. app_of c.value ≡ app) → IfOk result (λ c. app_of c.value ≡ with_symbols app) }
+{
+    let symbol = symbol_command(alloc);
+    let program = with_sub(alloc, program, symbol);
+    let symbols = symbols_command(alloc);
+    with_sub(alloc, program, symbols)
+}
+
+/// The program with the commands that index modules, and that tell what is wrong with them.
 fn with_indexers<'a>(alloc: Global, program: Made<'a>) -> Made<'a>
     ensures { (app : App) → IfOk program.entry (λ c. app_of c.value ≡ app) → IfOk result (λ c. app_of c.value ≡ with_indexers app) }
 {
     let index = index_command(alloc);
     let program = with_sub(alloc, program, index);
     let unresolved = unresolved_command(alloc);
-    with_sub(alloc, program, unresolved)
+    let program = with_sub(alloc, program, unresolved);
+    let faults = faults_command(alloc);
+    with_sub(alloc, program, faults)
 }
 
 /// The program without any command.
@@ -586,5 +640,6 @@ pub(crate) fn command<'a>(alloc: Global) -> Made<'a>
     let program = with_nets(alloc, program);
     let program = with_pictures(alloc, program);
     let program = with_indexes(alloc, program);
+    let program = with_symbols(alloc, program);
     with_indexers(alloc, program)
 }

@@ -1,13 +1,13 @@
 //! From what `clap` finds for the words to the job.
-ghost use Rattle.std.specs.Prelude.{◌≡◌, ◌++◌, ◌≤◌, ◌↔◌, IfOk, IfSome, codes, map, true};
+ghost use Rattle.std.specs.Prelude.{◌≡◌, ◌++◌, ◌≤◌, ◌↔◌, ℕ, IfOk, IfSome, List, codes, map, true};
 ghost use Rattle.std.specs.String.{string_bytes};
 ghost use Rattle.clap.specs.Words.{found_of, kind_of, rows_of, subcommand_of, subcommand_rows_of};
-ghost use Rattle.oscip_job.specs.Jobs.{asking_name, oscip, AsksForFlow, AsksForHex, Finds, FindsNumber, HasCutting, HasDrawing, HasTwoNames, HasIndexing, HasOutput, HasPackage, HasPosition, HasQuestion, HasReported, HasWorkers, Holds, IsJobOf, IsNetQuestionOf, IsPackage, IsPositionOf, IsTreeQuestionOf, MayFind, MayWork, NamesNumbers, NamesPosition, NamesWithin, NamesWorkers};
+ghost use Rattle.oscip_job.specs.Jobs.{oscip, Finds, FindsNumber, HasAskedSymbol, HasCutting, HasDrawing, HasIndexing, HasOutput, HasPackage, HasPath, HasPlace, HasPosition, HasReported, HasSymbolPath, HasSymbolPosition, HasTwoNames, HasWorkers, Holds, IsGiven, IsIndexQuestionOf, IsJobOf, IsNetQuestionOf, IsPackage, IsTreeQuestionOf, IsWithin, MayFind, MayWork, NamesNumbers, NamesPosition, NamesWithin, NamesWorkers};
 
 use crate::commands::command;
 use crate::job::{
-    Cutting, Drawing, Indexing, Job, JobFault, NetQuestion, Output, Places, Question, Reported,
-    TreeQuestion, TwoNames,
+    AskedSymbol, Cutting, Drawing, IndexQuestion, Indexing, Job, JobFault, NetQuestion, Output,
+    Places, Position, Reported, TreeQuestion, TwoNames,
 };
 use clap::ArgMatches;
 use clap::error::ErrorKind;
@@ -21,11 +21,27 @@ const ONE_OUTPUT: &str =
 const WRONG_PACKAGE: &str =
     "error: the package can't be `.` and can't begin with a space\n\nFor more information, try '--help'.\n";
 
+/// Why a command line is refused that names no symbol, or one in two ways.
+const ONE_SYMBOL: &str =
+    "error: either PATH, LINE and COL have to be given, or --symbol without LINE and COL\n\nFor more information, try '--help'.\n";
+
+/// Why a command line is refused that asks by a symbol without a text.
+const NO_SYMBOL: &str =
+    "error: the text of a symbol can't be empty\n\nFor more information, try '--help'.\n";
+
+/// Why a command line is refused that names a symbol of one document and no document.
+const NO_DOCUMENT: &str =
+    "error: a symbol that begins with `local ` is one of a document, whose PATH has to be given\n\nFor more information, try '--help'.\n";
+
 /// Why there is no job of what `clap` found.
 #[derive(Drop)]
 enum Refusal {
-    /// A value isn't there that `clap` sees to.
+    /// A value isn't there that `clap` sees to, or the words name no symbol, or one in two ways.
     Missing,
+    /// The words name a symbol of no text.
+    Empty,
+    /// The words name a symbol of one document and no document.
+    Document,
     /// The words give neither a file nor `--hex`, or both.
     Output,
     /// The package can't stand in a symbol.
@@ -51,7 +67,9 @@ fn refused(alloc: Global, text: &str) -> JobFault {
 /// What is told of a refusal.
 fn fault_of(alloc: Global, refusal: Refusal) -> JobFault {
     match refusal {
-        Refusal::Missing => refused(alloc, ""),
+        Refusal::Missing => refused(alloc, ONE_SYMBOL),
+        Refusal::Empty => refused(alloc, NO_SYMBOL),
+        Refusal::Document => refused(alloc, NO_DOCUMENT),
         Refusal::Output => refused(alloc, ONE_OUTPUT),
         Refusal::Package => refused(alloc, WRONG_PACKAGE),
         Refusal::Memory => JobFault::Memory,
@@ -68,13 +86,27 @@ fn value_of(alloc: Global, found: &ArgMatches<'_>, id: &str) -> Result<String, R
     }
 }
 
-/// The path of the file of prices, as text of its own, where it is given.
-fn prices_of(alloc: Global, found: &ArgMatches<'_>) -> Result<Option<String>, AllocError>
-    ensures { IfOk result (MayFind (rows_of (found_of found.now)) (codes "prices")) }
+/// The value of an argument, as text of its own, where it is given.
+fn value_given(
+    alloc: Global,
+    found: &ArgMatches<'_>,
+    id: &str,
+) -> Result<Option<String>, AllocError>
+    ensures { IfOk result (MayFind (rows_of (found_of found.now)) id.now) }
 {
-    match found.get_str("prices") {
+    match found.get_str(id) {
         None => Ok(None),
-        Some(path) => Ok(Some(String::from_str(alloc, path)?)),
+        Some(text) => Ok(Some(String::from_str(alloc, text)?)),
+    }
+}
+
+/// Whether an option is given that is given or not.
+fn is_given(found: &ArgMatches<'_>, id: &str) -> bool
+    ensures { result ≡ true ↔ IsGiven (rows_of (found_of found.now)) id.now }
+{
+    match found.get_str(id) {
+        None => false,
+        Some(text) => text == "true",
     }
 }
 
@@ -113,7 +145,7 @@ fn cutting_of(alloc: Global, found: &ArgMatches<'_>) -> Result<Cutting, Refusal>
     let workers = workers_of(found)?;
     let from = value_of(alloc, found, "A")?;
     let to = value_of(alloc, found, "B")?;
-    let prices = prices_of(alloc, found)?;
+    let prices = value_given(alloc, found, "prices")?;
     Ok(Cutting {
         from,
         to,
@@ -127,25 +159,15 @@ fn reported_of(alloc: Global, found: &ArgMatches<'_>) -> Result<Reported, Refusa
     ensures { IfOk result (HasReported (rows_of (found_of found.now))) }
 {
     let report = value_of(alloc, found, "REPORT")?;
-    let prices = prices_of(alloc, found)?;
+    let prices = value_given(alloc, found, "prices")?;
     Ok(Reported { report, prices })
-}
-
-/// Whether the words ask for the picture by flow.
-fn asks_for_flow(found: &ArgMatches<'_>) -> bool
-    ensures { result ≡ true ↔ AsksForFlow (rows_of (found_of found.now)) }
-{
-    match found.get_str("flow") {
-        None => false,
-        Some(text) => text == "true",
-    }
 }
 
 /// The words of a command that draws, but for what the report is on.
 fn drawing_of(alloc: Global, found: &ArgMatches<'_>) -> Result<Drawing, Refusal>
     ensures { IfOk result (HasDrawing (rows_of (found_of found.now))) }
 {
-    let by_flow = asks_for_flow(found);
+    let by_flow = is_given(found, "flow");
     let reported = reported_of(alloc, found)?;
     Ok(Drawing { reported, by_flow })
 }
@@ -180,6 +202,12 @@ fn tree_question(alloc: Global, name: &str, found: &ArgMatches<'_>) -> Result<Tr
     }
     if name == "net" {
         return Ok(TreeQuestion::Net);
+    }
+    if name == "rules" {
+        return Ok(TreeQuestion::Rules(value_of(alloc, found, "FILE")?));
+    }
+    if name == "faults" {
+        return Ok(TreeQuestion::Faults);
     }
     Ok(TreeQuestion::OfNet(net_question(alloc, name, found)?))
 }
@@ -216,49 +244,94 @@ fn number_of(found: &ArgMatches<'_>, id: &str) -> Result<u32, Refusal>
     }
 }
 
-/// The question of a command on indexes.
-fn question_of(alloc: Global, places: Places, found: &ArgMatches<'_>) -> Result<Question, Refusal>
+/// The position that the words name.
+fn position_of(alloc: Global, found: &ArgMatches<'_>) -> Result<Position, Refusal>
     requires { NamesPosition (rows_of (found_of found.now)) }
-    ensures values { IfOk result (HasQuestion (rows_of (found_of found.now))) }
-    ensures places { IfOk result (λ it. it.places ≡ places) }
-    ensures position { IfOk result IsPositionOf }
+    ensures values { IfOk result (HasPlace (rows_of (found_of found.now))) }
+    ensures within { IfOk result IsWithin }
 {
+    let path = value_of(alloc, found, "PATH")?;
     let line = number_of(found, "LINE")?;
     let column = number_of(found, "COL")?;
-    let index = value_of(alloc, found, "INDEX")?;
-    let path = value_of(alloc, found, "PATH")?;
-    Ok(Question {
-        places,
-        index,
-        path,
-        line,
-        column,
-    })
+    Ok(Position { path, line, column })
 }
 
-/// The job of the command that asks an index for these places.
-fn asking_job(alloc: Global, places: Places, found: &ArgMatches<'_>) -> Result<Job, Refusal>
-    requires { NamesPosition (rows_of (found_of found.now)) }
-    ensures { IfOk result (IsJobOf (Some (asking_name places, rows_of (found_of found.now)))) }
+/// The symbol of this text, which the words name by it.
+fn named_symbol(alloc: Global, found: &ArgMatches<'_>, symbol: &str) -> Result<AskedSymbol, Refusal>
+    requires { Finds (rows_of (found_of found.now)) (codes "symbol") symbol.now }
+    ensures values { IfOk result (HasAskedSymbol (rows_of (found_of found.now))) }
+    ensures position { IfOk result HasSymbolPosition }
+    ensures path { IfOk result HasSymbolPath }
 {
-    Ok(Job::Ask(question_of(alloc, places, found)?))
-}
-
-/// Whether the words ask for a line of hexadecimal digits.
-fn asks_for_hex(found: &ArgMatches<'_>) -> bool
-    ensures { result ≡ true ↔ AsksForHex (rows_of (found_of found.now)) }
-{
-    match found.get_str("hex") {
-        None => false,
-        Some(text) => text == "true",
+    if symbol.is_empty() {
+        return Err(Refusal::Empty);
     }
+    if found.get_str("LINE").is_some() || found.get_str("COL").is_some() {
+        return Err(Refusal::Missing);
+    }
+    let path = value_given(alloc, found, "PATH")?;
+    if path.is_none() && symbol.as_bytes().starts_with(b"local ") {
+        return Err(Refusal::Document);
+    }
+    let symbol = String::from_str(alloc, symbol)?;
+    Ok(AskedSymbol::Named { symbol, path })
+}
+
+/// The one symbol that the words name.
+fn asked_symbol(alloc: Global, found: &ArgMatches<'_>) -> Result<AskedSymbol, Refusal>
+    requires { NamesPosition (rows_of (found_of found.now)) }
+    ensures values { IfOk result (HasAskedSymbol (rows_of (found_of found.now))) }
+    ensures position { IfOk result HasSymbolPosition }
+    ensures path { IfOk result HasSymbolPath }
+{
+    match found.get_str("symbol") {
+        None => Ok(AskedSymbol::At(position_of(alloc, found)?)),
+        Some(symbol) => named_symbol(alloc, found, symbol),
+    }
+}
+
+/// What the command of this name asks of an index, where it asks that of one.
+fn index_question(
+    alloc: Global,
+    name: &str,
+    found: &ArgMatches<'_>,
+) -> Result<Option<IndexQuestion>, Refusal>
+    requires { NamesPosition (rows_of (found_of found.now)) }
+    ensures { IfOk result (λ asked. IfSome asked (IsIndexQuestionOf name.now (rows_of (found_of found.now)))) }
+{
+    if name == "symbols" {
+        let path = value_given(alloc, found, "PATH")?;
+        return Ok(Some(IndexQuestion::Symbols { path }));
+    }
+    if name == "symbol" {
+        return Ok(Some(IndexQuestion::SymbolAt(position_of(alloc, found)?)));
+    }
+    let places = match name {
+        "def" => Places::Definitions,
+        "refs" => Places::References,
+        _ => return Ok(None),
+    };
+    let symbol = asked_symbol(alloc, found)?;
+    Ok(Some(IndexQuestion::PlacesOf { places, symbol }))
+}
+
+/// The job of a command that asks this of an index.
+fn asking_job(
+    alloc: Global,
+    question: IndexQuestion,
+    found: &ArgMatches<'_>,
+) -> Result<Job, Refusal>
+    ensures { (name : List ℕ) → IsIndexQuestionOf name (rows_of (found_of found.now)) question → IfOk result (IsJobOf (Some (name, rows_of (found_of found.now)))) }
+{
+    let index = value_of(alloc, found, "INDEX")?;
+    Ok(Job::Ask { index, question })
 }
 
 /// Where the index goes, of which the words have to name exactly one.
 fn output_of(alloc: Global, found: &ArgMatches<'_>) -> Result<Output, Refusal>
     ensures { IfOk result (HasOutput (rows_of (found_of found.now))) }
 {
-    let hex = asks_for_hex(found);
+    let hex = is_given(found, "hex");
     match found.get_str("OUT") {
         None if hex => Ok(Output::Hex),
         Some(path) if !hex => Ok(Output::File(String::from_str(alloc, path)?)),
@@ -299,12 +372,14 @@ fn indexing_of(alloc: Global, found: &ArgMatches<'_>) -> Result<Indexing, Refusa
     let root = value_of(alloc, found, "root")?;
     let package = package_of(alloc, found)?;
     let output = output_of(alloc, found)?;
+    let skips_faults = is_given(found, "skip-faults");
     Ok(Indexing {
         folder,
         output,
         package,
         root,
         workers,
+        skips_faults,
     })
 }
 
@@ -338,19 +413,16 @@ fn job_named(alloc: Global, name: &str, found: &ArgMatches<'_>) -> Result<Job, R
     requires { NamesNumbers (rows_of (found_of found.now)) }
     ensures { IfOk result (IsJobOf (Some (name.now, rows_of (found_of found.now)))) }
 {
-    if name == "def" {
-        return asking_job(alloc, Places::Definitions, found);
-    }
-    if name == "refs" {
-        return asking_job(alloc, Places::References, found);
-    }
     if name == "index" {
         return index_job(alloc, found);
     }
     if name == "unresolved" {
         return unresolved_job(alloc, found);
     }
-    graph_job(alloc, name, found)
+    match index_question(alloc, name, found)? {
+        Some(question) => asking_job(alloc, question, found),
+        None => graph_job(alloc, name, found),
+    }
 }
 
 /// The job of the command that was met, and the values that were found for it.
@@ -403,6 +475,8 @@ pub fn job_of(alloc: Global, words: &[String]) -> Result<Job, JobFault>
     ensures position { IfOk result HasPosition }
     // Its package, where it has one, isn't `.` and doesn't begin with a space.
     ensures package { IfOk result HasPackage }
+    // A symbol that it names, and that begins with `local `, comes with the path of its document.
+    ensures path { IfOk result HasPath }
 {
     let command = command(alloc)?;
     match Box::into_inner(command).try_get_matches_from(words) {

@@ -12,19 +12,39 @@ pub enum Places {
     References,
 }
 
-/// What is asked of an index.
+/// A position in a document of an index.
 #[derive(Drop)]
-pub struct Question {
-    /// Which places of the symbol at the position.
-    pub places: Places,
-    /// The path of the index's file.
-    pub index: String,
-    /// The path of a document, as the index has it.
+pub struct Position {
+    /// The path of the document, as the index has it.
     pub path: String,
     /// A line of it, from 0 to 2,147,483,647.
     pub line: u32,
     /// A column of that line, from 0 to 2,147,483,647.
     pub column: u32,
+}
+
+/// Which symbol of an index is asked for.
+#[derive(Drop)]
+pub enum AskedSymbol {
+    /// The one at this position.
+    At(Position),
+    /// The one of this text.
+    Named {
+        symbol: String,
+        /// The path of a document. It is there where the text begins with `local `: such a symbol is one of a document.
+        path: Option<String>,
+    },
+}
+
+/// What is asked of an index.
+#[derive(Drop)]
+pub enum IndexQuestion {
+    /// These places of a symbol.
+    PlacesOf { places: Places, symbol: AskedSymbol },
+    /// The text of the symbol at a position.
+    SymbolAt(Position),
+    /// Where which symbols are defined: in the document of this path, or in all.
+    Symbols { path: Option<String> },
 }
 
 /// Where an index goes.
@@ -49,6 +69,8 @@ pub struct Indexing {
     pub root: String,
     /// How many workers make it, from 1 to 64.
     pub workers: u32,
+    /// Whether files that have faults of their own are left out.
+    pub skips_faults: bool,
 }
 
 /// The names of two modules.
@@ -108,6 +130,10 @@ pub enum TreeQuestion {
     Crossings(TwoNames),
     /// Their network, as a text.
     Net,
+    /// Whether they keep the rules in the file of this path.
+    Rules(String),
+    /// Which of their files have faults.
+    Faults,
 }
 
 /// A command with the values of its words: what is read, and what is asked of it. A folder, a network and an index are given by
@@ -125,7 +151,10 @@ pub enum Job {
         question: NetQuestion,
     },
     /// Asks this of an index.
-    Ask(Question),
+    Ask {
+        index: String,
+        question: IndexQuestion,
+    },
     /// Makes an index of the modules below a folder.
     Index(Indexing),
     /// Tells which identifiers of the modules below a folder mean nothing.

@@ -5,10 +5,11 @@
 
 mod commands;
 mod finding;
+mod helps;
 mod job;
 
 pub use finding::job_of;
 pub use job::{
-    Cutting, Drawing, Indexing, Job, JobFault, NetQuestion, Output, Places, Question, Reported,
-    TreeQuestion, TwoNames,
+    AskedSymbol, Cutting, Drawing, IndexQuestion, Indexing, Job, JobFault, NetQuestion, Output,
+    Places, Position, Reported, TreeQuestion, TwoNames,
 };

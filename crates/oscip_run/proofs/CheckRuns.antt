@@ -122,6 +122,7 @@ run_of IsOf IsRefused n is report old new (Err (run.Report fault)) h =
     let refused = h.0 in
     ((refused.0, subst IsOf (sym refused.1) is, refused.2), h.1)
 run_of IsOf IsRefused n is report old new (Err (run.Solve fault)) h = absurd h
+run_of IsOf IsRefused n is report old new (Err (run.Rules fault)) h = absurd h
 run_of IsOf IsRefused n is report old new (Err (run.Query fault)) h = absurd h
 run_of IsOf IsRefused n is report old new (Err run.Device) h = front_of IsOf n is report old new h
 run_of IsOf IsRefused n is report old new (Err run.Memory) (inl h) = inl h
@@ -138,6 +139,7 @@ no_run IsRun IsRefused known tree net price memory (run.Net fault) h = net fault
 no_run IsRun IsRefused known tree net price memory (run.Price fault) h = price fault (h, Keeps-same known)
 no_run IsRun IsRefused known tree net price memory (run.Report fault) h = absurd h
 no_run IsRun IsRefused known tree net price memory (run.Solve fault) h = absurd h
+no_run IsRun IsRefused known tree net price memory (run.Rules fault) h = absurd h
 no_run IsRun IsRefused known tree net price memory (run.Query fault) h = absurd h
 no_run IsRun IsRefused known tree net price memory run.Device h = absurd h
 no_run IsRun IsRefused known tree net price memory run.Memory h = memory (Keeps-same known)

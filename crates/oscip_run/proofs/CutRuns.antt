@@ -111,6 +111,7 @@ run_of IsOf IsRefused n is first second old new (Err (run.Report fault)) h = abs
 run_of IsOf IsRefused n is first second old new (Err (run.Solve fault)) h =
     let refused = h.0 in
     ((refused.0, subst IsOf (sym refused.1) is, refused.2, refused.3, refused.4), h.1)
+run_of IsOf IsRefused n is first second old new (Err (run.Rules fault)) h = absurd h
 run_of IsOf IsRefused n is first second old new (Err (run.Query fault)) h = absurd h
 run_of IsOf IsRefused n is first second old new (Err run.Device) h = front_of IsOf n is first second old new h
 run_of IsOf IsRefused n is first second old new (Err run.Memory) (inl h) = inl h

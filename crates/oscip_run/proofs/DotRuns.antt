@@ -84,6 +84,7 @@ module _ (Shows : Network → ℕ → ℕ → List Priced → List Priced → Li
       let refused = h.0 in
       ((refused.0, subst IsOf (sym refused.1) is, refused.2), h.1)
   run_of IsOf IsRefused n is bytes old new (Err (run.Solve fault)) h = absurd h
+  run_of IsOf IsRefused n is bytes old new (Err (run.Rules fault)) h = absurd h
   run_of IsOf IsRefused n is bytes old new (Err (run.Query fault)) h = absurd h
   run_of IsOf IsRefused n is bytes old new (Err run.Device) h = front_of IsOf n is bytes old new h
   run_of IsOf IsRefused n is bytes old new (Err run.Memory) (inl h) = inl h

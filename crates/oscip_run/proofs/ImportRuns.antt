@@ -40,6 +40,7 @@ weaker IsText Other IsRefused IsOther as_text as_fault old new (Err (run.Net fau
 weaker IsText Other IsRefused IsOther as_text as_fault old new (Err (run.Price fault)) h = (as_fault (run.Price fault) h.0, h.1)
 weaker IsText Other IsRefused IsOther as_text as_fault old new (Err (run.Report fault)) h = absurd h
 weaker IsText Other IsRefused IsOther as_text as_fault old new (Err (run.Solve fault)) h = (as_fault (run.Solve fault) h.0, h.1)
+weaker IsText Other IsRefused IsOther as_text as_fault old new (Err (run.Rules fault)) h = absurd h
 weaker IsText Other IsRefused IsOther as_text as_fault old new (Err (run.Query fault)) h = absurd h
 weaker IsText Other IsRefused IsOther as_text as_fault old new (Err run.Device) h = (h.0, as_text h.0 h.1, h.2)
 weaker IsText Other IsRefused IsOther as_text as_fault old new (Err run.Memory) (inl h) = inl h
@@ -132,6 +133,7 @@ refusal_of IsOf IsRefused n is first second (run.Net fault) h = absurd h
 refusal_of IsOf IsRefused n is first second (run.Price fault) h = absurd h
 refusal_of IsOf IsRefused n is first second (run.Report fault) h = absurd h
 refusal_of IsOf IsRefused n is first second (run.Solve fault) h = (h.0, subst IsOf (sym h.1) is, h.2, h.3, h.4)
+refusal_of IsOf IsRefused n is first second (run.Rules fault) h = absurd h
 refusal_of IsOf IsRefused n is first second (run.Query fault) h = absurd h
 refusal_of IsOf IsRefused n is first second run.Device h = absurd h
 refusal_of IsOf IsRefused n is first second run.Memory h = absurd h

@@ -1,4 +1,3 @@
-pub mod AskedRuns
 pub mod CheckRuns
 pub mod PricedInputs
 pub mod Sayable
@@ -10,3 +9,5 @@ pub mod NoRefusal
 pub mod WithoutPrices
 pub mod CrossingRuns
 pub mod FileRuns
+pub mod FaultRuns
+pub mod RuleRuns

@@ -18,6 +18,7 @@ no_refusal sources net (runs.Net fault) of h = h
 no_refusal sources net (runs.Price fault) of h = h
 no_refusal sources net (runs.Report fault) of h = h
 no_refusal sources net (runs.Solve fault) of h = h
+no_refusal sources net (runs.Rules fault) of h = h
 no_refusal sources net (runs.Query fault) of h = h
 no_refusal sources net runs.Device of h = h
 no_refusal sources net runs.Memory of h = h

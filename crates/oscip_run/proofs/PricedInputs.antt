@@ -34,6 +34,7 @@ refused_of IsOf IsRefused n is (Some text) (run.Price fault) (inl h) = absurd h
 refused_of IsOf IsRefused n is (Some text) (run.Price fault) (inr h) = inr (h.0, subst IsOf (sym h.1) is, h.2)
 refused_of IsOf IsRefused n is text (run.Report fault) h = h
 refused_of IsOf IsRefused n is text (run.Solve fault) h = h
+refused_of IsOf IsRefused n is text (run.Rules fault) h = h
 refused_of IsOf IsRefused n is text (run.Query fault) h = h
 refused_of IsOf IsRefused n is text run.Device h = h
 refused_of IsOf IsRefused n is text run.Memory h = h

@@ -1,29 +1,43 @@
 -- What a run of a question to an index reads and puts.
-use Rattle.std.specs.Prelude.{◌≡◌, ℕ, List, Option, Result, Ok, Err}
+use Rattle.std.specs.Prelude.{◌≡◌, ℕ, List, Option, option_map, Result, Ok, Err}
 use Rattle.std.specs.String.{string_bytes}
 use Rattle.index_store.specs.declared.place.Position.{Position}
+use Rattle.oscip_job.specs.declared.job.AskedSymbol.{AskedSymbol}
+use Rattle.oscip_job.specs.declared.job.AskedSymbol.TheVariants.{At, Named}
+use Rattle.oscip_job.specs.declared.job.IndexQuestion.{IndexQuestion}
+use Rattle.oscip_job.specs.declared.job.IndexQuestion.TheVariants.{PlacesOf, SymbolAt, Symbols}
 use Rattle.oscip_job.specs.declared.job.Places.{Places}
 use Rattle.oscip_job.specs.declared.job.Places.TheVariants as places
-use Rattle.oscip_job.specs.declared.job.Question.{Question}
+use Rattle.oscip_job.specs.declared.job.Position as job
 use Rattle.index_store.specs.Asking.{IsQueryRun}
+use Rattle.index_store.specs.Telling.{IsNamedRun, IsSymbolRun, IsSymbolsRun}
 use Rattle.index_store.specs.declared.asking.Which.{Which}
 use Rattle.index_store.specs.declared.asking.Which.TheVariants.{Definitions, References}
 use Rattle.index_store.specs.declared.query_fault.QueryFault.{QueryFault}
 use Rattle.oscip_run.specs.declared.fault.RunFault.{RunFault}
 use Rattle.oscip_run.specs.Faults.{of_query}
 
--- the position of a question
-abbrev pub position_of : Question → Position
-position_of q = record { line = q.line; column = q.column }
+-- a position of a question
+abbrev pub position_of : job.Position → Position
+position_of at = record { line = at.line; column = at.column }
 
 -- the places that a question asks for, as the index tells them
 abbrev pub which_of : Places → Which
 which_of places.Definitions = Definitions
 which_of places.References = References
 
--- a run of a question to the bytes of an index: for the places where the symbol is defined, or those where it is used; its fault is that of
--- the lower crate
-abbrev pub IsAskedRun : List ℕ → Question → Option (List ℕ) → Option (List ℕ) → Result (Unit {0}) RunFault → Type 0
-IsAskedRun index q old new (Ok _) = IsQueryRun index (string_bytes q.path) (position_of q) (which_of q.places) old new (Ok tt)
-IsAskedRun index q old new (Err fault) =
-    (lower : QueryFault) × (fault ≡ of_query lower) × IsQueryRun index (string_bytes q.path) (position_of q) (which_of q.places) old new (Err lower)
+-- a run for the places of a symbol: of the one at a position, or of the one of a text
+abbrev pub IsPlacesRun : List ℕ → Places → AskedSymbol → Option (List ℕ) → Option (List ℕ) → Result (Unit {0}) QueryFault → Type 0
+IsPlacesRun index places (At at) old new result = IsQueryRun index (string_bytes at.path) (position_of at) (which_of places) old new result
+IsPlacesRun index places (Named symbol path) old new result = IsNamedRun index (option_map string_bytes path) (string_bytes symbol) (which_of places) old new result
+
+-- a run for what is asked of an index
+abbrev pub IsIndexRun : List ℕ → IndexQuestion → Option (List ℕ) → Option (List ℕ) → Result (Unit {0}) QueryFault → Type 0
+IsIndexRun index (PlacesOf places symbol) old new result = IsPlacesRun index places symbol old new result
+IsIndexRun index (SymbolAt at) old new result = IsSymbolRun index (string_bytes at.path) (position_of at) old new result
+IsIndexRun index (Symbols path) old new result = IsSymbolsRun index (option_map string_bytes path) old new result
+
+-- a run of a question to the bytes of an index; its fault is that of the lower crate
+abbrev pub IsAskedRun : List ℕ → IndexQuestion → Option (List ℕ) → Option (List ℕ) → Result (Unit {0}) RunFault → Type 0
+IsAskedRun index question old new (Ok _) = IsIndexRun index question old new (Ok tt)
+IsAskedRun index question old new (Err fault) = (lower : QueryFault) × (fault ≡ of_query lower) × IsIndexRun index question old new (Err lower)

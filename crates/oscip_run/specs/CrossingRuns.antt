@@ -9,7 +9,7 @@ use Rattle.index_store.specs.Queries.{PlainPlace}
 use Rattle.index_store.specs.Lines.{place_lines}
 use Rattle.oscip_run.specs.Runs.{IsRefusedTree}
 use Rattle.oscip_run.specs.declared.fault.RunFault.{RunFault}
-use Rattle.oscip_run.specs.declared.fault.RunFault.TheVariants.{CannotRead, CannotWrite, Tree, Net, Price, Report, Solve, Query, Device, Memory}
+use Rattle.oscip_run.specs.declared.fault.RunFault.TheVariants.{CannotRead, CannotWrite, Tree, Net, Price, Rules, Report, Solve, Query, Device, Memory}
 use Rattle.oscip_tree.specs.Crossings.{AreUses, IsNoModule, IsNoNode}
 use Rattle.oscip_tree.specs.declared.crossing.Span.{Span}
 use Rattle.oscip_tree.specs.declared.source.Source.{Source}
@@ -56,6 +56,7 @@ IsCrossingsRun sources m n old new (Err (Net fault)) = ⊥
 IsCrossingsRun sources m n old new (Err (Price fault)) = ⊥
 IsCrossingsRun sources m n old new (Err (Report fault)) = ⊥
 IsCrossingsRun sources m n old new (Err (Solve fault)) = IsUnknown sources m n fault × Keeps old new
+IsCrossingsRun sources m n old new (Err (Rules fault)) = ⊥
 IsCrossingsRun sources m n old new (Err (Query fault)) = ⊥
 IsCrossingsRun sources m n old new (Err Device) = PutsUsesFront sources m n old new
 IsCrossingsRun sources m n old new (Err Memory) = Keeps old new ⊎ PutsUsesFront sources m n old new
@@ -73,6 +74,7 @@ IsNoName name (Report fault) = ⊥
 IsNoName name (Solve solve.SameModule) = ⊥
 IsNoName name (Solve (solve.NoSuchModule own)) = string_bytes own ≡ name
 IsNoName name (Solve solve.Memory) = ⊥
+IsNoName name (Rules fault) = ⊥
 IsNoName name (Query fault) = ⊥
 IsNoName name Device = ⊥
 IsNoName name Memory = Unit {0}

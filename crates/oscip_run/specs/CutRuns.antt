@@ -13,7 +13,7 @@ use Rattle.cut_solve.specs.Faults.{IsRefusalOf}
 use Rattle.cut_solve.specs.Solving.{IsSolveOutcome, SolveRefusal}
 use Rattle.cut_solve.specs.declared.fault.SolveFault.{SolveFault}
 use Rattle.oscip_run.specs.declared.fault.RunFault.{RunFault}
-use Rattle.oscip_run.specs.declared.fault.RunFault.TheVariants.{CannotRead, CannotWrite, Tree, Net, Price, Report, Solve, Query, Device, Memory}
+use Rattle.oscip_run.specs.declared.fault.RunFault.TheVariants.{CannotRead, CannotWrite, Tree, Net, Price, Rules, Report, Solve, Query, Device, Memory}
 
 -- a cheapest cut between a and b, with its weight and a flow that shows it
 pub record IsPrintedCut (net : Network) (a b total : ℕ) (printed flow : List Priced) : Type 0 where
@@ -101,6 +101,7 @@ IsCutRun IsOf IsRefused first second old new (Err (Net fault)) = IsRefused (Net 
 IsCutRun IsOf IsRefused first second old new (Err (Price fault)) = IsRefused (Price fault) × Keeps old new
 IsCutRun IsOf IsRefused first second old new (Err (Report fault)) = ⊥
 IsCutRun IsOf IsRefused first second old new (Err (Solve fault)) = IsRefusedNames IsOf first second fault × Keeps old new
+IsCutRun IsOf IsRefused first second old new (Err (Rules fault)) = ⊥
 IsCutRun IsOf IsRefused first second old new (Err (Query fault)) = ⊥
 IsCutRun IsOf IsRefused first second old new (Err Device) = PutsCutFront IsOf first second old new
 IsCutRun IsOf IsRefused first second old new (Err Memory) = Keeps old new ⊎ PutsCutFront IsOf first second old new

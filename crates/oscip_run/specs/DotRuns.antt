@@ -9,7 +9,7 @@ use Rattle.cut_report.specs.ReportClaim.{ReportClaim}
 use Rattle.cut_report.specs.ReportLines.{IsReportOutcome}
 use Rattle.cut_dot.specs.Pictures.{IsFlowPicture, IsPicture}
 use Rattle.oscip_run.specs.declared.fault.RunFault.{RunFault}
-use Rattle.oscip_run.specs.declared.fault.RunFault.TheVariants.{CannotRead, CannotWrite, Tree, Net, Price, Report, Solve, Query, Device, Memory}
+use Rattle.oscip_run.specs.declared.fault.RunFault.TheVariants.{CannotRead, CannotWrite, Tree, Net, Price, Rules, Report, Solve, Query, Device, Memory}
 use Rattle.oscip_run.specs.Runs.{IsRefusedReport}
 
 -- the picture that is asked for: the one by flow, or the one of all imports between the two modules
@@ -50,6 +50,7 @@ IsDotRun Shows IsOf IsRefused report old new (Err (Net fault)) = IsRefused (Net 
 IsDotRun Shows IsOf IsRefused report old new (Err (Price fault)) = IsRefused (Price fault) × Keeps old new
 IsDotRun Shows IsOf IsRefused report old new (Err (Report fault)) = IsRefusedReport IsOf report fault × Keeps old new
 IsDotRun Shows IsOf IsRefused report old new (Err (Solve fault)) = ⊥
+IsDotRun Shows IsOf IsRefused report old new (Err (Rules fault)) = ⊥
 IsDotRun Shows IsOf IsRefused report old new (Err (Query fault)) = ⊥
 IsDotRun Shows IsOf IsRefused report old new (Err Device) = PutsDrawnFront Shows IsOf report old new
 IsDotRun Shows IsOf IsRefused report old new (Err Memory) = Keeps old new ⊎ PutsDrawnFront Shows IsOf report old new

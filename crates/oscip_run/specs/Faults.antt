@@ -8,6 +8,8 @@ use Rattle.cut_net.specs.declared.fault.NetFault.{NetFault}
 use Rattle.cut_net.specs.declared.fault.NetFault.TheVariants as net
 use Rattle.cut_net.specs.declared.price_fault.PriceFault.{PriceFault}
 use Rattle.cut_net.specs.declared.price_fault.PriceFault.TheVariants as price
+use Rattle.cut_rules.specs.declared.fault.RulesFault.{RulesFault}
+use Rattle.cut_rules.specs.declared.fault.RulesFault.TheVariants as rules
 use Rattle.cut_report.specs.declared.fault.ReportFault.{ReportFault}
 use Rattle.cut_report.specs.declared.fault.ReportFault.TheVariants as report
 use Rattle.byte_sink.specs.declared.sink.SinkFault.{SinkFault}
@@ -18,7 +20,7 @@ use Rattle.oscip_run.specs.declared.fault.RunFault.{RunFault}
 use Rattle.index_store.specs.Faults.{query_fault_text, query_status}
 use Rattle.index_store.specs.declared.query_fault.QueryFault.{QueryFault}
 use Rattle.index_store.specs.declared.query_fault.QueryFault.TheVariants as query
-use Rattle.oscip_run.specs.declared.fault.RunFault.TheVariants.{CannotRead, CannotWrite, Tree, Net, Price, Report, Solve, Query, Device, Memory}
+use Rattle.oscip_run.specs.declared.fault.RunFault.TheVariants.{CannotRead, CannotWrite, Tree, Net, Price, Rules, Report, Solve, Query, Device, Memory}
 use Rattle.oscip_tree.specs.declared.tree_fault.TreeFault.{TreeFault}
 use Rattle.oscip_tree.specs.TreeFaults.{after_space, tree_fault_text, wants_memory}
 
@@ -40,6 +42,16 @@ of_price (price.NoSuchImport line) = Price (price.NoSuchImport line)
 of_price (price.TwicePrice line) = Price (price.TwicePrice line)
 of_price price.PriceOverflow = Price price.PriceOverflow
 of_price price.Memory = Memory
+
+abbrev pub of_rules : RulesFault → RunFault
+of_rules (rules.BadLine line) = Rules (rules.BadLine line)
+of_rules (rules.SetIsModule line) = Rules (rules.SetIsModule line)
+of_rules (rules.NoSuchModule line) = Rules (rules.NoSuchModule line)
+of_rules (rules.NoSuchImport line) = Rules (rules.NoSuchImport line)
+of_rules (rules.TwiceAllowed line) = Rules (rules.TwiceAllowed line)
+of_rules (rules.EmptySet line) = Rules (rules.EmptySet line)
+of_rules (rules.TooMany line) = Rules (rules.TooMany line)
+of_rules rules.Memory = Memory
 
 -- and so is a failed device
 abbrev pub of_report : ReportFault → RunFault
@@ -80,6 +92,16 @@ price_fault_text (price.TwicePrice line) = decimal line ++ codes ": TwicePrice"
 price_fault_text price.PriceOverflow = codes "PriceOverflow"
 price_fault_text price.Memory = codes "Memory"
 
+abbrev pub rules_fault_text : RulesFault → List ℕ
+rules_fault_text (rules.BadLine line) = decimal line ++ codes ": BadLine"
+rules_fault_text (rules.SetIsModule line) = decimal line ++ codes ": SetIsModule"
+rules_fault_text (rules.NoSuchModule line) = decimal line ++ codes ": NoSuchModule"
+rules_fault_text (rules.NoSuchImport line) = decimal line ++ codes ": NoSuchImport"
+rules_fault_text (rules.TwiceAllowed line) = decimal line ++ codes ": TwiceAllowed"
+rules_fault_text (rules.EmptySet line) = decimal line ++ codes ": EmptySet"
+rules_fault_text (rules.TooMany line) = decimal line ++ codes ": TooMany"
+rules_fault_text rules.Memory = codes "Memory"
+
 abbrev pub report_fault_text : ReportFault → List ℕ
 report_fault_text (report.BadLine line) = decimal line ++ codes ": BadLine"
 report_fault_text (report.UnknownName line) = decimal line ++ codes ": UnknownName"
@@ -102,6 +124,7 @@ fault_text (Net fault) = net_fault_text fault
 fault_text (Price fault) = price_fault_text fault
 fault_text (Report fault) = report_fault_text fault
 fault_text (Solve fault) = solve_fault_text fault
+fault_text (Rules fault) = rules_fault_text fault
 fault_text (Query fault) = query_fault_text fault
 fault_text Device = codes "cannot write"
 fault_text Memory = codes "Memory"
@@ -121,6 +144,16 @@ price_status (price.NoSuchImport line) = 1
 price_status (price.TwicePrice line) = 1
 price_status price.PriceOverflow = 1
 price_status price.Memory = 4
+
+abbrev pub rules_status : RulesFault → ℕ
+rules_status (rules.BadLine line) = 1
+rules_status (rules.SetIsModule line) = 1
+rules_status (rules.NoSuchModule line) = 1
+rules_status (rules.NoSuchImport line) = 1
+rules_status (rules.TwiceAllowed line) = 1
+rules_status (rules.EmptySet line) = 1
+rules_status (rules.TooMany line) = 1
+rules_status rules.Memory = 4
 
 abbrev pub report_status : ReportFault → ℕ
 report_status (report.BadLine line) = 1
@@ -146,6 +179,7 @@ status_number (Net fault) = net_status fault
 status_number (Price fault) = price_status fault
 status_number (Report fault) = report_status fault
 status_number (Solve fault) = solve_status fault
+status_number (Rules fault) = rules_status fault
 status_number (Query fault) = query_status fault
 status_number Device = 3
 status_number Memory = 4
@@ -159,6 +193,7 @@ is_device (Net fault) = false
 is_device (Price fault) = false
 is_device (Report fault) = false
 is_device (Solve fault) = false
+is_device (Rules fault) = false
 is_device (Query fault) = false
 is_device Device = true
 is_device Memory = false
@@ -172,6 +207,7 @@ IsReadFault (Net fault) = ⊥
 IsReadFault (Price fault) = ⊥
 IsReadFault (Report fault) = ⊥
 IsReadFault (Solve fault) = ⊥
+IsReadFault (Rules fault) = ⊥
 IsReadFault (Query fault) = ⊥
 IsReadFault Device = ⊥
 IsReadFault Memory = Unit {0}

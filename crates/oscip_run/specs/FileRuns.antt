@@ -2,8 +2,8 @@
 use Rattle.std.specs.Prelude.{◌≡◌, ◌⊎◌, ℕ, Bool, true, List, Option, Result, Ok, Err, IfOk}
 use Rattle.std.specs.Io.KnownBytes.{Keeps}
 use Rattle.std.specs.String.{string_bytes}
+use Rattle.oscip_job.specs.declared.job.IndexQuestion.{IndexQuestion}
 use Rattle.oscip_job.specs.declared.job.NetQuestion.{NetQuestion}
-use Rattle.oscip_job.specs.declared.job.Question.{Question}
 use Rattle.oscip_job.specs.declared.job.TwoNames.{TwoNames}
 use Rattle.oscip_run.specs.AskedRuns.{IsAskedRun}
 use Rattle.oscip_run.specs.CrossingRuns.{IsCrossingsRun}
@@ -68,8 +68,8 @@ IsTreeTextRun Answers path old new result =
     ⊎ ((sources : List Source) × Answers (FolderOf path sources) × IsNetTextRun (IsNetOfTree sources) (IsRefusedTree sources) old new (without_answer result)
     × IfOk result (λ agrees. agrees ≡ true))
 
--- a run that asks an index; nor these
-abbrev pub IsQuestionRun : (Reading → Type 0) → Question → Option (List ℕ) → Option (List ℕ) → Result Bool RunFault → Type 0
-IsQuestionRun Answers question old new result =
-    IsUnread (IsInputNotGiven Answers (string_bytes question.index)) old new result
-    ⊎ ((index : List ℕ) × Answers (FileOf (string_bytes question.index) index) × IsAskedRun index question old new (without_answer result) × IfOk result (λ agrees. agrees ≡ true))
+-- a run that asks the index of this path; nor these
+abbrev pub IsQuestionRun : (Reading → Type 0) → List ℕ → IndexQuestion → Option (List ℕ) → Option (List ℕ) → Result Bool RunFault → Type 0
+IsQuestionRun Answers path question old new result =
+    IsUnread (IsInputNotGiven Answers path) old new result
+    ⊎ ((index : List ℕ) × Answers (FileOf path index) × IsAskedRun index question old new (without_answer result) × IfOk result (λ agrees. agrees ≡ true))

@@ -9,7 +9,7 @@ use Rattle.cut_net.specs.Network.{Network, index_of}
 use Rattle.cut_report.specs.NetLines.{chain_text, net_text}
 use Rattle.oscip_run.specs.CutRuns.{IsRefusedNames}
 use Rattle.oscip_run.specs.declared.fault.RunFault.{RunFault}
-use Rattle.oscip_run.specs.declared.fault.RunFault.TheVariants.{CannotRead, CannotWrite, Tree, Net, Price, Report, Solve, Query, Device, Memory}
+use Rattle.oscip_run.specs.declared.fault.RunFault.TheVariants.{CannotRead, CannotWrite, Tree, Net, Price, Rules, Report, Solve, Query, Device, Memory}
 
 -- the sink has all of such a text
 abbrev pub PutsTold : (List ℕ → Type 0) → Option (List ℕ) → Option (List ℕ) → Type 0
@@ -29,6 +29,7 @@ IsToldRun IsText IsRefused old new (Err (Net fault)) = IsRefused (Net fault) × 
 IsToldRun IsText IsRefused old new (Err (Price fault)) = IsRefused (Price fault) × Keeps old new
 IsToldRun IsText IsRefused old new (Err (Report fault)) = ⊥
 IsToldRun IsText IsRefused old new (Err (Solve fault)) = IsRefused (Solve fault) × Keeps old new
+IsToldRun IsText IsRefused old new (Err (Rules fault)) = ⊥
 IsToldRun IsText IsRefused old new (Err (Query fault)) = ⊥
 IsToldRun IsText IsRefused old new (Err Device) = PutsToldFront IsText old new
 IsToldRun IsText IsRefused old new (Err Memory) = Keeps old new ⊎ PutsToldFront IsText old new
@@ -73,6 +74,7 @@ IsWhyRefused IsOf IsRefused first second (Net fault) = IsRefused (Net fault)
 IsWhyRefused IsOf IsRefused first second (Price fault) = ⊥
 IsWhyRefused IsOf IsRefused first second (Report fault) = ⊥
 IsWhyRefused IsOf IsRefused first second (Solve fault) = IsRefusedNames IsOf first second fault
+IsWhyRefused IsOf IsRefused first second (Rules fault) = ⊥
 IsWhyRefused IsOf IsRefused first second (Query fault) = ⊥
 IsWhyRefused IsOf IsRefused first second Device = ⊥
 IsWhyRefused IsOf IsRefused first second Memory = ⊥

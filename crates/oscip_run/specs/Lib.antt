@@ -11,3 +11,5 @@ pub mod Readings
 pub mod FileRuns
 pub mod AskedRuns
 pub mod CrossingRuns
+pub mod FaultRuns
+pub mod RuleRuns

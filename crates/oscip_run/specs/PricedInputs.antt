@@ -5,7 +5,7 @@ use Rattle.cut_net.specs.Prices.{IsPriceOutcome}
 use Rattle.cut_net.specs.declared.price_fault.PriceFault.{PriceFault}
 use Rattle.oscip_run.specs.Runs.{IsNetOfText, IsRefusedText, IsRefusedTree}
 use Rattle.oscip_run.specs.declared.fault.RunFault.{RunFault}
-use Rattle.oscip_run.specs.declared.fault.RunFault.TheVariants.{CannotRead, CannotWrite, Tree, Net, Price, Report, Solve, Query, Device, Memory}
+use Rattle.oscip_run.specs.declared.fault.RunFault.TheVariants.{CannotRead, CannotWrite, Tree, Net, Price, Rules, Report, Solve, Query, Device, Memory}
 use Rattle.oscip_tree.specs.Trees.{IsNetOfTree}
 use Rattle.oscip_tree.specs.declared.source.Source.{Source}
 
@@ -31,6 +31,7 @@ IsRefusedBy IsOf text (Net fault) = ⊥
 IsRefusedBy IsOf text (Price fault) = IsPriceRefusal IsOf text fault
 IsRefusedBy IsOf text (Report fault) = ⊥
 IsRefusedBy IsOf text (Solve fault) = ⊥
+IsRefusedBy IsOf text (Rules fault) = ⊥
 IsRefusedBy IsOf text (Query fault) = ⊥
 IsRefusedBy IsOf text Device = ⊥
 IsRefusedBy IsOf text Memory = ⊥
@@ -71,6 +72,7 @@ IsRefusedOr IsRefused (Net fault) = IsRefused (Net fault)
 IsRefusedOr IsRefused (Price fault) = IsRefused (Price fault)
 IsRefusedOr IsRefused (Report fault) = ⊥
 IsRefusedOr IsRefused (Solve fault) = ⊥
+IsRefusedOr IsRefused (Rules fault) = ⊥
 IsRefusedOr IsRefused (Query fault) = ⊥
 IsRefusedOr IsRefused Device = ⊥
 IsRefusedOr IsRefused Memory = Unit {0}

@@ -12,7 +12,7 @@ use Rattle.cut_check.specs.declared.verdict.Verdict.{Verdict}
 use Rattle.cut_check.specs.declared.verdict.Verdict.TheVariants.{Yes, NoSuchImport, StillChain, WrongWeight, OverWeight, NotKept, WrongValue, NotPinned}
 use Rattle.cut_check.specs.Verdicts.{IsVerdict}
 use Rattle.oscip_run.specs.declared.fault.RunFault.{RunFault}
-use Rattle.oscip_run.specs.declared.fault.RunFault.TheVariants.{CannotRead, CannotWrite, Tree, Net, Price, Report, Solve, Query, Device, Memory}
+use Rattle.oscip_run.specs.declared.fault.RunFault.TheVariants.{CannotRead, CannotWrite, Tree, Net, Price, Rules, Report, Solve, Query, Device, Memory}
 use Rattle.oscip_tree.specs.declared.source.Source.{Source}
 use Rattle.oscip_tree.specs.TreeFaults.{wants_memory}
 use Rattle.oscip_tree.specs.Trees.{IsTreeFault}
@@ -30,6 +30,7 @@ IsRefusedText text (Net fault) = (refusal : NetRefusal) × IsRefusalOf fault ref
 IsRefusedText text (Price fault) = ⊥
 IsRefusedText text (Report fault) = ⊥
 IsRefusedText text (Solve fault) = ⊥
+IsRefusedText text (Rules fault) = ⊥
 IsRefusedText text (Query fault) = ⊥
 IsRefusedText text Device = ⊥
 IsRefusedText text Memory = ⊥
@@ -43,6 +44,7 @@ IsRefusedTree sources (Net fault) = ⊥
 IsRefusedTree sources (Price fault) = ⊥
 IsRefusedTree sources (Report fault) = ⊥
 IsRefusedTree sources (Solve fault) = ⊥
+IsRefusedTree sources (Rules fault) = ⊥
 IsRefusedTree sources (Query fault) = ⊥
 IsRefusedTree sources Device = ⊥
 IsRefusedTree sources Memory = ⊥
@@ -113,6 +115,7 @@ IsCheckRun IsOf IsRefused report old new (Err (Net fault)) = IsRefused (Net faul
 IsCheckRun IsOf IsRefused report old new (Err (Price fault)) = IsRefused (Price fault) × Keeps old new
 IsCheckRun IsOf IsRefused report old new (Err (Report fault)) = IsRefusedReport IsOf report fault × Keeps old new
 IsCheckRun IsOf IsRefused report old new (Err (Solve fault)) = ⊥
+IsCheckRun IsOf IsRefused report old new (Err (Rules fault)) = ⊥
 IsCheckRun IsOf IsRefused report old new (Err (Query fault)) = ⊥
 IsCheckRun IsOf IsRefused report old new (Err Device) = PutsFront IsOf report old new
 IsCheckRun IsOf IsRefused report old new (Err Memory) = Keeps old new ⊎ PutsFront IsOf report old new

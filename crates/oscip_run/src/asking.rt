@@ -1,14 +1,25 @@
 //! What a question to an index does with its bytes.
 ghost use Rattle.std.specs.Prelude.{◌≡◌};
 ghost use Rattle.byte_sink.specs.Sinks.{failures_by};
-ghost use Rattle.oscip_run.specs.AskedRuns.{which_of, IsAskedRun};
+ghost use Rattle.index_store.specs.Faults.{is_device as is_query_device};
+ghost use Rattle.oscip_run.specs.AskedRuns.{position_of, which_of, IsAskedRun, IsIndexRun, IsPlacesRun};
 ghost use Rattle.oscip_run.specs.Faults.{is_device};
 
 use crate::RunFault;
 use byte_sink::Sink;
-use index_store::{Position, Which, query};
-use oscip_job::{Places, Question};
+use index_store::{Position, QueryFault, Which, put_symbol, put_symbols, query, query_symbol};
+use oscip_job::{AskedSymbol, IndexQuestion, Places};
 use std::alloc::Global;
+
+/// A position of a question, as the index tells it.
+fn position_of(at: &oscip_job::Position) -> Position
+    ensures { result ≡ position_of at.now }
+{
+    Position {
+        line: at.line,
+        column: at.column,
+    }
+}
 
 /// The places that a question asks for, as the index tells them.
 fn which_of(places: Places) -> Which
@@ -20,12 +31,55 @@ fn which_of(places: Places) -> Which
     }
 }
 
-/// Answers a question from the bytes of its index: puts a line for each place where the symbol is defined, or
-/// where it is used and not defined, and nothing where no symbol covers the position. Refuses with `Query`, `Device` or
-/// `Memory`.
+/// Puts the places of a symbol: of the one at a position, or of the one of a text.
+fn put_places<S: Sink>(
+    alloc: Global,
+    places: Places,
+    symbol: &AskedSymbol,
+    index: &[u8],
+    sink: &mut S,
+) -> Result<(), QueryFault>
+    ensures run { IsPlacesRun index.now places symbol.now (S.taken sink.old) (S.taken sink.new) result }
+    ensures failures { S.failures sink.new ≡ failures_by is_query_device result (S.failures sink.old) }
+{
+    let which = which_of(places);
+    match symbol {
+        AskedSymbol::At(at) => {
+            query(alloc, index, at.path.as_str(), position_of(at), which, sink)
+        }
+        AskedSymbol::Named { symbol, path } => {
+            query_symbol(alloc, index, path.as_deref(), symbol.as_str(), which, sink)
+        }
+    }
+}
+
+/// Puts what is asked of an index.
+fn put_asked<S: Sink>(
+    alloc: Global,
+    question: &IndexQuestion,
+    index: &[u8],
+    sink: &mut S,
+) -> Result<(), QueryFault>
+    ensures run { IsIndexRun index.now question.now (S.taken sink.old) (S.taken sink.new) result }
+    ensures failures { S.failures sink.new ≡ failures_by is_query_device result (S.failures sink.old) }
+{
+    match question {
+        IndexQuestion::PlacesOf { places, symbol } => put_places(
+            alloc, *places, symbol, index, sink,
+        ),
+        IndexQuestion::SymbolAt(at) => {
+            put_symbol(alloc, index, at.path.as_str(), position_of(at), sink)
+        }
+        IndexQuestion::Symbols { path } => put_symbols(alloc, index, path.as_deref(), sink),
+    }
+}
+
+/// Answers a question from the bytes of its index: puts a line for each place where a symbol is defined, or where it is used and
+/// not defined, the symbol at a position, or a line for each definition; and nothing where there is none. Refuses with `Query`,
+/// `Device` or `Memory`.
 pub fn answer_question<S: Sink>(
     alloc: Global,
-    question: &Question,
+    question: &IndexQuestion,
     index: &[u8],
     sink: &mut S,
 ) -> Result<(), RunFault>
@@ -34,11 +88,6 @@ pub fn answer_question<S: Sink>(
     // Device is answered where the sink counted a failure, and nowhere else.
     ensures failures { S.failures sink.new ≡ failures_by is_device result (S.failures sink.old) }
 {
-    let at = Position {
-        line: question.line,
-        column: question.column,
-    };
-    let which = which_of(question.places);
-    query(alloc, index, question.path.as_str(), at, which, sink)?;
+    put_asked(alloc, question, index, sink)?;
     Ok(())
 }

@@ -1,12 +1,13 @@
 //! Why a run ends without an answer, the line that tells of it, and the status that it ends with.
 ghost use Rattle.std.specs.Prelude.{◌≡◌, ◌++◌, IfOk, codes};
 ghost use Rattle.std.specs.String.{string_bytes};
-ghost use Rattle.oscip_run.specs.Faults.{fault_text, net_status, net_fault_text, price_fault_text, price_status, report_status, report_fault_text, solve_fault_text, solve_status, status_number, tree_status};
+ghost use Rattle.oscip_run.specs.Faults.{fault_text, net_status, net_fault_text, price_fault_text, price_status, report_status, report_fault_text, rules_fault_text, rules_status, solve_fault_text, solve_status, status_number, tree_status};
 ghost use Rattle.text_escape.specs.Escapes.{escaped, IsOneLine};
 
 use byte_sink::SinkFault;
 use cut_net::{NetFault, PriceFault};
 use cut_report::ReportFault;
+use cut_rules::RulesFault;
 use cut_solve::SolveFault;
 use index_store::{QueryFault, query_fault_text, query_status};
 use oscip_tree::{TreeFault, after_spaces, tree_fault_text, wants_memory};
@@ -15,8 +16,8 @@ use text_escape::escaped;
 use text_escape::laws::no_control;
 use thiserror::Error;
 
-/// Why a run ends without an answer. As `From` makes them, `Tree`, `Net`, `Price`, `Report`, `Solve` and
-/// `Query` hold neither want of memory nor a failed device.
+/// Why a run ends without an answer. As `From` makes them, `Tree`, `Net`, `Price`, `Rules`, `Report`,
+/// `Solve` and `Query` hold neither want of memory nor a failed device.
 #[derive(Debug, Drop, Error)]
 pub enum RunFault {
     /// A file or a folder can't be read: it isn't there, is no regular file, has more than 2^30 bytes or a name that isn't UTF-8, or lies too deep.
@@ -34,6 +35,9 @@ pub enum RunFault {
     /// The prices are refused.
     #[error(transparent)]
     Price(PriceFault),
+    /// The rules are refused.
+    #[error(transparent)]
+    Rules(RulesFault),
     /// The report is refused.
     #[error(transparent)]
     Report(ReportFault),
@@ -101,6 +105,20 @@ impl From<PriceFault> for RunFault {
         match fault {
             PriceFault::Memory => RunFault::Memory,
             fault => RunFault::Price(fault),
+        }
+    }
+}
+
+impl From<RulesFault> for RunFault {
+    ghost use Rattle.std.specs.Prelude.{◌≡◌};
+    ghost use Rattle.oscip_run.specs.Faults.{of_rules};
+
+    ghost from_gives = { λ lower fault. fault ≡ of_rules lower };
+
+    fn from(fault: RulesFault) -> RunFault {
+        match fault {
+            RulesFault::Memory => RunFault::Memory,
+            fault => RunFault::Rules(fault),
         }
     }
 }
@@ -191,6 +209,21 @@ fn price_fault_text(alloc: Global, fault: &PriceFault) -> Result<String, AllocEr
     }
 }
 
+fn rules_fault_text(alloc: Global, fault: &RulesFault) -> Result<String, AllocError>
+    ensures { IfOk result (λ t. string_bytes t ≡ rules_fault_text fault.now) }
+{
+    match fault {
+        RulesFault::BadLine { line } => format!(in alloc; "{line}: BadLine"),
+        RulesFault::SetIsModule { line } => format!(in alloc; "{line}: SetIsModule"),
+        RulesFault::NoSuchModule { line } => format!(in alloc; "{line}: NoSuchModule"),
+        RulesFault::NoSuchImport { line } => format!(in alloc; "{line}: NoSuchImport"),
+        RulesFault::TwiceAllowed { line } => format!(in alloc; "{line}: TwiceAllowed"),
+        RulesFault::EmptySet { line } => format!(in alloc; "{line}: EmptySet"),
+        RulesFault::TooMany { line } => format!(in alloc; "{line}: TooMany"),
+        RulesFault::Memory => String::from_str(alloc, "Memory"),
+    }
+}
+
 fn report_fault_text(alloc: Global, fault: &ReportFault) -> Result<String, AllocError>
     ensures { IfOk result (λ t. string_bytes t ≡ report_fault_text fault.now) }
 {
@@ -223,6 +256,7 @@ fn text_of(alloc: Global, fault: &RunFault) -> Result<String, AllocError>
         RunFault::Tree(fault) => tree_fault_text(alloc, fault),
         RunFault::Net(fault) => net_fault_text(alloc, fault),
         RunFault::Price(fault) => price_fault_text(alloc, fault),
+        RunFault::Rules(fault) => rules_fault_text(alloc, fault),
         RunFault::Report(fault) => report_fault_text(alloc, fault),
         RunFault::Solve(fault) => solve_fault_text(alloc, fault),
         RunFault::Query(fault) => query_fault_text(alloc, fault),
@@ -269,6 +303,21 @@ fn price_status(fault: &PriceFault) -> u8
     }
 }
 
+fn rules_status(fault: &RulesFault) -> u8
+    ensures { result ≡ rules_status fault.now }
+{
+    match fault {
+        RulesFault::Memory => 4,
+        RulesFault::BadLine { .. }
+        | RulesFault::SetIsModule { .. }
+        | RulesFault::NoSuchModule { .. }
+        | RulesFault::NoSuchImport { .. }
+        | RulesFault::TwiceAllowed { .. }
+        | RulesFault::EmptySet { .. }
+        | RulesFault::TooMany { .. } => 1,
+    }
+}
+
 fn report_status(fault: &ReportFault) -> u8
     ensures { result ≡ report_status fault.now }
 {
@@ -306,6 +355,7 @@ pub fn status_of(fault: &RunFault) -> u8
         RunFault::Tree(fault) => tree_status(fault),
         RunFault::Net(fault) => net_status(fault),
         RunFault::Price(fault) => price_status(fault),
+        RunFault::Rules(fault) => rules_status(fault),
         RunFault::Report(fault) => report_status(fault),
         RunFault::Solve(fault) => solve_status(fault),
         RunFault::Query(fault) => query_status(fault),

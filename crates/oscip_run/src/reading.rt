@@ -9,7 +9,7 @@ ghost use Rattle.oscip_run.specs.Readings.{given_bytes, bytes_or_none, paths_bes
 use crate::{Reader, RunFault, answer, answer_question, answer_tree, crossings_tree, net_tree};
 use byte_sink::Sink;
 use cut_solve::OpenGate;
-use oscip_job::{NetQuestion, Question, TwoNames};
+use oscip_job::{IndexQuestion, NetQuestion, TwoNames};
 use std::alloc::Global;
 use std::sync::Wait;
 use std::thread::Threads;
@@ -171,20 +171,21 @@ pub fn run_net_text<R: Threads + Sync, F: Reader, S: Sink>(
     Ok(true)
 }
 
-/// Answers a question to the index that the reader gives of the question's path. Nothing of it is a check that says no. Refuses with
+/// Answers a question to the index that the reader gives of this path. Nothing of it is a check that says no. Refuses with
 /// the fault of the reader, and then as `answer_question` does.
 pub fn run_question<F: Reader, S: Sink>(
     alloc: Global,
     reader: &F,
-    question: &Question,
+    path: &str,
+    question: &IndexQuestion,
     sink: &mut S,
 ) -> Result<bool, RunFault>
-    // Of what the reader gave the sink took the lines of the places; where the file can't be read it took nothing.
-    ensures run { IsQuestionRun (F.answers reader.now) question.now (S.taken sink.old) (S.taken sink.new) result }
+    // Of what the reader gave the sink took the lines of the answer; where the file can't be read it took nothing.
+    ensures run { IsQuestionRun (F.answers reader.now) path.now question.now (S.taken sink.old) (S.taken sink.new) result }
     // Device is answered where the sink counted a failure, and nowhere else.
     ensures failures { S.failures sink.new ≡ failures_by is_device result (S.failures sink.old) }
 {
-    let index = reader.file(question.index.as_str())?;
+    let index = reader.file(path)?;
     answer_question(alloc, question, index.as_slice(), sink)?;
     Ok(true)
 }

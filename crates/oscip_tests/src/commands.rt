@@ -5,13 +5,16 @@ ghost use Rattle.oscip_tree.specs.Sources.{ArePathsInOrder};
 
 use crate::faults::fault_told;
 use crate::inputs::{
-    FOUR, FOUR_BLOCKED, FOUR_CROSSINGS, FOUR_CUT, FOUR_DOT, FOUR_NET, FOUR_PINS, FOUR_WHY,
-    NONE_INDEX, ONE, ONE_HEX, ONE_INDEX, SIX, SIX_BLOCKED, SIX_CUT, SIX_DOT, SIX_PINS, SIX_WHY,
-    WRONG, WRONG_LINE, sources,
+    FOUR, FOUR_BLOCKED, FOUR_BROKEN, FOUR_CROSSINGS, FOUR_CUT, FOUR_DOT, FOUR_NET, FOUR_PINS,
+    FOUR_RULES, FOUR_WHY, NONE_INDEX, ONE, ONE_HEX, ONE_INDEX, SIX, SIX_BLOCKED, SIX_CUT, SIX_DOT,
+    SIX_PINS, SIX_WHY, WRONG, WRONG_LINE, sources,
 };
 use index_run::{OpenBoard, answer_index, unresolved_to};
 use oscip_job::{Job, JobFault, TreeQuestion, job_of};
-use oscip_run::{RunFault, answer, answer_tree, crossings_tree, net_tree};
+use oscip_run::{
+    RunFault, answer, answer_question, answer_tree, crossings_tree, faults_tree, net_tree,
+    rules_tree,
+};
 use oscip_tree::{Source, in_order};
 use std::alloc::{AllocError, Global};
 use std::process::Abort;
@@ -68,6 +71,8 @@ const PUTS: &[Command] = &[
     (&["crossings", "four", "B", "D"], FOUR, None, FOUR_CROSSINGS),
     (&["net", "four"], FOUR, None, FOUR_NET),
     (&["why", "four", "A", "D"], FOUR, None, FOUR_WHY),
+    (&["rules", "four", "four.rules"], FOUR, None, FOUR_BROKEN),
+    (&["faults", "four"], FOUR, None, b"yes\n"),
     (&["why-net", "six.net", "A", "B"], &[], None, SIX_WHY),
     (
         &["index", "one", "one.scip", "--workers", "1"],
@@ -89,6 +94,30 @@ const PUTS: &[Command] = &[
     ),
     (&["unresolved", "wrong"], WRONG, None, WRONG_LINE),
     (&["unresolved", "one"], ONE, None, b""),
+    (
+        &["def", "one.scip", "M.Mod", "0", "14"],
+        &[],
+        None,
+        b"M.Mod:0:7-0:8\n",
+    ),
+    (
+        &["refs", "--symbol", "scip-oberon . . . M/", "one.scip"],
+        &[],
+        None,
+        b"M.Mod:0:14-0:15\n",
+    ),
+    (
+        &["symbol", "one.scip", "M.Mod", "0", "7"],
+        &[],
+        None,
+        b"scip-oberon . . . M/\n",
+    ),
+    (
+        &["symbols", "one.scip"],
+        &[],
+        None,
+        b"M.Mod:0:7-0:8 scip-oberon . . . M/\n",
+    ),
 ];
 
 /// The words of cuts, each with the number of workers and what is put. Zeros and a plus may stand before it.
@@ -193,6 +222,11 @@ fn tree_told<R: Threads + Wait + AllocGlobal + Clock + Sync>(
             puts_told(alloc, &crossings_tree(rt, alloc, sources, from, to, sink))
         }
         TreeQuestion::Net => puts_told(alloc, &net_tree(rt, alloc, sources, sink)),
+        TreeQuestion::Rules(_) => answer_told(
+            alloc,
+            &rules_tree(rt, alloc, sources, FOUR_RULES, sink),
+        ),
+        TreeQuestion::Faults => answer_told(alloc, &faults_tree(rt, alloc, sources, sink)),
     }
 }
 
@@ -221,7 +255,9 @@ fn told<R: Threads + Wait + AllocGlobal + Clock + Sync>(
             &answer_index(rt, alloc, indexing, sources, &OpenBoard, sink),
         ),
         Job::Unresolved { .. } => puts_told(alloc, &unresolved_to(rt, alloc, sources, sink)),
-        Job::Ask(_) => String::from_str(alloc, "a question to an index"),
+        Job::Ask { question, .. } => {
+            puts_told(alloc, &answer_question(alloc, question, ONE_INDEX, sink))
+        }
     }
 }
 
@@ -289,7 +325,8 @@ fn has_whole<R: Abort + Threads + Wait + AllocGlobal + Clock + Sync>(
     let mut sink = ByOne::new(rt.alloc(), u64::MAX);
     let gate = AllCome::new(rt, 0);
     let told = told(rt, job, sources, prices, &gate, &mut sink)?;
-    let want = if told.as_str() == "put" { "put" } else { "yes" };
+    let put = if told.as_str() == "put" { "put" } else { "yes" };
+    let want = if text.starts_with(b"no ") { "no" } else { put };
     assert_eq!(rt; told.as_str(), want);
     assert_eq!(rt; (sink.failures, sink.empty), (0, 0));
     assert_eq!(rt; sink.taken.as_slice(), text);

@@ -6,6 +6,8 @@
 #![tactic(auto)]
 
 #[cfg(test)]
+mod all_faults;
+#[cfg(test)]
 mod boards;
 #[cfg(test)]
 mod commands;

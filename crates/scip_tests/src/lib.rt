@@ -10,6 +10,8 @@ mod asked;
 #[cfg(test)]
 mod bytes;
 #[cfg(test)]
+mod listed;
+#[cfg(test)]
 mod reader;
 #[cfg(test)]
 mod sinks;

@@ -1,5 +1,6 @@
 //! What is put into a sink that takes one byte at a time and fails: records, the parts of an index, and the lines of an answer.
 use crate::bytes::MODULE;
+use crate::listed::{self, Ask, DEFINES};
 use index_store::{Position, QueryFault, Which, query};
 use proto_wire::{WireFault, Writer};
 use scip_index::{Document, Index, IndexWriter, Metadata, from_bytes};
@@ -16,6 +17,8 @@ enum What {
     Index,
     /// The lines of the uses of a symbol.
     Lines,
+    /// This of an index with definitions.
+    Asked(Ask),
 }
 
 /// A document with two uses of a symbol, at the first columns of two lines.
@@ -29,6 +32,12 @@ const ROWS: &[(What, &[u8])] = &[
     ),
     (What::Index, MODULE),
     (What::Lines, b"a:1:0-1:1\na:2:0-2:1\n"),
+    (
+        What::Asked(Ask::Symbols(Some("a"))),
+        b"a:0:7-0:8 s\na:2:0-2:2 local 0\na:5:0-6:1 u\na:7:0-7:1 w\n",
+    ),
+    (What::Asked(Ask::Symbol("b\n", 0, 0)), b"\\tv\n"),
+    (What::Asked(Ask::References(None, "s")), b"a:1:0-1:1\n"),
 ];
 
 /// Whether all was put, and not the device failed.
@@ -81,14 +90,19 @@ fn put_index(alloc: Global, index: &Index, sink: &mut ByOne) -> Result<bool, All
     }
 }
 
-/// Whether the lines are put.
-fn put_lines(alloc: Global, sink: &mut ByOne) -> Result<bool, AllocError> {
-    let at = Position { line: 2, column: 0 };
-    match query(alloc, USES, "a", at, Which::References, sink) {
+/// Whether the answer is put, and not the device failed.
+fn is_answered(put: Result<(), QueryFault>) -> Result<bool, AllocError> {
+    match put {
         Ok(()) => Ok(true),
         Err(QueryFault::Device) => Ok(false),
         Err(_) => Err(AllocError),
     }
+}
+
+/// Whether the lines are put.
+fn put_lines(alloc: Global, sink: &mut ByOne) -> Result<bool, AllocError> {
+    let at = Position { line: 2, column: 0 };
+    is_answered(query(alloc, USES, "a", at, Which::References, sink))
 }
 
 fn put(alloc: Global, what: What, sink: &mut ByOne) -> Result<bool, AllocError> {
@@ -99,6 +113,7 @@ fn put(alloc: Global, what: What, sink: &mut ByOne) -> Result<bool, AllocError> 
             Err(_) => Err(AllocError),
         },
         What::Lines => put_lines(alloc, sink),
+        What::Asked(ask) => is_answered(listed::put(alloc, DEFINES, ask, sink)),
     }
 }
 

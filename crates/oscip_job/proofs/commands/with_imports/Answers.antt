@@ -1,4 +1,5 @@
 use Rattle.oscip_job.proofs.commands.with_imports.Goals as goal
 
 pub returns : goal.returns
-returns c app is = c.with_sub.ensures _ _ (c.with_sub-program.ensures _ _ is c.net_command-net.ensures) c.chaining-why.ensures
+returns c app is =
+    c.with_sub.ensures _ _ (c.with_sub-program-2.ensures _ _ (c.with_sub-program.ensures _ _ is c.net_command-net.ensures) c.chaining-why.ensures) c.rules_command-rules.ensures

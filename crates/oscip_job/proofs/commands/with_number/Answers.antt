@@ -9,6 +9,6 @@ use Rattle.oscip_job.proofs.commands.with_number.Goals as goal
 
 pub returns : goal.returns
 returns c app reads =
-    let same : rule_of c.help-number.result ≡ number_rule c.args.id.now = search rules in
+    let same : rule_of c.help-number.result ≡ number_rule c.args.required c.args.id.now = search rules in
     let before = IfOk-at_ok (λ k. Reads app k.value) c.in_ok-command.was reads in
     subst (λ (r : Rule). IfOk c.with_arg.result (λ k. Reads (with_rule app r) k.value)) same (c.with_arg.ensures app before)

@@ -1,0 +1,33 @@
+-- From the faults of a tree to what a run that tells them is.
+use Rattle.std.proofs.Common.{◌≡◌, ℕ, Bool, true, false, List, [], ◌∷◌, Option, Ok, Err, codes, refl, sym, subst, inr}
+use Rattle.std.proofs.lemmas.Bool.{false≢true}
+use Rattle.byte_sink.specs.declared.sink.SinkFault.{SinkFault}
+use Rattle.byte_sink.specs.declared.sink.SinkFault.TheVariants as sink
+use Rattle.byte_sink.specs.Sinks.{AppendsFront}
+use Rattle.oscip_run.specs.FaultRuns.{fault_lines, IsFaultsRun, IsFaultsText}
+use Rattle.oscip_run.specs.Faults.{of_sink}
+use Rattle.oscip_tree.specs.OwnFaults.{AreTreeFaults}
+use Rattle.oscip_tree.specs.declared.source.Source.{Source}
+use Rattle.oscip_tree.specs.declared.tree_fault.TreeFault.{TreeFault}
+use Rattle.oscip_tree.proofs.OneParting.{nothing_told}
+
+-- an accepted tree
+pub accepted : (sources : List Source) (faults : List TreeFault) → faults ≡ [] → AreTreeFaults sources faults → IsFaultsText sources (codes "yes\n") true
+accepted sources [] e are = record { faults = []; are_faults = are; text_is = refl; agrees_is = (λ _. (nothing_told sources [] are).0 refl, λ _. refl) }
+accepted sources (fault ∷ faults) e are = absurd cc
+
+-- a tree that is refused
+pub refused : (sources : List Source) (faults : List TreeFault) → (faults ≡ [] → ⊥) → AreTreeFaults sources faults → IsFaultsText sources (fault_lines faults) false
+refused sources [] some are = absurd (some refl)
+refused sources (fault ∷ faults) some are = record {
+  faults = fault ∷ faults;
+  are_faults = are;
+  text_is = refl;
+  agrees_is = (λ e. absurd (false≢true e), λ tree. absurd (some ((nothing_told sources (fault ∷ faults) are).1 tree)));
+}
+
+-- a sink that failed
+pub broken : (sources : List Source) (text : List ℕ) (agrees : Bool) (old new : Option (List ℕ)) (fault : SinkFault) → IsFaultsText sources text agrees → AppendsFront old new text →
+    IsFaultsRun sources old new (Err (of_sink fault))
+broken sources text agrees old new sink.Memory is front = inr (text, agrees, is, front)
+broken sources text agrees old new sink.Device is front = (text, agrees, is, front)
