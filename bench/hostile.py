@@ -156,6 +156,7 @@ def changing(program, folder, runs):
         "prices": b"".join(b"price %s 2\n" % it for it in imports),
         "scip": document(100_000 * record(2, b"")),
         "cut": b"cut M N\nweight 200000\nremove M N 200000\nend\n",
+        "rules": b"".join(b"set S%d M\nforbid M N\n" % it for it in range(4_000)),
     }
     os.makedirs(f"{folder}/tree")
     for path, text in texts.items():
@@ -175,12 +176,15 @@ def changing(program, folder, runs):
         ["why-net", "net", "M0000", "M0009"],
         ["check", "tree", "cut"],
         ["dot", "tree", "cut"],
+        ["rules", "tree", "rules"],
         ["cut-net", "net", "M0000", "M0009"],
         ["cut-net", "net", "M0000", "M0009", "--prices", "prices"],
         ["check-net", "net", "report"],
         ["dot-net", "net", "report", "--prices", "prices"],
         ["def", "scip", "a", "0", "0"],
         ["refs", "scip", "a", "0", "0"],
+        ["symbol", "scip", "a", "0", "0"],
+        ["symbols", "scip"],
     ]
     wrong, ends = 0, {}
     for at in range(runs):
@@ -212,6 +216,16 @@ HARMFUL = [
             "documents of one path": (2.5, lambda k: many(10_000_000) * k * record(2, b"\x0a\x01a")),
             "occurrences, each with a symbol of one byte": (2.5, lambda k: document(many(2_000_000) * k * record(2, b"\x12\x01s"))),
             "empty external symbols": (2.5, lambda k: many(2_000_000) * k * record(3, b"")),
+        },
+    ),
+    (
+        "index",
+        ["symbols", "index"],
+        {
+            "definitions of one symbol": (2.5, lambda k: document(many(2_000_000) * k * definition(b""))),
+            "documents of one definition": (2.5, lambda k: many(2_000_000) * k * record(2, b"\x0a\x01a" + definition(b""))),
+            "definitions in a document with a path of 100 letters": (2.5, lambda k: record(2, record(1, 100 * b"p") + many(200_000) * k * definition(b""))),
+            "definitions without a symbol": (2.5, lambda k: document(many(2_000_000) * k * record(2, b"\x0a\x03\x00\x00\x01\x18\x01"))),
         },
     ),
     (
@@ -263,6 +277,20 @@ HARMFUL = [
         {
             "empty lines of prices": (2.5, lambda k: b"pin A B" + many(20_000_000) * k * b"\n"),
             "one price": (2.5, lambda k: b"price A B " + many(40_000_000) * k * b"9"),
+        },
+    ),
+    (
+        "rules",
+        ["rules", "ruled", "rules"],
+        {
+            "empty lines of rules": (2.5, lambda k: many(20_000_000) * k * b"\n"),
+            "comments": (2.5, lambda k: many(10_000_000) * k * b"#\n"),
+            "`set` lines of one set": (16, lambda k: many(1_000_000) * k * b"set S M\n"),
+            "`set` lines, each of a set of its own": (12, lambda k: b"".join(b"set S%07d M\n" % it for it in range(many(1_000_000) * k))),
+            "`folder` lines of one set": (12, lambda k: many(1_000_000) * k * b"folder S d\n"),
+            "`forbid` lines, which are too many": (2.5, lambda k: many(1_000_000) * k * b"forbid N M\n"),
+            "one name of a set": (4, lambda k: b"set " + many(40_000_000) * k * b"S" + b" M"),
+            "one folder of rules": (5, lambda k: b"folder S " + many(40_000_000) * k * b"d"),
         },
     ),
 ]
@@ -487,12 +515,48 @@ def hubs(each, between):
     return {"t/net": b"".join(lines + [b"import y%05d zz9 7\n" % it for it in range(each)] * between)}
 
 
+def chains(each):
+    """A network of two chains of so many modules, each of the one importing the next and one of the other, which leads back to its begin."""
+    lines = [b"import c%05d c%05d %d\nimport c%05d d%05d 2\nimport d%05d d%05d 1000000\n" % (it, it + 1, 1_000_000 - it, it, it, it + 1, it) for it in range(each)]
+    return {"t/net": b"".join([b"import a0 c00000 1000000\n", *lines, b"import d00000 zz9 1000000\n"])}
+
+
 def crossing(count):
     """Two modules, the first of which uses the second by so many aliases and in as many statements."""
     return {
         "t/N.Mod": b"MODULE N; VAR v*: SET; END N.",
         "t/M.Mod": b"MODULE M; IMPORT " + b", ".join(b"a%d := N" % it for it in range(count)) + b"; BEGIN " + b"; ".join(b"a%d.v := {}" % it for it in range(count)) + b" END M.",
     }
+
+
+def near(modules, each):
+    """So many modules, each of which imports so many of those before it, and one that imports none and that none imports."""
+    return {**small_modules(modules, lambda it: range(max(0, it - each), it)), "t/Z.Mod": b"MODULE Z; END Z."}
+
+
+def set_of(name, modules):
+    """Lines by which these modules are in a set."""
+    return b"".join(b"set %s %s\n" % (name, it) for it in modules)
+
+
+def ruled(files, *lines):
+    """A tree with rules for it."""
+    return {**files, "rules": b"".join(lines)}
+
+
+def numbered(modules):
+    """The names of so many modules of a tree."""
+    return [b"M%d" % it for it in range(modules)]
+
+
+def in_folders(modules, deep):
+    """So many modules without imports, in so many folders within one another."""
+    return {f"t/{it % (deep + 1) * 'd/'}M{it}.Mod": b"MODULE M%d; END M%d." % (it, it) for it in range(modules)}
+
+
+def folders_of(name, deep):
+    """Lines by which the modules of each of these folders are in a set."""
+    return b"".join(b"folder %s %s\n" % (name, b"/".join(levels * [b"d"])) for levels in range(1, deep + 1))
 
 
 def occurrence(place, symbol):
@@ -592,6 +656,32 @@ GROWN = [
         {
             "seven modules that 4,000 import, and that import 4,000": (lambda k: hubs(many(2_000) * k, 1),),
             "seven modules that 8,000 import": (lambda k: hubs(many(4_000) * k, 0),),
+            "two chains of 4,000, of which one leads back": (lambda k: chains(many(2_000) * k), 3.9),
+        },
+    ),
+    (
+        ["rules", "t", "rules"],
+        False,
+        {
+            "rules over 8,056 imports": (lambda k: ruled(near(512, 16), many(2_048) * k * b"forbid Z M0\n"),),
+            "rules from all modules": (lambda k: ruled(near(512, 2), set_of(b"A", numbered(512)), many(2_048) * k * b"forbid A Z\n"),),
+            "rules between two sets of all modules": (lambda k: ruled(in_folders(512, 0), set_of(b"A", numbered(512)), set_of(b"B", numbered(512)), many(2_048) * k * b"forbid A B\n"),),
+            "rules for modules in 32 folders within one another": (lambda k: ruled(in_folders(512, 32), folders_of(b"A", 32), many(1_024) * k * b"forbid A A\n"),),
+            "modules in 32 folders within one another, and a rule": (lambda k: ruled(in_folders(many(2_000) * k, 32), folders_of(b"A", 32), b"forbid A A\n"),),
+            "modules of a set, each of which imports the one before it": (lambda k: ruled(near(many(2_000) * k, 1), set_of(b"A", numbered(many(2_000) * k)), b"forbid A Z\n"), 3.4),
+            "imports that are allowed": (lambda k: ruled(near(many(2_000) * k, 1), b"".join(b"allow M%d M%d\n" % (it + 1, it) for it in range(many(2_000) * k - 1)), b"forbid M1 M0\n"), 3.4),
+            "sets of one module, and a rule": (lambda k: ruled(near(1, 0), b"".join(b"set S%d Z\n" % it for it in range(many(100_000) * k)), b"forbid S0 S1\n"),),
+            "sets whose names fall together": (lambda k: ruled(near(1, 0), *[b"set %s Z\n" % it for it in together(k)], b"forbid M0 Z\n"),),
+            "sets whose names of 200 letters differ in the last ones": (lambda k: ruled(near(1, 0), *[b"set %s Z\n" % it for it in long_names(many(5_000) * k)], b"forbid M0 Z\n"),),
+            "sets of a folder each, from the last name to the first": (lambda k: ruled(in_folders(64, 32), *[b"folder S%06d %s\n" % (999_999 - it, b"d/" * (it % 31) + b"d") for it in range(many(50_000) * k)]),),
+        },
+    ),
+    (
+        ["rules", "t", "rules"],
+        True,
+        {
+            "a set of no module behind many lines": (lambda k: ruled(near(1, 0), many(100_000) * k * b"set A Z\n", b"set A Nope\n"),),
+            "rules that are too many": (lambda k: ruled(near(2, 1), many(20_000) * k * b"forbid Z M0\n"),),
         },
     ),
     (
@@ -603,6 +693,31 @@ GROWN = [
             "a range of many numbers": (lambda k: asked(record(2, record(1, many(1_000_000) * k * b"\x01") + record(2, b"s"))),),
             "symbols of 1,000 letters that differ in the last ones": (lambda k: asked(b"".join(occurrence(it, b"%s%d" % (1_000 * b"s", it)) for it in range(many(2_000) * k))),),
             "documents whose paths differ in the last letters": (lambda k: {"index": document(definition(b"")) + b"".join(record(2, record(1, b"%s%d" % (200 * b"a", it)) + definition(b"")) for it in range(many(20_000) * k))},),
+        },
+    ),
+    (
+        ["symbols", "index"],
+        False,
+        {
+            "definitions of one symbol": (lambda k: asked(many(100_000) * k * definition(b"")),),
+            "occurrences of other symbols that define none": (lambda k: asked(b"".join(occurrence(it, b"t") for it in range(many(100_000) * k))),),
+            "symbols of control characters": (lambda k: asked(b"".join(record(2, b"\x0a\x03\x00\x00\x01\x18\x01" + record(2, 1_000 * b"\x01")) for _ in range(many(1_000) * k))),),
+            "documents of paths of 200 letters": (lambda k: {"index": b"".join(record(2, record(1, b"%s%d" % (200 * b"a", it)) + definition(b"")) for it in range(many(20_000) * k))},),
+        },
+    ),
+    (
+        ["symbols", "index", "a"],
+        False,
+        {
+            "documents whose paths differ in the last letters": (lambda k: {"index": document(definition(b"")) + b"".join(record(2, record(1, b"%s%d" % (200 * b"a", it)) + definition(b"")) for it in range(many(20_000) * k))},),
+            "definitions of a local symbol": (lambda k: asked(many(100_000) * k * record(2, b"\x0a\x03\x00\x00\x01\x12\x07local 0\x18\x01")),),
+        },
+    ),
+    (
+        ["refs", "index", "--symbol", "s"],
+        False,
+        {
+            "one symbol with many occurrences, by its text": (lambda k: asked(b"".join(occurrence(it, b"s") for it in range(many(100_000) * k))),),
         },
     ),
     (
@@ -762,11 +877,25 @@ def long_named():
     return {f"t/{it.decode()}.Mod": text for it, text in files.items()}
 
 
-# A tree, the command, and the most memory over the bytes. The report has a thousand lines of the long name, and each line of the other
-# begins with the path.
+# A tree, the command, its status, and the most memory over the bytes. The report has a thousand lines of the long name, each line of the
+# next begins with the path, 4,096 rules tell a chain of 2,000 modules each, and one 2,000 chains of 1,000 modules on average.
 PIECES = {
-    "a name of a million letters in a report": (long_named, ["cut", "t", "S", "B"], 10),
-    "a path of 2,800 letters": (lambda: {"t/" + 14 * (200 * "d" + "/") + "M.Mod": b"MODULE M; BEGIN " + many(1_000_000) * b"x;" + b" END M."}, ["unresolved", "t"], 110),
+    "a name of a million letters in a report": (long_named, ["cut", "t", "S", "B"], ANSWERED, 10),
+    "a path of 2,800 letters": (lambda: {"t/" + 14 * (200 * "d" + "/") + "M.Mod": b"MODULE M; BEGIN " + many(1_000_000) * b"x;" + b" END M."}, ["unresolved", "t"], ANSWERED, 110),
+    "a chain of 2,000 modules by 4,096 rules": (lambda: ruled(near(2_000, 1), 4_096 * b"forbid M1999 M0\n"), ["rules", "t", "rules"], DENIED, 60),
+    "chains of a set of 2,000 modules": (lambda: ruled(near(2_000, 1), set_of(b"A", numbered(2_000)), b"forbid A M0\n"), ["rules", "t", "rules"], DENIED, 60),
+    "4,096 rules between sets of 4,095 modules over 65,384 imports": (
+        lambda: ruled(near(4_095, 16), set_of(b"A", numbered(4_095)), 2_048 * b"forbid Z A\nforbid A Z\n"),
+        ["rules", "t", "rules"],
+        ANSWERED,
+        60,
+    ),
+    "4,096 rules for 4,096 modules in 32 folders within one another": (
+        lambda: ruled(in_folders(4_096, 32), folders_of(b"A", 32), 4_096 * b"forbid A A\n"),
+        ["rules", "t", "rules"],
+        ANSWERED,
+        60,
+    ),
 }
 
 
@@ -774,11 +903,11 @@ def in_pieces(program, folder):
     """Tells the memory of texts that are much longer than their input, and returns how much is wrong."""
     wrong, alone = 0, ended([program, "--help"], folder)[3]
     head("Input", "Bytes", "Memory", "at most")
-    for name, (files, words, most) in PIECES.items():
+    for name, (files, words, status, most) in PIECES.items():
         size = written(folder, files())
         ends = ended([program, *words], folder)
         memory = (ends[3] - alone) / size
-        faults = [f"status {ends[0]}, {ends[1][:200]!r}"] if ends[0] != ANSWERED else []
+        faults = [f"status {ends[0]}, {ends[1][:200]!r}"] if ends[0] != status else []
         faults += ["too much memory"] if memory > most else []
         wrong += row(name, faults, f"{size:,}", f"{memory:.1f}", str(most))
     return wrong
@@ -801,6 +930,8 @@ def part_grown(program, words, folder, path, text):
 def harmful(program, folder):
     """Tells memory and times of input that was made to do harm, and of a part of it the instructions, and returns how much is wrong."""
     fixed = {"one.net": b"import A B 1\n", "modules.net": b"".join(b"module M%04d\n" % it for it in range(2_000))}
+    fixed |= {"ruled/M.Mod": b"MODULE M; IMPORT N; END M.", "ruled/d/N.Mod": b"MODULE N; END N."}
+    os.makedirs(f"{folder}/ruled/d")
     for name, text in fixed.items():
         with open(f"{folder}/{name}", "wb") as it:
             it.write(text)

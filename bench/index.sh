@@ -1,5 +1,6 @@
 #!/usr/bin/env bash
-# Compares index and unresolved with a plain indexer on small random trees and on the editor, decodes the editor's index, and times
+# Compares index and unresolved with a plain indexer on small random trees and on the editor, decodes the editor's index, checks the
+# indexes of six trees by the rules of the format's linter (lint.py), and times
 # index on large trees beside an indexer in C++ that looks at no field, beside ctags, where that is there, which takes the files for
 # Pascal, and beside cat and wc.
 # Build the program first: .ci/build.
@@ -26,6 +27,22 @@ if command -v protoc >/dev/null; then
 else
   echo "without protoc the editor's index isn't decoded"
 fi
+
+# linted FOLDER [WORD ..]: checks the index of a folder by the rules of the format's linter.
+linted() {
+  "$oscip" index "${@:2}" "$1" "$work/linted.scip"
+  python3 "$here/lint.py" "$work/linted.scip" "$1"
+}
+linted "$work/editor"
+for seed in 1 2; do
+  python3 "$here/index_trees.py" "$seed" "$work/random$seed"
+  linted "$work/random$seed" --package "a package"
+done
+for shape in files graph large; do
+  mkdir "$work/part-$shape"
+  PART=16 python3 "$here/modules.py" "$shape" "$work/part-$shape"
+  linted "$work/part-$shape"
+done
 g++ -O2 -std=c++17 -pthread -o "$work/indexer" "$here/indexer.cpp"
 gcc -O1 -o "$work/peak" "$here/peak.c"
 

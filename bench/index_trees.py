@@ -1,5 +1,10 @@
-"""Small trees of Oberon-07 modules in which names hide and miss one another, the same for the same seed."""
+"""Small trees of Oberon-07 modules in which names hide and miss one another, the same for the same seed.
+
+index_trees.py SEED FOLDER writes one.
+"""
+import os
 import random
+import sys
 
 POOL = "a b f g x y S T R P Q u v n".split()
 FIELDS = "f g x".split()
@@ -182,3 +187,14 @@ class Tree:
     def files(self):
         names = ["A", "B", "C", "D"][: self.pick(1, 2, 3, 4)]
         return [(f"{'sub/' if self.odds(0.3) else ''}{it}.Mod", self.module(it, names[:at]).encode()) for at, it in enumerate(names)]
+
+
+def main(seed, folder):
+    for path, data in Tree(int(seed)).files():
+        os.makedirs(os.path.dirname(f"{folder}/{path}"), exist_ok=True)
+        with open(f"{folder}/{path}", "wb") as it:
+            it.write(data)
+
+
+if __name__ == "__main__":
+    main(*sys.argv[1:])

@@ -1,6 +1,7 @@
 """Large indexes as other producers would make them, with questions to them and what each has to print.
 
-query.py STYLE DOCUMENTS OCCURRENCES INDEX ROWS     writes the index, and rows of a command, a path, a line, a column and an answer
+query.py STYLE DOCUMENTS OCCURRENCES INDEX ROWS [SYMBOLS]   writes the index, rows of a command, a path, a line, a column and an
+                                                            answer, and the lines of its definitions
 
 STYLE is typescript or java: the first declares columns in units of UTF-16, the second in bytes, with the words and the fields
 that such producers use. The answers come from the numbers that the index is made of, and not from its bytes.
@@ -68,7 +69,16 @@ def answers(style, documents):
     return found
 
 
-def main(style, count, occurrences, index, told):
+def definitions(style, documents):
+    """A line for each definition of a symbol that isn't local."""
+    path = STYLES[style][2]
+    for at, rows in enumerate(documents):
+        for line, first, last, text, defines in rows:
+            if defines and not text.startswith("local "):
+                yield f"{lines_of(path.format(at), [(line, first, last)])[0]} {text}\n"
+
+
+def main(style, count, occurrences, index, told, symbols=None):
     draw = random.Random(18)
     tool, version, path, _, _, _ = STYLES[style]
     documents = []
@@ -81,6 +91,9 @@ def main(style, count, occurrences, index, told):
             documents.append(rows)
         # what a later version of the format might add
         file.write(varint(8 * 99) + varint(7))
+    if symbols is not None:
+        with open(symbols, "w", encoding="utf-8") as file:
+            file.writelines(definitions(style, documents))
     found = answers(style, documents)
     with open(told, "w", encoding="utf-8") as file:
         for _ in range(ROWS):
@@ -93,4 +106,4 @@ def main(style, count, occurrences, index, told):
 
 
 if __name__ == "__main__":
-    main(sys.argv[1], int(sys.argv[2]), int(sys.argv[3]), sys.argv[4], sys.argv[5])
+    main(sys.argv[1], int(sys.argv[2]), int(sys.argv[3]), *sys.argv[4:])

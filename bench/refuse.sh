@@ -14,7 +14,7 @@ trap 'rm -rf "$work"' EXIT
 gcc -shared -fPIC -O1 -o "$work/refuse.so" "$here/refuse.c" -ldl
 g++ -O2 -o "$work/generate" "$here/generate.cpp"
 cd "$work"
-cp "$here"/../examples/*.net "$here"/../examples/*.cut "$here"/../examples/*.scip "$here"/../examples/*.prices .
+cp "$here"/../examples/*.net "$here"/../examples/*.cut "$here"/../examples/*.scip "$here"/../examples/*.prices "$here"/../examples/*.rules .
 head -c 3000 foreign.scip > short.scip
 cp -r "$here"/../examples/editor .
 printf 'import A B 1\nimport B C 1\nimport C A 1\n' > cycle.net
@@ -31,6 +31,8 @@ printf 'pin A M\nprice M B 1\npin M B\n' > twice.prices
 printf 'price A M 1099511627776\n' > dear.prices
 printf 'cut A B\nweight 2\nremove M B 2\nflow A M 2\nflow M B 2\nend\n' > pinned.cut
 printf 'cut A B\nblocked A M B\nend\n' > blocked.cut
+printf 'forbid A D\nset S B\nset S C\nfolder T b\nforbid S D\nforbid T D\nallow B D\n' > four.rules
+printf 'allow A B\nallow A B\n' > twice.rules
 
 mkdir -p four/b wrong twice
 printf 'MODULE A; IMPORT B, C; BEGIN B.p; C.q; C.q END A.' > four/A.Mod
@@ -133,6 +135,13 @@ trial 1 crossings four A Absent
 trial 0 net four
 trial 0 net editor
 trial 1 net wrong
+trial 5 rules four four.rules
+trial 0 rules editor editor.rules
+trial 1 rules four twice.rules
+trial 1 rules wrong four.rules
+trial 3 rules four absent.rules
+trial 0 faults editor
+trial 5 faults wrong
 trial 0 why four A D
 trial 0 why four D A
 trial 1 why four A Absent
@@ -156,4 +165,12 @@ trial 0 def foreign.scip src/view.ts 2 19
 trial 0 refs foreign.scip src/view.ts 6 9
 trial 1 def foreign.scip view.ts 2 19
 trial 1 refs short.scip src/view.ts 2 19
+trial 0 symbols foreign.scip
+trial 0 symbols foreign.scip src/view.ts
+trial 1 symbols foreign.scip view.ts
+trial 1 symbols short.scip
+trial 0 symbol foreign.scip src/view.ts 2 19
+trial 1 symbol short.scip src/view.ts 2 19
+trial 0 refs --symbol 'local 1' foreign.scip src/view.ts
+trial 2 refs --symbol 'local 1' foreign.scip
 trial 2 def foreign.scip view.ts x 19
