@@ -217,7 +217,7 @@ fn net_command<'a>(alloc: Global) -> Made<'a>
     let command = named(
         alloc,
         "net",
-        "Tell which Oberon-07 module imports which, and by how many uses, as the lines of a network",
+        "Tell which Oberon-07 module imports which, and by how many uses, as a network",
         NET_END,
     );
     with_required(alloc, command, "DIR", FOLDER_HELP)
@@ -377,7 +377,7 @@ fn with_output<'a>(alloc: Global, command: Made<'a>) -> Made<'a>
         alloc,
         command,
         "hex",
-        "Print the index as a line of hexadecimal digits, in place of writing it to a file",
+        "Print the index as a line of hexadecimal digits, and write no file",
     )
 }
 
@@ -402,7 +402,7 @@ fn with_options<'a>(alloc: Global, command: Made<'a>) -> Made<'a>
         alloc,
         command,
         "package",
-        "The package that the symbols of the modules name: not `.`, and no space in front",
+        "The package that the symbols name: not `.`, and no space in front",
     );
     let command = with_text(
         alloc,
@@ -420,7 +420,7 @@ fn index_command<'a>(alloc: Global) -> Made<'a>
     let command = named(
         alloc,
         "index",
-        "Write an index of Oberon-07 modules in the SCIP format, for go to definition and find references",
+        "Write an index of Oberon-07 modules in the SCIP format, for code browsers",
         INDEX_END,
     );
     let command = with_required(alloc, command, "DIR", FOLDER_HELP);
@@ -471,7 +471,7 @@ fn with_trees<'a>(alloc: Global, program: Made<'a>) -> Made<'a>
     let cut = cutting(
         alloc,
         "cut",
-        "Find a cheapest set of imports of Oberon-07 modules to remove so that A no longer reaches B, with a flow that proves it",
+        "Find the cheapest imports of Oberon-07 modules to remove so that A no longer reaches B",
         CUT_END,
         "DIR",
         FOLDER_HELP,
@@ -500,7 +500,7 @@ fn with_imports<'a>(alloc: Global, program: Made<'a>) -> Made<'a>
     let why = chaining(
         alloc,
         "why",
-        "Tell why an Oberon-07 module reaches another: the shortest chain of imports from A to B",
+        "Tell why an Oberon-07 module reaches another: the shortest chain of imports",
         WHY_END,
         "DIR",
         FOLDER_HELP,
@@ -517,7 +517,7 @@ fn with_nets<'a>(alloc: Global, program: Made<'a>) -> Made<'a>
     let cut = cutting(
         alloc,
         "cut-net",
-        "Find a cheapest set of imports to remove so that A no longer reaches B, with a flow that proves it",
+        "Find the cheapest imports of a network to remove so that A no longer reaches B",
         CUT_NET_END,
         "FILE",
         NETWORK_HELP,
@@ -536,7 +536,7 @@ fn with_nets<'a>(alloc: Global, program: Made<'a>) -> Made<'a>
     let why = chaining(
         alloc,
         "why-net",
-        "Tell why a module of a network reaches another: the shortest chain of imports from A to B",
+        "Tell why a module of a network reaches another: the shortest chain of imports",
         WHY_NET_END,
         "FILE",
         NETWORK_HELP,
@@ -551,7 +551,7 @@ fn with_pictures<'a>(alloc: Global, program: Made<'a>) -> Made<'a>
     let tree = checking(
         alloc,
         "dot",
-        "Draw what a report says of Oberon-07 modules, as a graph in the language DOT of Graphviz",
+        "Draw what a report says of Oberon-07 modules, in the language DOT of Graphviz",
         DOT_END,
         "DIR",
         FOLDER_HELP,
@@ -562,7 +562,7 @@ fn with_pictures<'a>(alloc: Global, program: Made<'a>) -> Made<'a>
     let net = checking(
         alloc,
         "dot-net",
-        "Draw what a report says of a network, as a graph in the language DOT of Graphviz",
+        "Draw what a report says of a network, in the language DOT of Graphviz",
         DOT_NET_END,
         "FILE",
         NETWORK_HELP,
@@ -587,7 +587,7 @@ fn with_indexes<'a>(alloc: Global, program: Made<'a>) -> Made<'a>
     let refs = asking(
         alloc,
         "refs",
-        "Tell where the symbol at a position is used and not defined, by an index in the SCIP format",
+        "Tell where the symbol at a position is used and not defined, by such an index",
         REFS_END,
         REFS_USAGE,
     );
@@ -622,7 +622,7 @@ fn bare<'a>(alloc: Global) -> Made<'a>
 {
     let program = Command::new(alloc, "oscip")
         .about(
-            "Finds and checks cheapest decoupling cuts of Oberon-07 modules, indexes them in the SCIP format, and answers questions to such indexes",
+            "Finds and checks cheapest decoupling cuts of Oberon-07 modules, indexes them in the SCIP format,{n}and answers questions to such indexes",
         )
         .version(VERSION)
         .after_help(PROGRAM_END)
