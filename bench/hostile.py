@@ -285,12 +285,12 @@ HARMFUL = [
         {
             "empty lines of rules": (2.5, lambda k: many(20_000_000) * k * b"\n"),
             "comments": (2.5, lambda k: many(10_000_000) * k * b"#\n"),
-            "`set` lines of one set": (16, lambda k: many(1_000_000) * k * b"set S M\n"),
-            "`set` lines, each of a set of its own": (12, lambda k: b"".join(b"set S%07d M\n" % it for it in range(many(1_000_000) * k))),
-            "`folder` lines of one set": (12, lambda k: many(1_000_000) * k * b"folder S d\n"),
+            "`set` lines of one set": (12, lambda k: many(1_000_000) * k * b"set S M\n"),
+            "`set` lines, each of a set of its own": (9, lambda k: b"".join(b"set S%07d M\n" % it for it in range(many(1_000_000) * k))),
+            "`folder` lines of one set": (9, lambda k: many(1_000_000) * k * b"folder S d\n"),
             "`forbid` lines, which are too many": (2.5, lambda k: many(1_000_000) * k * b"forbid N M\n"),
-            "one name of a set": (4, lambda k: b"set " + many(40_000_000) * k * b"S" + b" M"),
-            "one folder of rules": (5, lambda k: b"folder S " + many(40_000_000) * k * b"d"),
+            "one name of a set": (3, lambda k: b"set " + many(40_000_000) * k * b"S" + b" M"),
+            "one folder of rules": (3, lambda k: b"folder S " + many(40_000_000) * k * b"d"),
         },
     ),
 ]
@@ -882,19 +882,19 @@ def long_named():
 PIECES = {
     "a name of a million letters in a report": (long_named, ["cut", "t", "S", "B"], ANSWERED, 10),
     "a path of 2,800 letters": (lambda: {"t/" + 14 * (200 * "d" + "/") + "M.Mod": b"MODULE M; BEGIN " + many(1_000_000) * b"x;" + b" END M."}, ["unresolved", "t"], ANSWERED, 110),
-    "a chain of 2,000 modules by 4,096 rules": (lambda: ruled(near(2_000, 1), 4_096 * b"forbid M1999 M0\n"), ["rules", "t", "rules"], DENIED, 60),
-    "chains of a set of 2,000 modules": (lambda: ruled(near(2_000, 1), set_of(b"A", numbered(2_000)), b"forbid A M0\n"), ["rules", "t", "rules"], DENIED, 60),
+    "a chain of 2,000 modules by 4,096 rules": (lambda: ruled(near(2_000, 1), 4_096 * b"forbid M1999 M0\n"), ["rules", "t", "rules"], DENIED, 40),
+    "chains of a set of 2,000 modules": (lambda: ruled(near(2_000, 1), set_of(b"A", numbered(2_000)), b"forbid A M0\n"), ["rules", "t", "rules"], DENIED, 40),
     "4,096 rules between sets of 4,095 modules over 65,384 imports": (
         lambda: ruled(near(4_095, 16), set_of(b"A", numbered(4_095)), 2_048 * b"forbid Z A\nforbid A Z\n"),
         ["rules", "t", "rules"],
         ANSWERED,
-        60,
+        40,
     ),
     "4,096 rules for 4,096 modules in 32 folders within one another": (
         lambda: ruled(in_folders(4_096, 32), folders_of(b"A", 32), 4_096 * b"forbid A A\n"),
         ["rules", "t", "rules"],
         ANSWERED,
-        60,
+        50,
     ),
 }
 
