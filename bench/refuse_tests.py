@@ -21,9 +21,17 @@ HERE = os.path.dirname(os.path.realpath(__file__))
 WANTS = re.compile(rb"\b(Memory|AllocError|AllocFailed|Refused|memory ran out)\b")
 MISSED = b"were_passed()"
 COMPARED = re.compile(rb'left: (".*")\n right: (".*")')
+LISTED = re.compile(rb"left: \[(\d[\d, ]*)\]\n")
 COUNTED = re.compile(rb"left: (\d+)\n right: (\d+)\n")
 STEPS = re.compile(rb"after \d+")
 PASSES, WANTS_MEMORY, MISSES, FEWER, OTHER_STEPS, ANOTHER = "pass", "want memory", "miss turns", "miss a worker", "take other steps", "end in another way"
+
+
+def text_told(said):
+    """The text that a test compared as bytes with what it has to be, or nothing."""
+    listed = LISTED.search(said)
+    numbers = [int(it) for it in listed[1].split(b",")] if listed else []
+    return bytes(numbers) if max(numbers, default=0) < 256 else b""
 
 
 def how_ended(status, said):
@@ -32,7 +40,7 @@ def how_ended(status, said):
         return PASSES
     if status is None:
         return ANOTHER
-    if WANTS.search(said):
+    if WANTS.search(said) or WANTS.search(text_told(said)):
         return WANTS_MEMORY
     if MISSED in said:
         return MISSES
