@@ -402,7 +402,7 @@ fn with_options<'a>(alloc: Global, command: Made<'a>) -> Made<'a>
         alloc,
         command,
         "package",
-        "The package that the symbols name: not `.`, and no space in front",
+        "The package that symbols name: not `.`, and no space in front",
     );
     let command = with_text(
         alloc,
