@@ -61,7 +61,7 @@ const Words TOKENS = {
     "ARRAY", "BEGIN", "BY", "CASE", "CONST", "DIV", "DO", "ELSE", "ELSIF", "END", "FALSE", "FOR", "IF", "IMPORT", "IN", "IS", "MOD", "MODULE", "NIL", "OF",
     "OR", "POINTER", "PROCEDURE", "RECORD", "REPEAT", "RETURN", "THEN", "TO", "TRUE", "TYPE", "UNTIL", "VAR", "WHILE", "(*", "*)", "(", ")", "[", "]", "{",
     "}", ":=", "^", "=", "#", "<=", ">=", "..", ":", ";", ",", ".", "|", "~", "&", "*", "\"", "1E5", "0FFH", "22X", "1.5E-3", "A", "B", "x",
-    "SET", "import ", "module ", "cut ", "weight ", "remove ", "flow ", "blocked ", "price ", "pin ", "end\n", "\n", "\r\n", "\r", " ", "0", "1", "18446744073709551615",
+    "SET", "import ", "module ", "set ", "folder ", "forbid ", "allow ", "# ", "cut ", "weight ", "remove ", "flow ", "blocked ", "price ", "pin ", "end\n", "\n", "\r\n", "\r", " ", "0", "1", "18446744073709551615",
     "18446744073709551616", "00", Text(1, '\0'), "\x80", "\xff", "\xef\xbb\xbf", "local ", "\x12\x7f", "\x08\xff\xff\xff\xff\xff\xff\xff\xff\x7f"};
 
 // Changes a text at one to four places; other texts lend parts.
@@ -146,20 +146,26 @@ Ended run(const Words &words) {
     return ended;
 }
 
-const char *const FAULT = "oscip: ("
-    "[^\n]+:\\d+:\\d+: (BadByte|BadNumber|OpenString|OpenComment|TooLong|Syntax|EndName|TooDeep|Twice \\w+|TwiceField \\w+)"
-    "|\\d+: (BadLine|TwiceImport|TooMany|UnknownName|Order|NoSuchImport|TwicePrice)"
-    "|TwoModules \\w+ \\S+ \\S+|TooMany|Cycle( \\w+)+|WeightOverflow|PriceOverflow|NoEnd|NoDocument|SameModule|NoSuchModule [^]*"
+#define FILE_FAULT "[^\n]+:\\d+:\\d+: (BadByte|BadNumber|OpenString|OpenComment|TooLong|Syntax|EndName|TooDeep|Twice \\w+|TwiceField \\w+)"
+#define IMPORTS_FAULT "TwoModules \\w+ \\S+ \\S+|TooMany|Cycle( \\w+)+"
+const char *const FAULT = "oscip: (" FILE_FAULT
+    "|\\d+: (BadLine|TwiceImport|TooMany|UnknownName|Order|NoSuchImport|TwicePrice|SetIsModule|NoSuchModule|TwiceAllowed|EmptySet)"
+    "|" IMPORTS_FAULT "|WeightOverflow|PriceOverflow|NoEnd|NoDocument|SameModule|NoSuchModule [^]*"
     "|(Truncated|LongVarint|Group|ZeroField|BadText) \\d+)\n";
+const char *const FAULTS = "((" FILE_FAULT ")\n)+|(" IMPORTS_FAULT ")\n";
+const char *const LEFT_OUT = "(oscip: (" FILE_FAULT ")\n)+";
 const char *const REPORT = "cut \\w+ \\w+\n(weight \\d+\n(remove \\w+ \\w+ \\d+\n)*(flow \\w+ \\w+ [1-9]\\d*\n)*|blocked( \\w+)+\n)end\n";
 const char *const PLACES = "([^]*:\\d+:\\d+-\\d+:\\d+\n)*";
 const char *const NETWORK = "(module \\w+\n)*(import \\w+ \\w+ \\d+\n)*";
 const char *const CHAIN = "(import \\w+ \\w+ \\d+\n)*";
+const char *const DEFINED = "([^\n]*:\\d+:\\d+-\\d+:\\d+ [^\n]+\n)*";
+const char *const BROKEN = "(no [1-9]\\d*( \\w+){2,}\n)+";
 
 // What standard output has to be after status 0.
 const std::map<Text, const char *> ANSWERS = {
     {"cut", REPORT}, {"cut-net", REPORT}, {"check", "yes\n"}, {"check-net", "yes\n"}, {"dot", "digraph [^]*\\}\n"}, {"dot-net", "digraph [^]*\\}\n"},
-    {"def", PLACES}, {"refs", PLACES}, {"crossings", PLACES}, {"net", NETWORK}, {"why", CHAIN}, {"why-net", CHAIN}, {"unresolved", "([^]*:\\d+:\\d+ \\w+\n)*"}, {"index", "([0-9a-f]*\n)?"}};
+    {"def", PLACES}, {"refs", PLACES}, {"crossings", PLACES}, {"net", NETWORK}, {"why", CHAIN}, {"why-net", CHAIN},
+    {"rules", "yes\n"}, {"faults", "yes\n"}, {"symbol", "([^\n]+\n)?"}, {"symbols", DEFINED}, {"unresolved", "([^]*:\\d+:\\d+ \\w+\n)*"}, {"index", "([0-9a-f]*\n)?"}};
 
 bool is_like(const Text &text, const char *pattern) {
     static std::map<const char *, std::regex> made;
@@ -179,7 +185,12 @@ bool is_documented(const Words &words, const Ended &ended) {
     case 1: return put.empty() && is_like(told, FAULT);
     case 2: return put.empty() && told.rfind("error: ", 0) == 0;
     case 3: return is_like(told, "oscip: cannot (read|write)( [^]*)?\n");
-    case 5: return told.empty() && is_like(put, "no (StillChain|WrongWeight|WrongValue|(OverWeight|NoSuchImport|NotPinned) \\w+ \\w+|NotKept \\w+)\n");
+    case 5:
+        if (words[0] == "index") return is_like(told, LEFT_OUT) && is_like(put, "([0-9a-f]*\n)?");
+        if (!told.empty()) return false;
+        if (words[0] == "faults") return is_like(put, FAULTS);
+        if (words[0] == "rules") return is_like(put, BROKEN);
+        return is_like(put, "no (StillChain|WrongWeight|WrongValue|(OverWeight|NoSuchImport|NotPinned) \\w+ \\w+|NotKept \\w+)\n");
     default: return false;
     }
 }
@@ -205,7 +216,7 @@ void tried_cut(const Words &words) {
 }
 
 struct Examples {
-    Words nets, reports, prices, modules, indexes;
+    Words nets, reports, prices, rules, modules, indexes;
     std::map<Text, Text> tree;
 };
 
@@ -218,6 +229,8 @@ Examples examples_of(const Text &at) {
     found.reports.push_back("cut A D\nblocked A B D\nend\n");
     found.prices = {"pin Edit Printer\nprice Dictionary Sync 7\nprice Printer Net 1099511627\n", "pin A B\nprice C D 3\n", "pin A B\npin B D\n",
                     "price A M 0\npin M B\n", "pin A U\npin U D\nprice V U 1099511627776\n", "pin A B\nprice B C 5\n", read_file(at + "/editor.prices")};
+    found.rules = {read_file(at + "/editor.rules"), "forbid A D\nallow A B\n", "set Low D\nset Low B\nforbid Low Low\nforbid C Low\n",
+                   "# of a folder\n\nfolder In in\nforbid In D\nforbid B In\nallow C D\n"};
     for (const auto &it : std::filesystem::recursive_directory_iterator(at + "/editor"))
         if (it.is_regular_file()) found.modules.push_back(read_file(it.path()));
     found.indexes.push_back(read_file(at + "/foreign.scip"));
@@ -261,10 +274,26 @@ void try_net(const Examples &examples) {
     }
 }
 
+// The symbol at a place, which has to be defined where it is by its text.
+void tried_symbol(const Text &path) {
+    Text line = std::to_string(below(20)), column = std::to_string(below(40));
+    Ended one = tried({"def", "index", path, line, column}), symbol = tried({"symbol", "index", path, line, column});
+    // control characters are written out, so that text isn't the symbol
+    if (symbol.status != 0 || symbol.put.empty() || symbol.put.find('\\') != Text::npos || symbol.put.find('\0') != Text::npos) return;
+    Words words = {"def", "index", path, "--symbol=" + symbol.put.substr(0, symbol.put.size() - 1)};
+    Ended other = tried(words);
+    if (one.status != other.status || one.put != other.put) stop(words, other, "not where the symbol is defined");
+}
+
 void try_index(const Examples &examples) {
     write_file("index", changed(one_of(examples.indexes), examples.nets));
-    Words words = {one_in(2) ? "def" : "refs", "index", one_in(4) ? "src/model.ts" : "src/view.ts", std::to_string(below(20)), std::to_string(below(40))};
-    tried(words);
+    Text path = one_in(4) ? "src/model.ts" : "src/view.ts";
+    Words places = {"def", "refs", "symbol"};
+    switch (below(6)) {
+    case 0: tried(one_in(2) ? Words{"symbols", "index"} : Words{"symbols", "index", path}); break;
+    case 1: tried_symbol(path); break;
+    default: tried({one_of(places), "index", path, std::to_string(below(20)), std::to_string(below(40))});
+    }
 }
 
 // Gives the network of the tree, as it is put, to the search for a chain, which has to find what it finds in the tree.
@@ -278,17 +307,34 @@ void tried_why(const Text &first, const Text &last) {
     if (one.status != other.status || one.put != other.put) stop(words, other, "not the chain in the tree");
 }
 
+// The faults of all files: the first is what any other command tells, and an index that leaves these files out tells each.
+void tried_faults() {
+    Ended faults = tried({"faults", "tree"}), net = tried({"net", "tree"});
+    Text first = "oscip: " + faults.put.substr(0, faults.put.find('\n') + 1);
+    Words words = {"index", "tree", "--hex", "--skip-faults"};
+    Ended index = tried(words);
+    if (faults.status == 0 ? net.status != 0 || index.status != 0 : net.status != 1 || net.told != first || (index.status != 1 && index.status != 5))
+        stop(words, index, "not the faults of the tree");
+}
+
 void try_tree(const Examples &examples) {
     std::filesystem::remove_all("tree");
-    std::filesystem::create_directory("tree");
+    std::filesystem::create_directories("tree/in");
     size_t worse = below(examples.tree.size() + 1), number = 0;
-    for (const auto &[name, text] : examples.tree) write_file("tree/" + name, number++ == worse ? changed(text, examples.modules) : text);
+    for (const auto &[name, text] : examples.tree) write_file((one_in(3) ? "tree/in/" : "tree/") + name, number++ == worse ? changed(text, examples.modules) : text);
     if (one_in(3)) {
         const Text &module = one_of(examples.modules);
         write_file("tree/More.Mod", one_in(4) ? module : changed(module, examples.modules));
     }
     write_file("report", changed(one_of(examples.reports), examples.nets));
-    switch (below(9)) {
+    switch (below(12)) {
+    case 9: tried_faults(); break;
+    case 10: case 11: {
+        const Text &rules = one_of(examples.rules);
+        write_file("rules", one_in(3) ? rules : changed(rules, examples.nets));
+        tried({"rules", "tree", "rules"});
+        break;
+    }
     case 0: tried(priced({"check", "tree", "report"}, examples)); break;
     case 1: tried(priced(pictured({"dot", "tree", "report"}), examples)); break;
     case 2: tried({"crossings", "tree", some_name(), some_name()}); break;
@@ -305,7 +351,7 @@ void try_tree(const Examples &examples) {
     }
 }
 
-const Words SAID = {"cut", "cut-net", "check", "check-net", "dot", "dot-net", "def", "refs", "crossings", "why", "why-net", "index", "unresolved", "help", "--help", "-h", "-V", "--version",
+const Words SAID = {"cut", "cut-net", "check", "check-net", "dot", "dot-net", "def", "refs", "crossings", "why", "why-net", "rules", "faults", "symbol", "symbols", "--symbol=x", "--symbol", "--skip-faults", "index", "unresolved", "help", "--help", "-h", "-V", "--version",
     "--workers", "--workers=2", "--workers=99", "--prices", "--prices=prices", "--hex", "--flow", "--package", "--package=p", "--package= p", "--root=r", "--", "-", "net", "report", "tree", "index", "gone", "A", "B", "0", "3",
     "-1", "2147483648", "", "\xff"};
 
@@ -334,14 +380,18 @@ void try_all(const Examples &examples) {
     write_file("net", "import A B 1\nimport B D 3\n");
     write_file("prices", examples.prices[2]);
     try_each(examples.reports.back(), "report", {check, {"dot-net", "net", "report", PRICED}});
-    try_each(examples.indexes[0], "index", {{"def", "index", "src/view.ts", "2", "19"}, {"refs", "index", "src/view.ts", "6", "9"}});
+    try_each(examples.indexes[0], "index", {{"def", "index", "src/view.ts", "2", "19"}, {"refs", "index", "src/view.ts", "6", "9"},
+        {"symbol", "index", "src/view.ts", "2", "19"}, {"symbols", "index"}, {"symbols", "index", "src/view.ts"}});
     std::filesystem::create_directory("tree");
     for (const auto &[name, text] : examples.tree) write_file("tree/" + name, text);
     tried({"index", "tree", "index"});
     try_each(read_file("index"), "index", {{"def", "index", "A.Mod", "0", "7"}, {"refs", "index", "C.Mod", "0", "93"}});
+    tried({"rules", "tree", "gone"});
+    for (const Text &text : examples.rules) try_each(text, "rules", {{"rules", "tree", "rules"}});
     std::filesystem::create_directory("one");
     for (const auto &[name, text] : examples.tree) {
-        std::vector<Words> commands = {{"cut", "tree", "A", "D"}, {"cut", "tree", "A", "D", PRICED}, {"net", "tree"}, {"unresolved", "tree"}, {"index", "tree", "--hex"}};
+        std::vector<Words> commands = {{"cut", "tree", "A", "D"}, {"cut", "tree", "A", "D", PRICED}, {"net", "tree"}, {"unresolved", "tree"}, {"index", "tree", "--hex"},
+            {"faults", "tree"}, {"index", "tree", "--hex", "--skip-faults"}};
         try_each(text, "tree/" + name, commands);
         write_file("tree/" + name, text);
     }

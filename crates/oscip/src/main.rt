@@ -1,20 +1,20 @@
 //! The program: reads files, runs one engine on the real standard output, and ends with a status.
 //! Stands on `oscip_job` for the command line, on `oscip_run` for the files, the engines and the faults, and on `index_run` for the engines that index.
-//! Its contract: it is safe; what is put is what the calls of `oscip_run` and `index_run` promise.
+//! Its contract: it is safe; what is put, and the status, is what the calls of `oscip_run` and `index_run` promise.
 #![tactic(auto)]
 
 ghost use Rattle.std.specs.String.{string_bytes};
 ghost use Rattle.oscip_tree.specs.Sources.{ArePathsInOrder};
-ghost use Rattle.oscip_job.specs.Jobs.{HasPackage, HasTreeWorkers, HasWorkers, IsPackage, MayWork};
+ghost use Rattle.oscip_job.specs.Jobs.{HasPackage, HasWorkers, IsPackage, MayWork};
 
 use byte_sink::{Sink, ToWrite};
 use index_run::{
     OpenBoard, answer_index, answer_index_of_accepted, run_unresolved, sources_to_index,
 };
-use oscip_job::{Indexing, Job, JobFault, Output, TreeQuestion, job_of};
+use oscip_job::{Indexing, Job, JobFault, Output, job_of};
 use oscip_run::{
-    Reader, RunFault, SystemFiles, fault_line, run_crossings, run_faults, run_net, run_net_text,
-    run_question, run_rules, run_tree, status_of, status_of_run, status_of_words,
+    Reader, RunFault, SystemFiles, ask_tree, end_of, end_without_job, fault_line, run_net,
+    run_question,
 };
 use oscip_tree::{Source, TreeFault};
 use std::alloc::Global;
@@ -185,26 +185,6 @@ fn run_index<R: Files + AllocGlobal + Eprint + Threads + Wait + Sync, F: Reader,
     Ok(true)
 }
 
-/// Asks this of the modules below a folder.
-fn ask_tree<R: AllocGlobal + Threads + Wait + Sync, F: Reader, S: Sink>(
-    rt: &R,
-    reader: &F,
-    folder: &str,
-    question: &TreeQuestion,
-    sink: &mut S,
-) -> Result<bool, RunFault>
-    requires { HasTreeWorkers question.now }
-{
-    let alloc = rt.alloc();
-    match question {
-        TreeQuestion::OfNet(question) => run_tree(rt, alloc, reader, folder, question, sink),
-        TreeQuestion::Crossings(names) => run_crossings(rt, alloc, reader, folder, names, sink),
-        TreeQuestion::Net => run_net_text(rt, alloc, reader, folder, sink),
-        TreeQuestion::Rules(rules) => { run_rules(rt, alloc, reader, folder, rules.as_str(), sink) }
-        TreeQuestion::Faults => run_faults(rt, alloc, reader, folder, sink),
-    }
-}
-
 /// Runs the job on the real files and the real standard output.
 fn run_job<R: Files + AllocGlobal + Print + Eprint + Threads + Wait + Sync + Clone + Drop>(
     rt: &R,
@@ -217,7 +197,8 @@ fn run_job<R: Files + AllocGlobal + Print + Eprint + Threads + Wait + Sync + Clo
     let mut sink = ToWrite::new(io::writer(rt));
     match job {
         Job::Tree { folder, question } => {
-            ask_tree(rt, &reader, folder.as_str(), question, &mut sink)
+            let folder = folder.as_str();
+            ask_tree(rt, rt.alloc(), &reader, folder, question, &mut sink)
         }
         Job::Network { network, question } => {
             let network = network.as_str();
@@ -233,30 +214,6 @@ fn run_job<R: Files + AllocGlobal + Print + Eprint + Threads + Wait + Sync + Clo
     }
 }
 
-/// Tells of the fault in one line on standard error, or of want of memory where there is none for its line. Whether the line is its own.
-fn is_told<R: AllocGlobal + Eprint>(rt: &R, fault: &RunFault) -> bool {
-    match fault_line(rt.alloc(), fault) {
-        Ok(line) => {
-            let _ = eprint!(rt; "{line}");
-            true
-        }
-        Err(_) => {
-            let _ = eprintln!(rt; "oscip: Memory");
-            false
-        }
-    }
-}
-
-/// Tells of the fault, if there is one, and gives the status of the end.
-fn end_of<R: AllocGlobal + Eprint>(rt: &R, ended: &Result<bool, RunFault>) -> ExitCode {
-    if let Err(fault) = ended
-        && !is_told(rt, fault)
-    {
-        return ExitCode::from(status_of(&RunFault::Memory));
-    }
-    ExitCode::from(status_of_run(ended))
-}
-
 /// Runs the job, tells of its fault, and gives the status of its end.
 fn end_of_job<R: Files + AllocGlobal + Print + Eprint + Threads + Wait + Sync + Clone + Drop>(
     rt: &R,
@@ -266,24 +223,6 @@ fn end_of_job<R: Files + AllocGlobal + Print + Eprint + Threads + Wait + Sync + 
     requires package { HasPackage job.now }
 {
     end_of(rt, &run_job(rt, job))
-}
-
-/// Tells why there is no job, or the help that was asked for, and gives the status of that end.
-fn end_without_job<R: AllocGlobal + Print + Eprint>(rt: &R, fault: &JobFault) -> ExitCode {
-    match fault {
-        JobFault::Line { text } => {
-            let _ = eprint!(rt; "{text}");
-        }
-        JobFault::Help { text } => {
-            if print!(rt; "{text}").is_err() {
-                return end_of(rt, &Err(RunFault::Device));
-            }
-        }
-        JobFault::Memory => {
-            let _ = eprintln!(rt; "oscip: Memory");
-        }
-    }
-    ExitCode::from(status_of_words(fault))
 }
 
 fn run<R: Files + AllocGlobal + Print + Eprint + Threads + Wait + Sync + Clone + Drop>(

@@ -1,5 +1,5 @@
 -- The status that the program ends with.
-use Rattle.std.specs.Prelude.{ℕ, Bool, true, false, Result, Ok, Err}
+use Rattle.std.specs.Prelude.{◌≡◌, ◌⊎◌, ℕ, Bool, true, false, Result, Ok, Err}
 use Rattle.oscip_job.specs.declared.job.JobFault.{JobFault}
 use Rattle.oscip_job.specs.declared.job.JobFault.TheVariants.{Line, Help, Memory}
 use Rattle.oscip_run.specs.Faults.{status_number}
@@ -16,3 +16,14 @@ abbrev pub words_status : JobFault → ℕ
 words_status (Line text) = 2
 words_status (Help text) = 0
 words_status Memory = 4
+
+-- how a run may end: with its status, but with 4 where no memory is left for the line of its fault
+abbrev pub EndsRun : Result Bool RunFault → ℕ → Type 0
+EndsRun (Ok agrees) status = status ≡ run_status (Ok agrees)
+EndsRun (Err fault) status = (status ≡ run_status (Err fault)) ⊎ (status ≡ 4)
+
+-- how words may end that give no job: with their status, but help that can't be put with 3, or with 4 where no memory is left for the line of that
+abbrev pub EndsWords : JobFault → ℕ → Type 0
+EndsWords (Line text) status = status ≡ 2
+EndsWords (Help text) status = (status ≡ 0) ⊎ ((status ≡ 3) ⊎ (status ≡ 4))
+EndsWords Memory status = status ≡ 4

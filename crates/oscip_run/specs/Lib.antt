@@ -13,3 +13,4 @@ pub mod AskedRuns
 pub mod CrossingRuns
 pub mod FaultRuns
 pub mod RuleRuns
+pub mod TreeQuestionRuns

@@ -1,15 +1,19 @@
 //! Runs of what jobs ask on the files that they name, over any reader and any sink.
 ghost use Rattle.std.specs.Prelude.{◌≡◌, IfErr, IfOk, option_copied};
 ghost use Rattle.byte_sink.specs.Sinks.{failures_by};
-ghost use Rattle.oscip_job.specs.Jobs.{HasNetWorkers};
+ghost use Rattle.oscip_job.specs.Jobs.{HasNetWorkers, HasTreeWorkers};
 ghost use Rattle.oscip_run.specs.Faults.{is_device, IsReadFault};
 ghost use Rattle.oscip_run.specs.FileRuns.{IsNetRun, IsQuestionRun, IsTreeRun, IsTreeTextRun, IsUsesRun};
 ghost use Rattle.oscip_run.specs.Readings.{given_bytes, bytes_or_none, paths_beside, AreGiven, AreNotGiven, IsGiven, IsNotGiven};
+ghost use Rattle.oscip_run.specs.TreeQuestionRuns.{IsTreeQuestionRun};
 
-use crate::{Reader, RunFault, answer, answer_question, answer_tree, crossings_tree, net_tree};
+use crate::{
+    Reader, RunFault, answer, answer_question, answer_tree, crossings_tree, net_tree, run_faults,
+    run_rules,
+};
 use byte_sink::Sink;
 use cut_solve::OpenGate;
-use oscip_job::{IndexQuestion, NetQuestion, TwoNames};
+use oscip_job::{IndexQuestion, NetQuestion, TreeQuestion, TwoNames};
 use std::alloc::Global;
 use std::sync::Wait;
 use std::thread::Threads;
@@ -188,4 +192,28 @@ pub fn run_question<F: Reader, S: Sink>(
     let index = reader.file(path)?;
     answer_question(alloc, question, index.as_slice(), sink)?;
     Ok(true)
+}
+
+/// Asks this of the modules that the reader gives of this folder, whatever is asked. Refuses as the run of that question does.
+pub fn ask_tree<R: Threads + Wait + Sync, F: Reader, S: Sink>(
+    rt: &R,
+    alloc: Global,
+    reader: &F,
+    folder: &str,
+    question: &TreeQuestion,
+    sink: &mut S,
+) -> Result<bool, RunFault>
+    requires { HasTreeWorkers question.now }
+    // What the reader gave of this folder and of the question's paths, and what the engine of this question puts of that.
+    ensures run { IsTreeQuestionRun (F.answers reader.now) folder.now question.now (S.taken sink.old) (S.taken sink.new) result }
+    // Device is answered where the sink counted a failure, and nowhere else.
+    ensures failures { S.failures sink.new ≡ failures_by is_device result (S.failures sink.old) }
+{
+    match question {
+        TreeQuestion::OfNet(question) => run_tree(rt, alloc, reader, folder, question, sink),
+        TreeQuestion::Crossings(names) => run_crossings(rt, alloc, reader, folder, names, sink),
+        TreeQuestion::Net => run_net_text(rt, alloc, reader, folder, sink),
+        TreeQuestion::Rules(rules) => run_rules(rt, alloc, reader, folder, rules.as_str(), sink),
+        TreeQuestion::Faults => run_faults(rt, alloc, reader, folder, sink),
+    }
 }
