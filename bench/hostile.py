@@ -534,6 +534,18 @@ def near(modules, each):
     return {**small_modules(modules, lambda it: range(max(0, it - each), it)), "t/Z.Mod": b"MODULE Z; END Z."}
 
 
+def behind_hubs(each):
+    """So many modules that import the first of fifteen, each of which imports the next, the last one Z, and as many others."""
+    files = {"t/Z.Mod": b"MODULE Z; END Z."}
+    imported = b", ".join(b"N%d" % it for it in range(each))
+    for it in range(each):
+        files[f"t/M{it}.Mod"] = b"MODULE M%d; IMPORT Y00; END M%d." % (it, it)
+        files[f"t/N{it}.Mod"] = b"MODULE N%d; END N%d." % (it, it)
+    for it in range(15):
+        files[f"t/Y{it:02}.Mod"] = b"MODULE Y%02d; IMPORT %s, %s; END Y%02d." % (it, imported, b"Y%02d" % (it + 1) if it < 14 else b"Z", it)
+    return files
+
+
 def set_of(name, modules):
     """Lines by which these modules are in a set."""
     return b"".join(b"set %s %s\n" % (name, it) for it in modules)
@@ -569,12 +581,12 @@ def asked(behind):
     return {"index": document(definition(b"") + behind)}
 
 
-# The command, whether it refuses, and for each input what is written, of which there is once or twice as much, and the most times that
+# The command, its status, and for each input what is written, of which there is once or twice as much, and the most times that
 # the instructions may grow, where that isn't `GREW`.
 GROWN = [
     (
         ["unresolved", "t"],
-        False,
+        ANSWERED,
         {
             "uses of 20,000 fields behind 8,000 bases": (lambda k: one(fields("names", many(20_000) * k, many(8_000) * k)), 2.2),
             "uses of 20,000 names that no record has, at 8,000 bases that come back": (lambda k: one(fields("round", many(20_000) * k, many(8_000) * k)), 2.2),
@@ -612,7 +624,7 @@ GROWN = [
     ),
     (
         ["unresolved", "t"],
-        True,
+        REFUSED,
         {
             "names that fall together before one that is declared twice": (lambda k: declared(together(k) + [b"a", b"a"]),),
             "modules outside of the tree that fall together, which are too many": (lambda k: imported(together(k, "text")),),
@@ -622,7 +634,7 @@ GROWN = [
     ),
     (
         ["index", "t", "out", "--workers", "1"],
-        False,
+        ANSWERED,
         {
             "names that fall together with a module that isn't in the tree": (lambda k: outside(together(k, "each", "4:0")),),
             "names that fall together with a module that isn't in the tree, as symbols": (lambda k: outside(together(k, "each", "4:0", "8:1")),),
@@ -635,7 +647,7 @@ GROWN = [
     ),
     (
         ["crossings", "t", "M", "N"],
-        False,
+        ANSWERED,
         {
             "aliases of one module": (lambda k: crossing(many(20_000) * k),),
             "names that fall together beside a crossing": (lambda k: exporting(together(k)),),
@@ -643,7 +655,7 @@ GROWN = [
     ),
     (
         ["cut", "t", "M", "N"],
-        False,
+        ANSWERED,
         {
             "aliases of one module of a cut": (lambda k: crossing(many(20_000) * k),),
             "names that fall together beside a cut": (lambda k: exporting(together(k)),),
@@ -652,7 +664,7 @@ GROWN = [
     ),
     (
         ["cut-net", "t/net", "a0", "zz9"],
-        False,
+        ANSWERED,
         {
             "seven modules that 4,000 import, and that import 4,000": (lambda k: hubs(many(2_000) * k, 1),),
             "seven modules that 8,000 import": (lambda k: hubs(many(4_000) * k, 0),),
@@ -661,7 +673,7 @@ GROWN = [
     ),
     (
         ["rules", "t", "rules"],
-        False,
+        ANSWERED,
         {
             "rules over 8,056 imports": (lambda k: ruled(near(512, 16), many(2_048) * k * b"forbid Z M0\n"),),
             "rules from all modules": (lambda k: ruled(near(512, 2), set_of(b"A", numbered(512)), many(2_048) * k * b"forbid A Z\n"),),
@@ -678,15 +690,22 @@ GROWN = [
     ),
     (
         ["rules", "t", "rules"],
-        True,
+        REFUSED,
         {
             "a set of no module behind many lines": (lambda k: ruled(near(1, 0), many(100_000) * k * b"set A Z\n", b"set A Nope\n"),),
             "rules that are too many": (lambda k: ruled(near(2, 1), many(20_000) * k * b"forbid Z M0\n"),),
         },
     ),
     (
+        ["rules", "t", "rules"],
+        DENIED,
+        {
+            "modules of a set behind fifteen, each of which imports as many": (lambda k: ruled(behind_hubs(many(1_000) * k), set_of(b"A", numbered(many(1_000) * k)), b"forbid A Z\n"),),
+        },
+    ),
+    (
         ["refs", "index", "a", "0", "7"],
-        False,
+        ANSWERED,
         {
             "one symbol with many occurrences": (lambda k: asked(b"".join(occurrence(it, b"s") for it in range(many(100_000) * k))),),
             "occurrences of other symbols": (lambda k: asked(b"".join(occurrence(it, b"t") for it in range(many(100_000) * k))),),
@@ -697,7 +716,7 @@ GROWN = [
     ),
     (
         ["symbols", "index"],
-        False,
+        ANSWERED,
         {
             "definitions of one symbol": (lambda k: asked(many(100_000) * k * definition(b"")),),
             "occurrences of other symbols that define none": (lambda k: asked(b"".join(occurrence(it, b"t") for it in range(many(100_000) * k))),),
@@ -707,7 +726,7 @@ GROWN = [
     ),
     (
         ["symbols", "index", "a"],
-        False,
+        ANSWERED,
         {
             "documents whose paths differ in the last letters": (lambda k: {"index": document(definition(b"")) + b"".join(record(2, record(1, b"%s%d" % (200 * b"a", it)) + definition(b"")) for it in range(many(20_000) * k))},),
             "definitions of a local symbol": (lambda k: asked(many(100_000) * k * record(2, b"\x0a\x03\x00\x00\x01\x12\x07local 0\x18\x01")),),
@@ -715,14 +734,14 @@ GROWN = [
     ),
     (
         ["refs", "index", "--symbol", "s"],
-        False,
+        ANSWERED,
         {
             "one symbol with many occurrences, by its text": (lambda k: asked(b"".join(occurrence(it, b"s") for it in range(many(100_000) * k))),),
         },
     ),
     (
         ["def", "index", "a", "0", "7"],
-        False,
+        ANSWERED,
         {
             "one symbol with many definitions": (lambda k: asked(many(100_000) * k * definition(b"")),),
         },
@@ -776,7 +795,7 @@ def written(folder, files):
     return sum(map(len, files.values()))
 
 
-def growth(program, words, folder, refuses, files):
+def growth(program, words, folder, wanted, files):
     """The bytes of twice as much, the instructions of it over those of once as much, both beyond those of the help, and how often a run ended in another way than it should."""
     none, _ = instructions([program, "--help"], folder, PLAIN)
     took, wrong, size = [], 0, 0
@@ -784,7 +803,7 @@ def growth(program, words, folder, refuses, files):
         size = written(folder, files(times))
         counted_now, status = instructions([program, *words], folder, PLAIN)
         took.append(counted_now)
-        wrong += status != (REFUSED if refuses else ANSWERED)
+        wrong += status != wanted
     return size, times_of(none, *took), wrong
 
 
@@ -794,10 +813,10 @@ def grown(program, folder):
         return 0
     wrong = 0
     head("Command", "Input", "Bytes", "Instructions at twice the bytes", "at most")
-    for words, refuses, inputs in GROWN:
+    for words, wanted, inputs in GROWN:
         for name, (files, *bound_of) in inputs.items():
             most = bound_of[0] if bound_of else GREW
-            size, ratio, others = growth(program, words, folder, refuses, files)
+            size, ratio, others = growth(program, words, folder, wanted, files)
             # a part is too small for the bounds, and for what is refused as too many
             faults = ["another status"] if others and PART == 1 else []
             faults += ["too many instructions"] if ratio > most and PART == 1 else []

@@ -12,7 +12,7 @@ use Rattle.cut_net.specs.Network.{Network, none_there}
 use Rattle.digraph.proofs.Members.{no_member, one_member}
 use Rattle.digraph.specs.Chains.{IsChain}
 use Rattle.digraph.specs.Edges.{AreBetween, Leads}
-use Rattle.digraph.specs.Levels.{AreChainInto, IsLeastChainInto}
+use Rattle.digraph.specs.Levels.{AreChainInto, IsLeastChainInto, IsWayInto}
 use Rattle.cut_rules.specs.Judged.{told_text, AreNamed, AreSome, AreSomeOf, AreTold, AreToldOf, IsCountedBefore}
 use Rattle.cut_rules.specs.declared.draft.Rule.{Rule}
 use Rattle.cut_rules.specs.declared.draft.Span.{Span}
@@ -96,6 +96,18 @@ told_nothing leads ends line = record {
   ascending = λ i j d lt l. absurd (omega arith);
   all = λ n chain has is. no_member n has;
 }
+
+-- where no way leads from a module there is no chain to tell
+pub told_nowhere : (edges : List Edge) (ends : List ℕ) (line : ℕ) (members : List ℕ) → ((v : ℕ) (more : List ℕ) → Contains members v → IsWayInto edges ends v more → ⊥) → AreTold (Leads edges) ends line members []
+told_nowhere edges ends line members none = record {
+  each = λ b has. no_member b has;
+  ascending = λ i j d lt l. absurd (omega arith);
+  all = λ m chain has is. absurd (nowhere m chain has is);
+}
+  where
+    nowhere : (m : ℕ) (chain : List ℕ) → Contains members m → AreChainInto (Leads edges) m ends chain → ⊥
+    nowhere m [] has (b, there, chain, some) = chain
+    nowhere m (n ∷ more) has (b, there, (e, chain), some) = none m more has (b, there, subst (λ (k : ℕ). IsChain (Leads edges) k more b) e chain)
 
 -- pairs of two lists put together
 all_pairs_append : {X : Type 0} (R : X → X → Type 0) (xs ys : List X) → AllPairs R xs → AllPairs R ys → ((x y : X) → Contains xs x → Contains ys y → R x y) → AllPairs R (xs ++ ys)
@@ -195,6 +207,11 @@ module _ (net : Network) (b : List ℕ) where
 -- a chain into some ends is one into others among which they are
 pub same_ends_chain : (leads : ℕ → ℕ → Type 0) (m : ℕ) (ends others : List ℕ) → ((e : ℕ) → Contains ends e → Contains others e) → (chain : List ℕ) → AreChainInto leads m ends chain → AreChainInto leads m others chain
 same_ends_chain leads m ends others among chain (b, there, is, some) = (b, among b there, is, some)
+
+-- the modules of a name, by what they are called where they are found
+pub named_as : (files fs : List File) (spans ss : List Span) (nodes count name : ℕ) (members : List ℕ) → fs ≡ files → ss ≡ spans → count ≡ nodes → ((m : ℕ) → Contains members m → m < count) →
+    ((m : ℕ) → m < count → Contains members m ↔ ((name ≡ m) ⊎ InSpans fs ss name m)) → AreNamed files spans nodes name members
+named_as files fs spans ss nodes count name members file span size within are = record { within = rw size at within; are = rw (file, span, size) at are }
 
 -- what is told of the modules of a rule's first name is told of the rule
 module _ (leads : ℕ → ℕ → Type 0) (files : List File) (spans : List Span) (nodes : ℕ) (r : Rule) (ends members : List ℕ) (are_ends : AreNamed files spans nodes r.second ends) (are_members : AreNamed files spans nodes r.first members) where

@@ -9,7 +9,7 @@ ghost use Rattle.text_pieces.specs.Pieces.{PutsAllBut};
 ghost use Rattle.digraph.specs.declared.edge.Edge.{Edge as GraphEdge};
 ghost use Rattle.digraph.specs.Edges.{IsAscending, Leads};
 ghost use Rattle.digraph.specs.Graphs.{IsGraph};
-ghost use Rattle.digraph.specs.Levels.{AreLevels};
+ghost use Rattle.digraph.specs.Ways.{AreWays};
 ghost use Rattle.cut_net.specs.Network.{name_of};
 ghost use Rattle.cut_rules.specs.Verdicts.{broken_line, is_none, spaced, verdict_text, AreBroken, Broken, PutsSome};
 ghost use Rattle.cut_rules.specs.Outcomes.{AreByName, AreRulesOf};
@@ -20,7 +20,7 @@ use crate::draft::Rule;
 use crate::members::members_of;
 use byte_sink::{Sink, SinkFault, put_all};
 use cut_net::Net;
-use digraph::{Edge, Graph, graph_of, put_in_order};
+use digraph::{Edge, Graph, Ways, graph_of, put_in_order};
 use std::alloc::{AllocError, Global};
 use std::fmt::Write;
 use text_pieces::put_enough;
@@ -117,23 +117,23 @@ fn push_chain<S: Sink>(
     text: &mut String,
     net: &Net,
     graph: &Graph<'_>,
-    levels: &[Option<u32>],
+    ways: &Ways,
     line: u64,
     node: u32,
     sink: &mut S,
 ) -> Result<bool, SinkFault>
     requires graph { IsGraph graph.now }
     requires nodes { length graph.now.before.items ≡ length net.now.names }
-    requires levels { (ends : List ℕ) × AreLevels graph.now.edges.now ends levels.now }
+    requires ways { (ends : List ℕ) × AreWays graph.now.edges.now ends ways.now }
     requires node { node < length net.now.names }
-    ensures told { IfOk result (λ any. (ends : List ℕ) → AreLevels graph.now.edges.now ends levels.now → (told : List Broken) × AreTold (Leads graph.now.edges.now) ends line (node ∷ []) told
+    ensures told { IfOk result (λ any. (ends : List ℕ) → AreWays graph.now.edges.now ends ways.now → (told : List Broken) × AreTold (Leads graph.now.edges.now) ends line (node ∷ []) told
         × (any ≡ not (is_none told)) × PutsAllBut (S.taken sink.old) (S.taken sink.new) (string_bytes text.old ++ told_text net.now told) (string_bytes text.new)) }
-    ensures broken { IfErr result (λ _. (ends : List ℕ) → AreLevels graph.now.edges.now ends levels.now → (told : List Broken) × AreSome (Leads graph.now.edges.now) ends line (node ∷ []) told
+    ensures broken { IfErr result (λ _. (ends : List ℕ) → AreWays graph.now.edges.now ends ways.now → (told : List Broken) × AreSome (Leads graph.now.edges.now) ends line (node ∷ []) told
         × AppendsFront (S.taken sink.old) (S.taken sink.new) (string_bytes text.old ++ told_text net.now told)) }
     ensures failures { S.failures sink.new ≡ failures_after result (S.failures sink.old) }
 {
     let alloc = *text.allocator();
-    let Ok(found) = graph.least_chain_into(alloc, levels, node) else {
+    let Ok(found) = graph.least_chain_into(alloc, ways, node) else {
         return Err(SinkFault::Memory);
     };
     let Some(chain) = found else {
@@ -148,25 +148,25 @@ fn push_chains<S: Sink>(
     text: &mut String,
     net: &Net,
     graph: &Graph<'_>,
-    levels: &[Option<u32>],
+    ways: &Ways,
     line: u64,
     members: &[u32],
     sink: &mut S,
 ) -> Result<bool, SinkFault>
     requires graph { IsGraph graph.now }
     requires nodes { length graph.now.before.items ≡ length net.now.names }
-    requires levels { (ends : List ℕ) × AreLevels graph.now.edges.now ends levels.now }
+    requires ways { (ends : List ℕ) × AreWays graph.now.edges.now ends ways.now }
     requires members { All (λ m. m < length net.now.names) members.now }
     requires ascending { AllPairs (λ v w. v < w) members.now }
-    ensures told { IfOk result (λ any. (ends : List ℕ) → AreLevels graph.now.edges.now ends levels.now → (told : List Broken) × AreTold (Leads graph.now.edges.now) ends line members.now told
+    ensures told { IfOk result (λ any. (ends : List ℕ) → AreWays graph.now.edges.now ends ways.now → (told : List Broken) × AreTold (Leads graph.now.edges.now) ends line members.now told
         × (any ≡ not (is_none told)) × PutsAllBut (S.taken sink.old) (S.taken sink.new) (string_bytes text.old ++ told_text net.now told) (string_bytes text.new)) }
-    ensures broken { IfErr result (λ _. (ends : List ℕ) → AreLevels graph.now.edges.now ends levels.now → (told : List Broken) × AreSome (Leads graph.now.edges.now) ends line members.now told
+    ensures broken { IfErr result (λ _. (ends : List ℕ) → AreWays graph.now.edges.now ends ways.now → (told : List Broken) × AreSome (Leads graph.now.edges.now) ends line members.now told
         × AppendsFront (S.taken sink.old) (S.taken sink.new) (string_bytes text.old ++ told_text net.now told)) }
     ensures failures { S.failures sink.new ≡ failures_after result (S.failures sink.old) }
 {
     let mut any = false;
     for member in members {
-        any |= push_chain(text, net, graph, levels, line, *member, sink)?;
+        any |= push_chain(text, net, graph, ways, line, *member, sink)?;
     }
     Ok(any)
 }
@@ -200,18 +200,13 @@ fn push_rule<S: Sink>(
     let Ok(members) = members_of(alloc, files, spans, nodes, rule.first) else {
         return Err(SinkFault::Memory);
     };
-    let Ok(levels) = graph.levels_into(alloc, ends.as_slice()) else {
+    let Ok(found) = graph.ways_into(alloc, ends.as_slice(), members.as_slice()) else {
         return Err(SinkFault::Memory);
     };
-    let any = push_chains(
-        text,
-        net,
-        graph,
-        levels.as_slice(),
-        rule.line,
-        members.as_slice(),
-        sink,
-    )?;
+    let Some(ways) = found else {
+        return Ok(false);
+    };
+    let any = push_chains(text, net, graph, &ways, rule.line, members.as_slice(), sink)?;
     Ok(any)
 }
 

@@ -1,22 +1,24 @@
 -- Going down the levels.
-use Rattle.std.proofs.Common.{◌≡◌, ◌≢◌, ℕ, ◌+◌, ◌≤◌, ◌<◌, ◌⊎◌, inl, inr, List, [], ◌∷◌, ◌++◌, length, get_or, refl, sym, ◌∙◌, ap, ap₂, subst, arith, Option, Some, None, append_assoc, Ordering}
-use Rattle.std.specs.Prelude.{◌↔◌, AllPairs, Contains, IsTrue, filter, ◌==◌}
+use Rattle.std.proofs.Common.{◌≡◌, ◌≢◌, ℕ, zero, suc, ◌+◌, ◌≤◌, ◌<◌, ◌⊎◌, inl, inr, List, [], ◌∷◌, ◌++◌, length, get_or, refl, sym, ◌∙◌, ap, ap₂, subst, arith, Option, Some, None, append_assoc, Ordering}
+use Rattle.std.specs.Prelude.{◌↔◌, AllPairs, Contains, IfNone, IfSome, IsTrue, filter, ◌==◌}
 use Rattle.std.specs.Cmp.{nat_cmp_is}
 use Rattle.std.specs.Cmp.Lexicographic.{slice_cmp}
 use Rattle.std.specs.Ordering.{nat_cmp, ordering_then}
 use Rattle.std.specs.declared.cmp.Ordering.TheVariants.{Less, Equal, Greater}
-use Rattle.std.proofs.lemmas.Bool.{and_parts, cases_eq, eq-eqb, eqb-true, ltb-true, or_cases}
-use Rattle.std.proofs.lemmas.List.{append-nil, get_or-map, get_or_default, length-map}
+use Rattle.std.proofs.lemmas.Bool.{and_parts, cases_eq, cases_lt, eq-eqb, eqb-true, ltb-true, or_cases}
+use Rattle.std.proofs.lemmas.List.{append-nil, get_or-map, get_or_default, get_or_past, length-map}
 use Rattle.std.proofs.lemmas.List.Elements.{filter_passes}
 use Rattle.std.proofs.lemmas.List.Kept.{AllPairs-filter}
 use Rattle.digraph.specs.declared.edge.Edge.{Edge}
 use Rattle.digraph.specs.Chains.{IsChain}
 use Rattle.digraph.specs.Edges.{comes_before, IsAscending, Leads, successors}
 use Rattle.digraph.specs.Levels.{level_of, HasChainInto, AreChain, AreChainInto, AreLevels, IsLeastChain, IsLeastChainInto, IsLeastOf, IsLeastOn, IsNearest, IsWayInto}
+use Rattle.digraph.specs.declared.ways.Ways.{Ways}
+use Rattle.digraph.specs.Ways.{next_of, AreWays, IsStepDown}
 use Rattle.std.specs.Global.{Vec}
 use Rattle.digraph.specs.Marks.{lists, none_there, row_at}
 use Rattle.digraph.proofs.Members.{from_map, in_filter, in_map, of_filter, one_member}
-use Rattle.digraph.proofs.Rounds.{never_both, same_level}
+use Rattle.digraph.proofs.Rounds.{level_low, never_both, same_level}
 
 pub successor : (edges : List Edge) (v w : ℕ) → Contains (successors edges v) w ↔ Leads edges v w
 successor edges v w = (
@@ -27,6 +29,11 @@ successor edges v w = (
       subst (Contains edges) e known,
   λ leads. in_map (λ (q : Edge). q.to) (filter (λ q. q.from == v) edges) (record { from = v; to = w }) (in_filter (λ (q : Edge). q.from == v) edges (record { from = v; to = w }) (eq-eqb v v refl) leads),
 )
+
+-- how many steps lead down from a level
+abbrev pub level_number : Option ℕ → ℕ
+level_number None = 0
+level_number (Some j) = j
 
 module _ (edges : List Edge) (ends : List ℕ) (levels : List (Option ℕ)) (are : AreLevels edges ends levels) where
   -- a node with a chain has a level, which is no more than its edges
@@ -250,3 +257,35 @@ nearest_all levels nodes count level node all near = record {
 pub none_near : (levels : List (Option ℕ)) (nodes : List ℕ) (count : ℕ) → length nodes ≤ count → NearestSoFar levels nodes count None → (u j : ℕ) → Contains nodes u → level_of levels u ≡ Some j → ⊥
 none_near levels nodes count all none u j (p, lt, is) on =
     none p j (omega arith) (ap (level_of levels) (get_or_default nodes p 0 u lt ∙ is) ∙ on)
+
+-- ---- steps down
+
+-- the least one in the row of a node above level 0 is its step, and there is one
+pub step_found : (edges : List Edge) (ends : List ℕ) (levels : List (Option ℕ)) → AreLevels edges ends levels → (v level : ℕ) → level_of levels v ≡ Some (level + 1) → (row : List ℕ) → row ≡ successors edges v → (o : Option ℕ) →
+    IfSome o (IsLeastOn levels row level) → IfNone o ((u : ℕ) → Contains row u → level_of levels u ≡ Some level → ⊥) → IsStepDown edges levels v o
+step_found edges ends levels are v level is row own (Some u) found none = (level, is, subst (λ (r : List ℕ). IsLeastOn levels r level u) own found)
+step_found edges ends levels are v level is row own None found none = λ j above.
+    let (w, leads, below) = leads_down edges ends levels are v level is in
+    none w (subst (λ (r : List ℕ). Contains r w) (sym own) ((successor edges v w).1 leads)) below
+
+-- the steps of the first so many nodes, among which are all that have a level, are those of all
+pub steps_all : (edges : List Edge) (levels next : List (Option ℕ)) (count : ℕ) → length next ≡ count → length levels ≡ count → ((v : ℕ) → v < count → IsStepDown edges levels v (next_of next v)) →
+    (v : ℕ) → IsStepDown edges levels v (next_of next v)
+steps_all edges levels next count size all steps v = elim (cases_lt v count) [
+  | inl lt ↦ steps v lt
+  | inr le ↦ subst (IsStepDown edges levels v) (sym (get_or_past next v None (omega arith))) (λ j is. let low = level_low levels v (j + 1) is in absurd (omega arith))
+]
+
+-- the step that is read from a node with a level
+pub step_read : (edges : List Edge) (ends : List ℕ) (ways : Ways) → AreWays edges ends ways → (at : ℕ) (o p : Option ℕ) → (j : ℕ) × (level_of ways.levels.items at ≡ Some j) → o ≡ get_or ways.next.items at o → o ≡ p →
+    IsStepDown edges ways.levels.items at p
+step_read edges ends ways are at o p (j, on) read is =
+    let low = level_low ways.levels.items at j on in
+    let size = are.size in
+    let lt : at < length ways.next.items = omega arith in
+    subst (IsStepDown edges ways.levels.items at) (get_or_default ways.next.items at None o lt ∙ sym read ∙ is) (are.steps at)
+
+-- with no step the level is 0
+pub no_step : (edges : List Edge) (levels : List (Option ℕ)) (v j : ℕ) → level_of levels v ≡ Some j → IsStepDown edges levels v None → level_of levels v ≡ Some 0
+no_step edges levels v zero on none = on
+no_step edges levels v (suc j) on none = absurd (none j (on ∙ ap (λ (n : ℕ). Some n) (omega arith)))

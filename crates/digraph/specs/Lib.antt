@@ -8,3 +8,4 @@ pub mod Marks
 pub mod Ranks
 pub mod Spreading
 pub mod Trails
+pub mod Ways

@@ -1,28 +1,15 @@
 //! The least of the chains with the fewest edges.
-ghost use Rattle.std.specs.Prelude.{◌≡◌, ◌<◌, ◌≤◌, ◌++◌, ℕ, AllPairs, Contains, IfNone, IfOk, IfSome, List, OnOk, Some, vec_len};
+ghost use Rattle.std.specs.Prelude.{◌≡◌, ◌<◌, ◌≤◌, ℕ, Contains, IfNone, IfOk, IfSome, List, Some, vec_len};
 ghost use Rattle.digraph.specs.Chains.{Chain};
 ghost use Rattle.digraph.specs.Edges.{AreBetween, IsAscending, Leads};
 ghost use Rattle.digraph.specs.Graphs.{IsGraph};
-ghost use Rattle.digraph.specs.Levels.{level_of, AreChainInto, AreLevels, IsLeastChain, IsLeastChainInto, IsLeastOf, IsLeastOn, IsNearest, IsWayInto};
+ghost use Rattle.digraph.specs.Levels.{level_of, AreChainInto, IsLeastChain, IsLeastChainInto, IsNearest};
+ghost use Rattle.digraph.specs.Ways.{AreWays};
 
 use crate::graph::graph_of;
 use crate::levels::level_at;
-use crate::{Edge, Graph};
+use crate::{Edge, Graph, Ways};
 use std::alloc::{AllocError, Global};
-
-/// The least of ascending nodes on this level.
-fn least_on(levels: &[Option<u32>], nodes: &[u32], level: u32) -> Option<u32>
-    requires { AllPairs (λ v w. v ≤ w) nodes.now }
-    ensures found { IfSome result (IsLeastOn levels.now nodes.now level) }
-    ensures none { IfNone result ((u : ℕ) → Contains nodes.now u → level_of levels.now u ≡ Some level → ⊥) }
-{
-    for node in nodes {
-        if level_at(levels, *node) == Some(level) {
-            return Some(*node);
-        }
-    }
-    None
-}
 
 /// Of the nodes the one on the lowest level, and of those the least, with its level.
 fn nearest(levels: &[Option<u32>], nodes: &[u32]) -> Option<(u32, u32)>
@@ -45,52 +32,28 @@ fn nearest(levels: &[Option<u32>], nodes: &[u32]) -> Option<(u32, u32)>
 }
 
 impl Graph<'_> {
-    /// Goes down the levels from a node on this one, always to the least node that is led to, and adds the nodes to the chain.
-    fn go_down(
-        &self,
-        levels: &[Option<u32>],
-        from: u32,
-        level: u32,
-        chain: &mut Vec<u32>,
-    ) -> Result<(), AllocError>
-        requires graph { IsGraph self.now }
-        requires from { from < vec_len self.now.before }
-        requires levels { (ends : List ℕ) × AreLevels self.now.edges.now ends levels.now }
-        requires level { level_of levels.now from ≡ Some level }
-        ensures { OnOk result ((ends : List ℕ) → AreLevels self.now.edges.now ends levels.now → (more : List ℕ) × (chain.new.items ≡ chain.old.items ++ more) × IsLeastOf (IsWayInto self.now.edges.now ends from) more) }
-    {
-        let mut at = from;
-        for below in (0..level).rev() {
-            let Some(next) = least_on(levels, self.after[at as usize].as_slice(), below) else {
-                unreachable!();
-            };
-            at = next;
-            chain.push(at)?;
-        }
-        Ok(())
-    }
-
-    /// The chain of one or more edges from a node to one of the ends that these are the levels of: the one with the fewest edges, and of those the one with
+    /// The chain of one or more edges from a node to one of the ends that these are the ways into: the one with the fewest edges, and of those the one with
     /// the least nodes from the first on; none where no such chain leads to an end. Fails where memory is refused.
     pub fn least_chain_into(
         &self,
         alloc: Global,
-        levels: &[Option<u32>],
+        ways: &Ways,
         from: u32,
     ) -> Result<Option<Vec<u32>>, AllocError>
         requires graph { IsGraph self.now }
         requires from { from < vec_len self.now.before }
-        requires levels { (ends : List ℕ) × AreLevels self.now.edges.now ends levels.now }
-        ensures found { IfOk result (λ answer. IfSome answer (λ chain. (ends : List ℕ) → AreLevels self.now.edges.now ends levels.now → IsLeastChainInto (Leads self.now.edges.now) from ends chain.items)) }
-        ensures none { IfOk result (λ answer. IfNone answer ((ends chain : List ℕ) → AreLevels self.now.edges.now ends levels.now → AreChainInto (Leads self.now.edges.now) from ends chain → ⊥)) }
+        requires ways { (ends : List ℕ) × AreWays self.now.edges.now ends ways.now }
+        ensures found { IfOk result (λ answer. IfSome answer (λ chain. (ends : List ℕ) → AreWays self.now.edges.now ends ways.now → IsLeastChainInto (Leads self.now.edges.now) from ends chain.items)) }
+        ensures none { IfOk result (λ answer. IfNone answer ((ends chain : List ℕ) → AreWays self.now.edges.now ends ways.now → AreChainInto (Leads self.now.edges.now) from ends chain → ⊥)) }
     {
-        let Some((next, level)) = nearest(levels, self.after[from as usize].as_slice()) else {
+        let levels = ways.levels.as_slice();
+        let Some((next, _)) = nearest(levels, self.after[from as usize].as_slice()) else {
             return Ok(None);
         };
         let mut chain = Vec::with_capacity(alloc, 2)?;
         chain.push(from)?;
         chain.push(next)?;
-        self.go_down(levels, next, level, &mut chain)?;
+        ways.go_down(next, &mut chain)?;
         Ok(Some(chain))
     }
 }
@@ -113,11 +76,10 @@ pub fn least_chain(
     ensures none { IfOk result (λ answer. IfNone answer (Chain (Leads edges.now) from to → ⊥)) }
 {
     let graph = graph_of(alloc, edges, nodes)?;
-    let levels = graph.levels_into(alloc, &[to])?;
-    let Some(level) = level_at(levels.as_slice(), from) else {
+    let Some(ways) = graph.ways_into(alloc, &[to], &[from])? else {
         return Ok(None);
     };
     let mut chain = vec![in alloc; from; 1]?;
-    graph.go_down(levels.as_slice(), from, level, &mut chain)?;
+    ways.go_down(from, &mut chain)?;
     Ok(Some(chain))
 }

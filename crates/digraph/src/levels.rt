@@ -51,10 +51,15 @@ fn all_in(alloc: Global, rows: &[Vec<u32>], nodes: &[u32]) -> Result<Vec<u32>, A
 
 impl Graph<'_> {
     /// Per node how few edges lead from it to one of these ends, and none where no chain leads to one. An end has 0. Fails where memory is refused.
-    pub fn levels_into(&self, alloc: Global, ends: &[u32]) -> Result<Vec<Option<u32>>, AllocError>
+    pub(crate) fn levels_into(
+        &self,
+        alloc: Global,
+        ends: &[u32],
+    ) -> Result<Vec<Option<u32>>, AllocError>
         requires graph { IsGraph self.now }
         requires ends { All (λ v. v < vec_len self.now.before) ends.now }
-        ensures { IfOk result (λ levels. AreLevels self.now.edges.now ends.now levels.items) }
+        ensures size { IfOk result (λ levels. vec_len levels ≡ vec_len self.now.before) }
+        ensures levels { IfOk result (λ levels. AreLevels self.now.edges.now ends.now levels.items) }
     {
         let mut levels = vec![in alloc; None; self.before.len()]?;
         let mut front = put_on(alloc, &mut levels, ends, 0)?;

@@ -6,8 +6,9 @@ use Rattle.ob_tree.specs.declared.declaration.TypeDecl.{TypeDecl}
 use Rattle.ob_tree.specs.declared.declaration.VarDecl.{VarDecl}
 use Rattle.ob_tree.specs.declared.declaration.ImportItem.{ImportItem}
 use Rattle.ob_tree.specs.declared.declaration.Module.{Module}
-use Rattle.ob_tree.specs.declared.declaration.Declarations.{Declarations, fold_out-Declarations, out-Declarations}
-use Rattle.ob_tree.specs.declared.declaration.ProcDecl.{ProcDecl, ProcDecl-F, fold_out-ProcDecl, out-ProcDecl}
+use Rattle.ob_tree.specs.declared.declaration.Declarations.{Declarations, fold_out-Declarations, roll-Declarations, out-Declarations, out-roll-Declarations}
+use Rattle.ob_tree.specs.declared.declaration.ProcDecl.{ProcDecl, fold_out-ProcDecl, roll-ProcDecl, out-ProcDecl, out-roll-ProcDecl}
+use Rattle.ob_tree.proofs.DeclarationInduction.{DeclarationsLayer, ProcedureLayer}
 use Rattle.ob_rows.specs.declared.rows.Sort.TheVariants as sorts
 use Rattle.ob_rows.specs.declared.draft.Context.{Context}
 use Rattle.ob_rows.specs.Drafts.{Stage, after, passed}
@@ -30,10 +31,13 @@ pub variable_out : (v : VarDecl) → variable_piece v ≡ declaring sorts.Variab
 unfolding variable_piece
 variable_out v = refl
 
-pub declarations_out : (d : Declarations) → declarations_piece d ≡
-    both (if_there (λ v. part const_piece v.items) (out-Declarations d).constants) (
-    both (if_there (λ v. part type_decl_piece v.items) (out-Declarations d).types) (
-    both (if_there (λ v. part variable_piece v.items) (out-Declarations d).variables) (each (λ p. both (procedure_piece p) token) (out-Declarations d).procedures.items)))
+abbrev pub declarations_shown : DeclarationsLayer → Piece
+declarations_shown d =
+    both (if_there (λ v. part const_piece v.items) d.constants) (
+    both (if_there (λ v. part type_decl_piece v.items) d.types) (
+    both (if_there (λ v. part variable_piece v.items) d.variables) (each (λ p. both (procedure_piece p) token) d.procedures.items)))
+
+pub declarations_out : (d : Declarations) → declarations_piece d ≡ declarations_shown (out-Declarations d)
 unfolding declarations_piece procedure_piece
 declarations_out d =
     fold_out-Declarations Piece Piece declarations_step procedure_step d ∙
@@ -67,7 +71,7 @@ module_after m c s = simp (module_out m, after_both, after_token)
 
 pub ruleset sections_made = (steps, after_declaring, added_number, import_inner_out, import_out, imports_out)
 
-abbrev pub procedure_shown : ProcDecl-F Declarations ProcDecl → Piece
+abbrev pub procedure_shown : ProcedureLayer → Piece
 procedure_shown p = declaring sorts.Procedure (opens_block (
     both token (both (identdef_piece p.name) (both (if_there parameters_piece p.parameters) (both token
     (both (declarations_piece p.declarations) (both (if_there (λ b. both token (block_piece b.value)) p.body)
@@ -76,3 +80,11 @@ procedure_shown p = declaring sorts.Procedure (opens_block (
 pub procedure_told : (p : ProcDecl) → procedure_piece p ≡ procedure_shown (out-ProcDecl p)
 unfolding declarations_piece procedure_piece
 procedure_told p = fold_out-ProcDecl Piece Piece declarations_step procedure_step p
+
+-- the same at a value that is made
+
+pub declarations_made : (x : DeclarationsLayer) → declarations_piece (roll-Declarations x) ≡ declarations_shown x
+declarations_made x = declarations_out (roll-Declarations x) ∙ ap (λ y. declarations_shown y) (out-roll-Declarations x)
+
+pub procedure_made : (x : ProcedureLayer) → procedure_piece (roll-ProcDecl x) ≡ procedure_shown x
+procedure_made x = procedure_told (roll-ProcDecl x) ∙ ap (λ y. procedure_shown y) (out-roll-ProcDecl x)

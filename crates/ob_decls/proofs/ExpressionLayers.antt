@@ -10,15 +10,16 @@ use Rattle.ob_tree.specs.declared.expression.Factor.TheShapes as shapes
 use Rattle.ob_tree.specs.declared.expression.Factor.TheOpen as layers
 use Rattle.ob_tree.specs.declared.expression.Factor.TheVariants as factors
 use Rattle.ob_tree.specs.declared.expression.Selector.TheVariants as selectors
-use Rattle.ob_tree.specs.declared.expression.Factor.{Factor, Factor-F, fold_out-Factor, out-Factor, map-Factor}
-use Rattle.ob_tree.specs.declared.expression.Selector.{Selector, Selector-F, fold_out-Selector, out-Selector, map-Selector}
-use Rattle.ob_tree.specs.declared.expression.Designator.{Designator, fold_out-Designator}
-use Rattle.ob_tree.specs.declared.expression.Element.{Element, fold_out-Element, out-Element}
-use Rattle.ob_tree.specs.declared.expression.ElementList.{ElementList, fold_out-ElementList, out-ElementList}
-use Rattle.ob_tree.specs.declared.expression.Expr.{Expr, fold_out-Expr, out-Expr}
-use Rattle.ob_tree.specs.declared.expression.ExprList.{ExprList, fold_out-ExprList, out-ExprList}
-use Rattle.ob_tree.specs.declared.expression.SimpleExpression.{SimpleExpression, fold_out-SimpleExpression, out-SimpleExpression}
-use Rattle.ob_tree.specs.declared.expression.Term.{Term, fold_out-Term}
+use Rattle.ob_tree.specs.declared.expression.Factor.{Factor, fold_out-Factor, roll-Factor, out-Factor, out-roll-Factor, map-Factor}
+use Rattle.ob_tree.specs.declared.expression.Selector.{Selector, fold_out-Selector, roll-Selector, out-Selector, out-roll-Selector, map-Selector}
+use Rattle.ob_tree.specs.declared.expression.Designator.{Designator, fold_out-Designator, roll-Designator, out-roll-Designator}
+use Rattle.ob_tree.specs.declared.expression.Element.{Element, fold_out-Element, roll-Element, out-Element, out-roll-Element}
+use Rattle.ob_tree.specs.declared.expression.ElementList.{ElementList, fold_out-ElementList, roll-ElementList, out-ElementList, out-roll-ElementList}
+use Rattle.ob_tree.specs.declared.expression.Expr.{Expr, fold_out-Expr, roll-Expr, out-Expr, out-roll-Expr}
+use Rattle.ob_tree.specs.declared.expression.ExprList.{ExprList, fold_out-ExprList, roll-ExprList, out-ExprList, out-roll-ExprList}
+use Rattle.ob_tree.specs.declared.expression.SimpleExpression.{SimpleExpression, fold_out-SimpleExpression, roll-SimpleExpression, out-SimpleExpression, out-roll-SimpleExpression}
+use Rattle.ob_tree.specs.declared.expression.Term.{Term, fold_out-Term, roll-Term, out-roll-Term}
+use Rattle.ob_tree.proofs.ExpressionInduction.{FactorLayer, SelectorLayer, DesignatorLayer, ElementLayer, ElementListLayer, ExprLayer, ExprListLayer, SumLayer, TermLayer}
 use Rattle.ob_rows.specs.declared.rows.Step.TheVariants as steps_of
 use Rattle.ob_rows.specs.Parts.{Piece, token, both, tells, if_there, each}
 use Rattle.ob_decls.specs.Expressions.{Phrase, Listed, Selected, Denoted, Lone, between, no_name, used, first_name, name_with, if_alone, if_bare, its_selectors, designator_row, each_after, factor_piece, designator_piece, element_piece, element_list_piece, expr_piece, expr_list_piece, sum_piece, term_piece}
@@ -51,7 +52,7 @@ length_map f (x ∷ xs) = ap suc (length_map f xs)
 
 -- each layer, with what each part tells in its place
 
-abbrev pub factor_shown : Factor-F Factor Selector Designator Element ElementList Expr ExprList SimpleExpression Term → Phrase
+abbrev pub factor_shown : FactorLayer → Phrase
 factor_shown (layers.Value k n) = record { piece = token; name = no_name }
 factor_shown layers.Nil = record { piece = token; name = no_name }
 factor_shown layers.True = record { piece = token; name = no_name }
@@ -61,7 +62,7 @@ factor_shown (layers.Name d) = record { piece = designator_piece false d; name =
 factor_shown (layers.Group e) = record { piece = both token (both (expr_piece e.value) token); name = no_name }
 factor_shown (layers.Not f) = record { piece = both token (factor_piece f.value); name = no_name }
 
-abbrev pub selector_shown : Selector-F Factor Selector Designator Element ElementList Expr ExprList SimpleExpression Term → Selected
+abbrev pub selector_shown : SelectorLayer → Selected
 selector_shown (layers.Field n) = record { name = Some n; step = λ k. steps_of.Field (k + 1); piece = both token token }
 selector_shown (layers.Index list) = record { name = None; step = λ k. steps_of.Elements (listed list.value).count; piece = both token (both (expr_list_piece list.value) token) }
 selector_shown layers.Target = record { name = None; step = λ k. steps_of.Target; piece = token }
@@ -71,7 +72,32 @@ selector_shown (layers.Arguments list) = record {
   piece = both token (both (if_there (λ l. expr_list_piece l.value) list) token);
 }
 
-pub expr_out : (e : Expr) → expr_piece e ≡ both (sum_piece (out-Expr e).left) (if_there (λ c. both token (sum_piece c.1.value)) (out-Expr e).compared)
+-- the rows of a designator, and what its selectors tell
+abbrev pub selectors_shown : Bool → List Selected → Piece
+selectors_shown w ss = tells (designator_row w) (tells (its_selectors ss) (both (used (first_name ss)) (each (λ s. s.piece) ss)))
+
+abbrev pub designator_shown : Bool → DesignatorLayer → Piece
+designator_shown w d = selectors_shown w (map selected d.selectors.items)
+
+abbrev pub element_shown : ElementLayer → Piece
+element_shown e = both (expr_piece e.low) (if_there (λ h. both token (expr_piece h)) e.high)
+
+abbrev pub element_list_shown : ElementListLayer → Piece
+element_list_shown l = both (element_piece l.first) (each_after element_piece l.rest.items)
+
+abbrev pub expr_shown : ExprLayer → Piece
+expr_shown e = both (sum_piece e.left) (if_there (λ c. both token (sum_piece c.1.value)) e.compared)
+
+abbrev pub expr_list_shown : ExprListLayer → Piece
+expr_list_shown l = both (expr_piece l.first) (each_after expr_piece l.rest.items)
+
+abbrev pub sum_shown : SumLayer → Piece
+sum_shown s = both (if_there (λ x. token) s.sign) (both (term_piece s.first) (each (λ p. both token (term_piece p.1)) s.rest.items))
+
+abbrev pub term_shown : TermLayer → Piece
+term_shown t = both (factor_piece t.first) (each (λ p. both token (factor_piece p.1)) t.rest.items)
+
+pub expr_out : (e : Expr) → expr_piece e ≡ expr_shown (out-Expr e)
 unfolding expr_piece sum_piece expr_phrase sum_phrase
 expr_out e =
     ap (λ (p : Phrase). p.piece) (fold_out-Expr Phrase Selected Denoted Piece Piece Phrase Listed Phrase Phrase factor_step selector_step designator_step element_step element_list_step expr_step expr_list_step sum_step term_step e) ∙
@@ -83,7 +109,7 @@ expr_name e k =
     ap (λ (p : Phrase). p.name k) (fold_out-Expr Phrase Selected Denoted Piece Piece Phrase Listed Phrase Phrase factor_step selector_step designator_step element_step element_list_step expr_step expr_list_step sum_step term_step e) ∙
     ap (λ (n : Lone). n k) (bare sum_phrase (out-Expr e).compared (sum_phrase (out-Expr e).left).name)
 
-pub sum_out : (s : SimpleExpression) → sum_piece s ≡ both (if_there (λ x. token) (out-SimpleExpression s).sign) (both (term_piece (out-SimpleExpression s).first) (each (λ p. both token (term_piece p.1)) (out-SimpleExpression s).rest.items))
+pub sum_out : (s : SimpleExpression) → sum_piece s ≡ sum_shown (out-SimpleExpression s)
 unfolding sum_piece term_piece sum_phrase term_phrase
 sum_out s =
     ap (λ (p : Phrase). p.piece) (fold_out-SimpleExpression Phrase Selected Denoted Piece Piece Phrase Listed Phrase Phrase factor_step selector_step designator_step element_step element_list_step expr_step expr_list_step sum_step term_step s) ∙
@@ -107,19 +133,19 @@ term_name t k =
     ap (λ (p : Phrase). p.name k) (fold_out-Term Phrase Selected Denoted Piece Piece Phrase Listed Phrase Phrase factor_step selector_step designator_step element_step element_list_step expr_step expr_list_step sum_step term_step t) ∙
     ap (λ (n : Lone). n k) (alone _ t.rest.items (factor_phrase t.first).name)
 
-pub element_out : (e : Element) → element_piece e ≡ both (expr_piece (out-Element e).low) (if_there (λ h. both token (expr_piece h)) (out-Element e).high)
+pub element_out : (e : Element) → element_piece e ≡ element_shown (out-Element e)
 unfolding element_piece expr_piece expr_phrase
 element_out e =
     fold_out-Element Phrase Selected Denoted Piece Piece Phrase Listed Phrase Phrase factor_step selector_step designator_step element_step element_list_step expr_step expr_list_step sum_step term_step e ∙
     ap (λ (o : Piece). both (expr_piece (out-Element e).low) o) (high_there (out-Element e).high)
 
-pub element_list_out : (l : ElementList) → element_list_piece l ≡ both (element_piece (out-ElementList l).first) (each_after element_piece (out-ElementList l).rest.items)
+pub element_list_out : (l : ElementList) → element_list_piece l ≡ element_list_shown (out-ElementList l)
 unfolding element_list_piece element_piece
 element_list_out l =
     fold_out-ElementList Phrase Selected Denoted Piece Piece Phrase Listed Phrase Phrase factor_step selector_step designator_step element_step element_list_step expr_step expr_list_step sum_step term_step l ∙
     ap (λ (o : Piece). both (element_piece (out-ElementList l).first) o) (each-map (λ (e : Piece). both token e) _ (out-ElementList l).rest.items)
 
-pub expr_list_out : (l : ExprList) → expr_list_piece l ≡ both (expr_piece (out-ExprList l).first) (each_after expr_piece (out-ExprList l).rest.items)
+pub expr_list_out : (l : ExprList) → expr_list_piece l ≡ expr_list_shown (out-ExprList l)
 unfolding expr_list_piece expr_piece listed expr_phrase
 expr_list_out l =
     ap (λ (p : Listed). p.piece) (fold_out-ExprList Phrase Selected Denoted Piece Piece Phrase Listed Phrase Phrase factor_step selector_step designator_step element_step element_list_step expr_step expr_list_step sum_step term_step l) ∙
@@ -146,7 +172,7 @@ pub designator_name : (d : Designator) (k : ℕ) → (denoted d).name k ≡ name
 unfolding denoted selected
 designator_name d k = ap (λ (p : Denoted). p.name k) (fold_out-Designator Phrase Selected Denoted Piece Piece Phrase Listed Phrase Phrase factor_step selector_step designator_step element_step element_list_step expr_step expr_list_step sum_step term_step d)
 
-factor_seen : (x : Factor-F Factor Selector Designator Element ElementList Expr ExprList SimpleExpression Term) →
+factor_seen : (x : FactorLayer) →
     factor_step (map-Factor Factor Selector Designator Element ElementList Expr ExprList SimpleExpression Term Phrase Selected Denoted Piece Piece Phrase Listed Phrase Phrase factor_phrase selected denoted element_piece element_list_piece expr_phrase listed sum_phrase term_phrase x) ≡ factor_shown x
 unfolding factor_piece designator_piece expr_piece expr_list_piece sum_piece term_piece
 factor_seen (layers.Value k n) = refl
@@ -163,7 +189,7 @@ pub factor_out : (f : Factor) → factor_phrase f ≡ factor_shown (out-Factor f
 unfolding factor_phrase selected denoted element_piece element_list_piece expr_phrase listed sum_phrase term_phrase
 factor_out f = fold_out-Factor Phrase Selected Denoted Piece Piece Phrase Listed Phrase Phrase factor_step selector_step designator_step element_step element_list_step expr_step expr_list_step sum_step term_step f ∙ factor_seen (out-Factor f)
 
-selector_seen : (x : Selector-F Factor Selector Designator Element ElementList Expr ExprList SimpleExpression Term) →
+selector_seen : (x : SelectorLayer) →
     selector_step (map-Selector Factor Selector Designator Element ElementList Expr ExprList SimpleExpression Term Phrase Selected Denoted Piece Piece Phrase Listed Phrase Phrase factor_phrase selected denoted element_piece element_list_piece expr_phrase listed sum_phrase term_phrase x) ≡ selector_shown x
 unfolding factor_piece designator_piece expr_piece expr_list_piece sum_piece term_piece
 selector_seen (layers.Field n) = refl
@@ -178,9 +204,33 @@ selector_out s = fold_out-Selector Phrase Selected Denoted Piece Piece Phrase Li
 
 -- the same at a value that is made
 
-factor_of : (f : Factor) (x : Factor-F Factor Selector Designator Element ElementList Expr ExprList SimpleExpression Term) → out-Factor f ≡ x → factor_piece f ≡ (factor_shown x).piece
+pub designator_made : (w : Bool) (x : DesignatorLayer) → designator_piece w (roll-Designator x) ≡ designator_shown w x
+designator_made w x = designator_out w (roll-Designator x) ∙ ap (λ y. designator_shown w y) (out-roll-Designator x)
+
+pub element_made : (x : ElementLayer) → element_piece (roll-Element x) ≡ element_shown x
+element_made x = element_out (roll-Element x) ∙ ap (λ y. element_shown y) (out-roll-Element x)
+
+pub element_list_made : (x : ElementListLayer) → element_list_piece (roll-ElementList x) ≡ element_list_shown x
+element_list_made x = element_list_out (roll-ElementList x) ∙ ap (λ y. element_list_shown y) (out-roll-ElementList x)
+
+pub expr_made : (x : ExprLayer) → expr_piece (roll-Expr x) ≡ expr_shown x
+expr_made x = expr_out (roll-Expr x) ∙ ap (λ y. expr_shown y) (out-roll-Expr x)
+
+pub expr_list_made : (x : ExprListLayer) → expr_list_piece (roll-ExprList x) ≡ expr_list_shown x
+expr_list_made x = expr_list_out (roll-ExprList x) ∙ ap (λ y. expr_list_shown y) (out-roll-ExprList x)
+
+pub sum_made : (x : SumLayer) → sum_piece (roll-SimpleExpression x) ≡ sum_shown x
+sum_made x = sum_out (roll-SimpleExpression x) ∙ ap (λ y. sum_shown y) (out-roll-SimpleExpression x)
+
+pub term_made : (x : TermLayer) → term_piece (roll-Term x) ≡ term_shown x
+term_made x = term_out (roll-Term x) ∙ ap (λ y. term_shown y) (out-roll-Term x)
+
+factor_of : (f : Factor) (x : FactorLayer) → out-Factor f ≡ x → factor_piece f ≡ (factor_shown x).piece
 unfolding factor_piece
 factor_of f x e = ap (λ (p : Phrase). p.piece) (factor_out f) ∙ ap (λ y. (factor_shown y).piece) e
+
+pub factor_made : (x : FactorLayer) → factor_piece (roll-Factor x) ≡ (factor_shown x).piece
+factor_made x = factor_of (roll-Factor x) x (out-roll-Factor x)
 
 pub value_made : (k : Literal) (n : ℕ) → factor_piece (factors.Value k n) ≡ token
 value_made k n = factor_of _ _ (factors.outs-Value k n)
@@ -206,8 +256,11 @@ group_made b = factor_of _ _ (factors.outs-Group b)
 pub not_made : (b : Box Factor Global) → factor_piece (factors.Not b) ≡ both token (factor_piece b.value)
 not_made b = factor_of _ _ (factors.outs-Not b)
 
-selector_of : (s : Selector) (x : Selector-F Factor Selector Designator Element ElementList Expr ExprList SimpleExpression Term) → out-Selector s ≡ x → selected s ≡ selector_shown x
+selector_of : (s : Selector) (x : SelectorLayer) → out-Selector s ≡ x → selected s ≡ selector_shown x
 selector_of s x e = selector_out s ∙ ap (λ y. selector_shown y) e
+
+pub selector_made : (x : SelectorLayer) → selected (roll-Selector x) ≡ selector_shown x
+selector_made x = selector_of (roll-Selector x) x (out-roll-Selector x)
 
 pub field_made : (n : ℕ) → selected (selectors.Field n) ≡ selector_shown (layers.Field n)
 field_made n = selector_of _ _ (selectors.outs-Field n)
@@ -220,9 +273,3 @@ target_made = selector_of _ _ selectors.outs-Target
 
 pub arguments_made : (o : Option (Box ExprList Global)) → selected (selectors.Arguments o) ≡ selector_shown (layers.Arguments o)
 arguments_made o = selector_of _ _ (selectors.outs-Arguments o)
-
-pub factor_told : (f : Factor) → factor_piece f ≡ (factor_shown (out-Factor f)).piece
-factor_told f = factor_of f (out-Factor f) refl
-
-pub selector_told : (s : Selector) → (selected s).piece ≡ (selector_shown (out-Selector s)).piece
-selector_told s = ap (λ (x : Selected). x.piece) (selector_out s)

@@ -3,6 +3,9 @@ pub mod ExpressionLayers
 pub mod Settled
 pub mod StatementLayers
 pub mod TypeLayers
+pub mod Compatible
+pub mod CompatibleExpressions
+pub mod CompatibleStatements
 pub mod Mirrored
 pub mod Named
 pub mod NamedExpressions

@@ -1,21 +1,19 @@
 -- The rows of a module stand in order.
-use Rattle.std.proofs.Common.{◌≡◌, ℕ, ◌+◌, List, refl, sym, ap, ◌∙◌}
+use Rattle.std.proofs.Common.{ℕ, ◌+◌, List, refl}
 use Rattle.ob_tree.specs.declared.name.OneOrMore.{OneOrMore}
 use Rattle.ob_tree.specs.declared.declaration.ConstDecl.{ConstDecl}
 use Rattle.ob_tree.specs.declared.declaration.TypeDecl.{TypeDecl}
 use Rattle.ob_tree.specs.declared.declaration.VarDecl.{VarDecl}
 use Rattle.ob_tree.specs.declared.declaration.ImportItem.{ImportItem}
 use Rattle.ob_tree.specs.declared.declaration.Module.{Module}
-use Rattle.ob_tree.specs.declared.declaration.Declarations.{Declarations, Declarations-F, roll-Declarations, out-roll-Declarations, ind-Declarations, map-Declarations}
-use Rattle.ob_tree.specs.declared.declaration.ProcDecl.{ProcDecl, ProcDecl-F, roll-ProcDecl, out-roll-ProcDecl, map-ProcDecl}
-use Rattle.ob_tree.proofs.Closed.{With}
+use Rattle.ob_tree.specs.declared.declaration.Declarations.{Declarations}
+use Rattle.ob_tree.proofs.DeclarationInduction.{DeclarationPredicates, DeclarationSteps, WithDeclarations, WithProcedure, declarations_of, procedure_of, declarations_induction}
 use Rattle.ob_rows.specs.declared.rows.Sort.TheVariants as sorts
 use Rattle.ob_rows.specs.declared.draft.Context.{Context}
-use Rattle.ob_rows.specs.Parts.{Piece, Rows, token, both, tells, declaring, opens_block, in_block}
-use Rattle.ob_rows.specs.Parts.{if_there as there, each as pieces}
+use Rattle.ob_rows.specs.Parts.{Piece, Rows, token, both, tells, in_block}
 use Rattle.ob_decls.specs.Expressions.{expr_piece}
 use Rattle.ob_decls.specs.Statements.{block_piece}
-use Rattle.ob_decls.specs.Types.{identdef_piece, parameters_piece}
+use Rattle.ob_decls.specs.Types.{parameters_piece}
 use Rattle.ob_decls.specs.Declaring.{const_piece, type_decl_piece, variable_piece, procedure_end, declarations_piece, procedure_piece, import_inner, import_piece, imports_piece, module_piece}
 use Rattle.ob_decls.specs.Declaring.{part as told_part}
 use Rattle.ob_decls.proofs.DeclarationLayers as told
@@ -62,44 +60,20 @@ module _ {X : Type 0} (K : Kind X) where
   o-end : (own : Context → ℕ → Rows) → ((c : Context) (k : ℕ) → Lined K.number K.next k (k + 1) (K.of (own c k))) → Ordered K (tells own token)
   o-end own t = o-headed K (h-tells K own (l-token K)) t
 
-  abbrev HeldDeclarations : Declarations → Type 0
-  HeldDeclarations t = Ordered K (declarations_piece t)
+  abbrev predicates : DeclarationPredicates
+  predicates = record {
+    declarations = λ t. Ordered K (declarations_piece t);
+    procedure = λ t. Ordered K (procedure_piece t);
+  }
 
-  abbrev HeldProcDecl : ProcDecl → Type 0
-  HeldProcDecl t = Ordered K (procedure_piece t)
-
-  abbrev WithDeclarations : Type 0
-  WithDeclarations = Declarations-F (With HeldDeclarations) (With HeldProcDecl)
-
-  abbrev declarations_of : WithDeclarations → Declarations-F Declarations ProcDecl
-  declarations_of = map-Declarations (With HeldDeclarations) (With HeldProcDecl) Declarations ProcDecl (λ e. e.0) (λ e. e.0)
-
-  abbrev WithProcDecl : Type 0
-  WithProcDecl = ProcDecl-F (With HeldDeclarations) (With HeldProcDecl)
-
-  abbrev procedure_of : WithProcDecl → ProcDecl-F Declarations ProcDecl
-  procedure_of = map-ProcDecl (With HeldDeclarations) (With HeldProcDecl) Declarations ProcDecl (λ e. e.0) (λ e. e.0)
-
-  abbrev declarations_told : Declarations-F Declarations ProcDecl → Piece
-  declarations_told d =
-      both (there (λ v. told_part const_piece v.items) d.constants) (
-      both (there (λ v. told_part type_decl_piece v.items) d.types) (
-      both (there (λ v. told_part variable_piece v.items) d.variables) (pieces (λ p. both (procedure_piece p) token) d.procedures.items)))
-
-  declarations_held : (y : WithDeclarations) → Ordered K (declarations_told (declarations_of y))
+  declarations_held : (y : WithDeclarations predicates) → Ordered K (told.declarations_shown (declarations_of predicates y))
   declarations_held y =
       o-both K (o-there K (λ v. told_part const_piece v.items) y.constants (λ v. o-part const_piece v.items o-const))
       (o-both K (o-there K (λ v. told_part type_decl_piece v.items) y.types (λ v. o-part type_decl_piece v.items o-type_decl))
       (o-both K (o-there K (λ v. told_part variable_piece v.items) y.variables (λ v. o-part variable_piece v.items o-variables))
       (o-map K (λ p. both (procedure_piece p) token) _ y.procedures.items (λ p. o-both K p.1 (o-token K)))))
 
-  abbrev procedure_told : ProcDecl-F Declarations ProcDecl → Piece
-  procedure_told p = declaring sorts.Procedure (opens_block (
-      both token (both (identdef_piece p.name) (both (there parameters_piece p.parameters) (both token
-      (both (declarations_piece p.declarations) (both (there (λ b. both token (block_piece b.value)) p.body)
-      (both (there (λ e. both token (expr_piece e.value)) p.returned) (both token (tells procedure_end token))))))))))
-
-  procedure_held : (y : WithProcDecl) → Ordered K (procedure_told (procedure_of y))
+  procedure_held : (y : WithProcedure predicates) → Ordered K (told.procedure_shown (procedure_of predicates y))
   procedure_held y = o-declaring K sorts.Procedure (n-headed K (h-tells K _ (l-within K in_block (
       l-both K (l-token K) (o-both K (o-identdef K y.name) (o-both K (o-there K parameters_piece y.parameters (o-parameters K)) (o-both K (o-token K)
       (o-both K y.declarations.1 (o-both K (o-there K (λ b. both token (block_piece b.value)) y.body (λ b. o-both K (o-token K) (o-block K b.value)))
@@ -107,14 +81,14 @@ module _ {X : Type 0} (K : Kind X) where
       (o-both K (o-token K) (o-end procedure_end (λ c k. K.end k _ refl))))))))))))
       (λ c k by e. K.procedure k by _ e refl))
 
-  declarations_step : (x : Declarations-F Declarations ProcDecl) (y : WithDeclarations) → declarations_of y ≡ x → HeldDeclarations (roll-Declarations x)
-  declarations_step x y is = o-is K (told.declarations_out (roll-Declarations x) ∙ ap (λ (z : Declarations-F Declarations ProcDecl). declarations_told z) (out-roll-Declarations x ∙ sym is)) (declarations_held y)
-
-  procedure_step : (x : ProcDecl-F Declarations ProcDecl) (y : WithProcDecl) → procedure_of y ≡ x → HeldProcDecl (roll-ProcDecl x)
-  procedure_step x y is = o-is K (told.procedure_told (roll-ProcDecl x) ∙ ap (λ (z : ProcDecl-F Declarations ProcDecl). procedure_told z) (out-roll-ProcDecl x ∙ sym is)) (procedure_held y)
+  steps : DeclarationSteps predicates
+  steps = record {
+    declarations = λ y. o-is K (told.declarations_made _) (declarations_held y);
+    procedure = λ y. o-is K (told.procedure_made _) (procedure_held y);
+  }
 
   o-declarations : (d : Declarations) → Ordered K (declarations_piece d)
-  o-declarations = ind-Declarations HeldDeclarations HeldProcDecl declarations_step procedure_step
+  o-declarations = declarations_induction predicates steps
 
   o-imports : (l : OneOrMore ImportItem) → Ordered K (imports_piece l)
   unfolding imports_piece

@@ -1,23 +1,18 @@
 -- The rows of types stand in order.
-use Rattle.std.proofs.Common.{◌≡◌, ℕ, zero, suc, false, Option, Some, None, refl, sym, ap, ◌∙◌, subst, Bool, true}
-use Rattle.std.specs.declared.boxed.Box.{Box}
-use Rattle.std.specs.declared.alloc.Global.{Global}
+use Rattle.std.proofs.Common.{ℕ, zero, suc, false, Option, refl, sym, subst, Bool, true}
 use Rattle.ob_tree.specs.declared.declaration.Parameters.{Parameters}
 use Rattle.ob_tree.specs.declared.declaration.TypeForm.TheOpen as layers
-use Rattle.ob_tree.specs.declared.declaration.TypeForm.TheShapes as shapes
-use Rattle.ob_tree.specs.declared.declaration.TypeForm.{TypeForm, TypeForm-F, roll-TypeForm, out-roll-TypeForm, ind-TypeForm, map-TypeForm}
-use Rattle.ob_tree.specs.declared.declaration.Fields.{Fields, Fields-F, roll-Fields, out-roll-Fields, map-Fields}
-use Rattle.ob_tree.specs.declared.declaration.Record.{Record, Record-F, roll-Record, out-roll-Record, map-Record}
-use Rattle.ob_tree.specs.declared.declaration.VarDecl.{VarDecl, VarDecl-F, roll-VarDecl, out-roll-VarDecl, ind-VarDecl, map-VarDecl}
+use Rattle.ob_tree.specs.declared.declaration.TypeForm.{TypeForm}
+use Rattle.ob_tree.specs.declared.declaration.VarDecl.{VarDecl}
 use Rattle.ob_tree.specs.declared.name.Identdef.{Identdef}
-use Rattle.ob_tree.proofs.Closed.{With}
+use Rattle.ob_tree.proofs.TypeInduction.{TypePredicates, TypeSteps, WithType, WithFields, WithRecord, WithVar, type_of, fields_of, record_of, var_of, record_fields, type_induction, var_induction}
 use Rattle.ob_tree.specs.declared.name.Qualident.{Qualident}
 use Rattle.ob_tree.specs.declared.expression.ExprList.{ExprList, out-ExprList}
 use Rattle.ob_tree.specs.declared.declaration.ParameterSection.{ParameterSection}
 use Rattle.ob_rows.specs.declared.rows.Sort.TheVariants as sorts
 use Rattle.ob_rows.specs.declared.rows.Part.TheVariants as parts
 use Rattle.ob_rows.specs.declared.rows.Part.{Part as PartRow}
-use Rattle.ob_rows.specs.Parts.{Piece, token, both, tells, within, if_so, declaring, opens_block, in_block}
+use Rattle.ob_rows.specs.Parts.{Piece, token, both, tells, if_so, declaring, opens_block, in_block}
 use Rattle.ob_rows.specs.Parts.{if_there as there}
 use Rattle.ob_decls.specs.Expressions.{each_after, expr_piece}
 use Rattle.ob_decls.specs.Statements.{qualident_piece}
@@ -84,45 +79,13 @@ module _ {X : Type 0} (K : Kind X) where
   HasRecord : Piece → Type 0
   HasRecord p = (base : Option Qualident) × Headed K (λ c k. K.of (record_row base c k)) p
 
-  abbrev HeldTypeForm : TypeForm → Type 0
-  HeldTypeForm t = Ordered K (type_piece t)
-
-  abbrev HeldFields : Fields → Type 0
-  HeldFields t = Ordered K (fields_piece t)
-
-  abbrev HeldRecord : Record → Type 0
-  HeldRecord t = HasRecord (record_piece t)
-
-  abbrev HeldVarDecl : VarDecl → Type 0
-  HeldVarDecl t = Beside K (var_piece t)
-
-  abbrev WithTypeForm : Type 0
-  WithTypeForm = TypeForm-F (With HeldTypeForm) (With HeldFields) (With HeldRecord) (With HeldVarDecl)
-
-  abbrev type_of : WithTypeForm → TypeForm-F TypeForm Fields Record VarDecl
-  type_of = map-TypeForm (With HeldTypeForm) (With HeldFields) (With HeldRecord) (With HeldVarDecl) TypeForm Fields Record VarDecl (λ e. e.0) (λ e. e.0) (λ e. e.0) (λ e. e.0)
-
-  abbrev WithFields : Type 0
-  WithFields = Fields-F (With HeldTypeForm) (With HeldFields) (With HeldRecord) (With HeldVarDecl)
-
-  abbrev fields_of : WithFields → Fields-F TypeForm Fields Record VarDecl
-  fields_of = map-Fields (With HeldTypeForm) (With HeldFields) (With HeldRecord) (With HeldVarDecl) TypeForm Fields Record VarDecl (λ e. e.0) (λ e. e.0) (λ e. e.0) (λ e. e.0)
-
-  abbrev WithRecord : Type 0
-  WithRecord = Record-F (With HeldTypeForm) (With HeldFields) (With HeldRecord) (With HeldVarDecl)
-
-  abbrev record_of : WithRecord → Record-F TypeForm Fields Record VarDecl
-  record_of = map-Record (With HeldTypeForm) (With HeldFields) (With HeldRecord) (With HeldVarDecl) TypeForm Fields Record VarDecl (λ e. e.0) (λ e. e.0) (λ e. e.0) (λ e. e.0)
-
-  abbrev WithVarDecl : Type 0
-  WithVarDecl = VarDecl-F (With HeldTypeForm) (With HeldFields) (With HeldRecord) (With HeldVarDecl)
-
-  abbrev var_of : WithVarDecl → VarDecl-F TypeForm Fields Record VarDecl
-  var_of = map-VarDecl (With HeldTypeForm) (With HeldFields) (With HeldRecord) (With HeldVarDecl) TypeForm Fields Record VarDecl (λ e. e.0) (λ e. e.0) (λ e. e.0) (λ e. e.0)
-
-  fields_there : (o : Option (Box (With HeldFields) Global)) → Ordered K (there (λ f. fields_piece f.value) ((shapes.former-Record-fields).map (With HeldFields) Fields (λ e. e.0) o))
-  fields_there None = o-nothing K
-  fields_there (Some f) = f.value.1
+  abbrev predicates : TypePredicates
+  predicates = record {
+    type = λ t. Ordered K (type_piece t);
+    fields = λ t. Ordered K (fields_piece t);
+    record_type = λ t. HasRecord (record_piece t);
+    var = λ t. Beside K (var_piece t);
+  }
 
   record_type : (p : Piece) → HasRecord p → Ordered K (tells (part_here parts.Record) p)
   unfolding HasRecord
@@ -131,61 +94,46 @@ module _ {X : Type 0} (K : Kind X) where
   block_type : {p : Piece} → Later K p → Ordered K (tells (part_here parts.Procedure) (opens_block p))
   block_type f = o-headed K (h-before K _ (h-tells K _ (l-within K in_block f))) (λ c k. K.opens k _ _ refl refl)
 
-  type_held : (y : WithTypeForm) → Ordered K (told.type_shown (type_of y))
+  type_held : (y : WithType predicates) → Ordered K (told.type_shown (type_of predicates y))
   type_held (layers.Named q) = o-type_name q
   type_held (layers.ArrayOf lengths of) = o-part parts.Array (l-both K (l-token K) (o-both K (o-lengths lengths.value) (o-both K (o-token K) (o-within K _ of.value.1))))
   type_held (layers.RecordOf r) = record_type _ r.1
   type_held (layers.PointerTo t) = o-part parts.Pointer (l-both K (l-token K) (o-both K (o-token K) (o-within K _ t.value.1)))
   type_held (layers.ProcOf p) = block_type (l-both K (l-token K) (o-there K parameters_piece p o-parameters))
 
-  abbrev fields_told : Fields-F TypeForm Fields Record VarDecl → Piece
-  fields_told f = both (declaring sorts.Field (var_piece f.first)) (both (each_after (λ v. declaring sorts.Field (var_piece v)) f.rest.items) (if_so f.closing_semicolon token))
-
-  fields_held : (y : WithFields) → Ordered K (fields_told (fields_of y))
+  fields_held : (y : WithFields predicates) → Ordered K (told.fields_shown (fields_of predicates y))
   fields_held y =
       o-both K (o-declaring K sorts.Field y.first.1)
       (o-both K (o-map K (λ v. both token (declaring sorts.Field (var_piece v))) _ y.rest.items (λ v. o-both K (o-token K) (o-declaring K sorts.Field v.1)))
       (o-so K y.closing_semicolon (o-token K)))
 
-  abbrev record_told : Record-F TypeForm Fields Record VarDecl → Piece
-  record_told r = tells (record_row r.base) (within in_record (
-      both token (both (there (λ q. both token (both (qualident_piece q) token)) r.base)
-      (both (there (λ x. fields_piece x.value) r.fields) token))))
-
-  record_held : (y : WithRecord) → HasRecord (record_told (record_of y))
+  record_held : (y : WithRecord predicates) → HasRecord (told.record_shown (record_of predicates y))
   unfolding HasRecord
   record_held y = (
     y.base,
     h-tells K _ (l-within K in_record
         (l-both K (l-token K)
         (o-both K (o-there K (λ q. both token (both (qualident_piece q) token)) y.base (λ q. o-both K (o-token K) (o-both K (o-qualident K q) (o-token K))))
-        (o-both K (fields_there y.fields) (o-token K))))),
+        (o-both K (record_fields predicates (λ o. Ordered K (there (λ f. fields_piece f.value) o)) (o-nothing K) (λ f h. h) y) (o-token K))))),
   )
 
-  abbrev var_told : VarDecl-F TypeForm Fields Record VarDecl → Piece
-  var_told v = both (identdef_piece v.names.first) (both (each_after identdef_piece v.names.rest.items) (both token (type_piece v.form)))
-
-  var_held : (y : WithVarDecl) → Beside K (var_told (var_of y))
+  var_held : (y : WithVar predicates) → Beside K (told.var_shown (var_of predicates y))
   var_held y = n-headed K (h-both K (h-identdef y.names.first)
       (o-both K (o-each K (λ i. both token (identdef_piece i)) y.names.rest.items (λ i. o-both K (o-token K) (o-identdef i))) (o-both K (o-token K) y.form.1)))
       (λ c k by e. K.declares k by _ e refl)
 
   -- ---- layer by layer
 
-  type_step : (x : TypeForm-F TypeForm Fields Record VarDecl) (y : WithTypeForm) → type_of y ≡ x → HeldTypeForm (roll-TypeForm x)
-  type_step x y is = o-is K (told.type_told (roll-TypeForm x) ∙ ap (λ (z : TypeForm-F TypeForm Fields Record VarDecl). told.type_shown z) (out-roll-TypeForm x ∙ sym is)) (type_held y)
-
-  fields_step : (x : Fields-F TypeForm Fields Record VarDecl) (y : WithFields) → fields_of y ≡ x → HeldFields (roll-Fields x)
-  fields_step x y is = o-is K (told.fields_out (roll-Fields x) ∙ ap (λ (z : Fields-F TypeForm Fields Record VarDecl). fields_told z) (out-roll-Fields x ∙ sym is)) (fields_held y)
-
-  record_step : (x : Record-F TypeForm Fields Record VarDecl) (y : WithRecord) → record_of y ≡ x → HeldRecord (roll-Record x)
-  record_step x y is = subst HasRecord (sym (told.record_out (roll-Record x) ∙ ap (λ (z : Record-F TypeForm Fields Record VarDecl). record_told z) (out-roll-Record x ∙ sym is))) (record_held y)
-
-  var_step : (x : VarDecl-F TypeForm Fields Record VarDecl) (y : WithVarDecl) → var_of y ≡ x → HeldVarDecl (roll-VarDecl x)
-  var_step x y is = n-is K (told.var_out (roll-VarDecl x) ∙ ap (λ (z : VarDecl-F TypeForm Fields Record VarDecl). var_told z) (out-roll-VarDecl x ∙ sym is)) (var_held y)
+  steps : TypeSteps predicates
+  steps = record {
+    type = λ y. o-is K (told.type_rolled _) (type_held y);
+    fields = λ y. o-is K (told.fields_rolled _) (fields_held y);
+    record_type = λ y. subst HasRecord (sym (told.record_rolled _)) (record_held y);
+    var = λ y. n-is K (told.var_rolled _) (var_held y);
+  }
 
   pub o-type : (t : TypeForm) → Ordered K (type_piece t)
-  o-type = ind-TypeForm HeldTypeForm HeldFields HeldRecord HeldVarDecl type_step fields_step record_step var_step
+  o-type = type_induction predicates steps
 
   pub n-var : (v : VarDecl) → Beside K (var_piece v)
-  n-var = ind-VarDecl HeldTypeForm HeldFields HeldRecord HeldVarDecl type_step fields_step record_step var_step
+  n-var = var_induction predicates steps

@@ -1,5 +1,5 @@
 -- The piece of a module and its outline have the same tokens, and its rows name each identifier.
-use Rattle.std.proofs.Common.{◌≡◌, ◌+◌, List, Some, None, ◌++◌, refl, sym, ap, ◌∙◌}
+use Rattle.std.proofs.Common.{◌+◌, List, Some, None, ◌++◌, refl}
 use Rattle.ob_scan.specs.declared.kind.Kind.{Kind}
 use Rattle.ob_scan.specs.declared.kind.Kind.TheVariants as kinds
 use Rattle.ob_tree.specs.declared.name.OneOrMore.{OneOrMore}
@@ -8,24 +8,23 @@ use Rattle.ob_tree.specs.declared.declaration.TypeDecl.{TypeDecl}
 use Rattle.ob_tree.specs.declared.declaration.VarDecl.{VarDecl}
 use Rattle.ob_tree.specs.declared.declaration.ImportItem.{ImportItem}
 use Rattle.ob_tree.specs.declared.declaration.Module.{Module}
-use Rattle.ob_tree.specs.declared.declaration.Declarations.{Declarations, Declarations-F, roll-Declarations, out-roll-Declarations, ind-Declarations, map-Declarations}
-use Rattle.ob_tree.specs.declared.declaration.ProcDecl.{ProcDecl, ProcDecl-F, roll-ProcDecl, out-roll-ProcDecl, map-ProcDecl}
+use Rattle.ob_tree.specs.declared.declaration.Declarations.{Declarations}
 use Rattle.ob_tree.specs.Constructs as constructs
 use Rattle.ob_tree.specs.declared.role.Role.TheVariants.{Names}
-use Rattle.ob_tree.specs.Marks.{Out, construct, if_there, word, repeated, separated}
+use Rattle.ob_tree.specs.Marks.{Out, if_there, word, repeated, separated}
 use Rattle.ob_tree.specs.Expressions.{expr_outline}
 use Rattle.ob_tree.specs.Statements.{block_outline}
 use Rattle.ob_tree.specs.Types.{parameters_outline}
 use Rattle.ob_tree.specs.Declaring.{const_outline, type_decl_outline, variable_outline, part, declarations_outline, procedure_outline, import_outline, module_outline}
-use Rattle.ob_tree.proofs.DeclarationLayers.{declarations_shown, procedure_shown, declarations_out, procedure_out}
-use Rattle.ob_tree.proofs.Closed.{With}
+use Rattle.ob_tree.proofs.DeclarationLayers.{declarations_shown, procedure_shown, declarations_made, procedure_made}
+use Rattle.ob_tree.proofs.DeclarationInduction.{DeclarationPredicates, DeclarationSteps, WithDeclarations, WithProcedure, declarations_of, procedure_of, declarations_induction}
 use Rattle.ob_rows.specs.declared.rows.Sort.TheVariants as sorts
-use Rattle.ob_rows.specs.Parts.{Piece, token, both, tells, declaring, opens_block}
-use Rattle.ob_rows.specs.Parts.{if_there as there, each as pieces}
+use Rattle.ob_rows.specs.Parts.{Piece, token, both, tells}
+use Rattle.ob_rows.specs.Parts.{if_there as there}
 use Rattle.ob_decls.specs.Expressions.{expr_piece}
 use Rattle.ob_decls.specs.Statements.{block_piece}
-use Rattle.ob_decls.specs.Types.{identdef_piece, parameters_piece}
-use Rattle.ob_decls.specs.Declaring.{rows_of, module_end, const_piece, type_decl_piece, variable_piece, procedure_end, declarations_piece, procedure_piece, import_inner, import_piece, imports_piece, module_piece}
+use Rattle.ob_decls.specs.Types.{parameters_piece}
+use Rattle.ob_decls.specs.Declaring.{rows_of, module_end, const_piece, type_decl_piece, variable_piece, declarations_piece, procedure_piece, import_inner, import_piece, imports_piece, module_piece}
 use Rattle.ob_decls.specs.Declaring.{part as told_part}
 use Rattle.ob_decls.proofs.DeclarationLayers as told
 use Rattle.ob_decls.specs.Naming.{IsNamed}
@@ -58,46 +57,20 @@ n-part k f g xs w = n-both (n-word k) (n-each (λ x. both (f x) token) (λ x. g 
 
 -- each part mirrors its outline
 
-abbrev HeldDeclarations : Declarations → Type 0
-HeldDeclarations t = Named (declarations_piece t) (declarations_outline t)
+abbrev predicates : DeclarationPredicates
+predicates = record {
+  declarations = λ t. Named (declarations_piece t) (declarations_outline t);
+  procedure = λ t. Named (procedure_piece t) (procedure_outline t);
+}
 
-abbrev HeldProcDecl : ProcDecl → Type 0
-HeldProcDecl t = Named (procedure_piece t) (procedure_outline t)
-
--- a layer whose parts do, and the layer itself
-
-abbrev WithDeclarations : Type 0
-WithDeclarations = Declarations-F (With HeldDeclarations) (With HeldProcDecl)
-
-abbrev declarations_of : WithDeclarations → Declarations-F Declarations ProcDecl
-declarations_of = map-Declarations (With HeldDeclarations) (With HeldProcDecl) Declarations ProcDecl (λ e. e.0) (λ e. e.0)
-
-abbrev WithProcDecl : Type 0
-WithProcDecl = ProcDecl-F (With HeldDeclarations) (With HeldProcDecl)
-
-abbrev procedure_of : WithProcDecl → ProcDecl-F Declarations ProcDecl
-procedure_of = map-ProcDecl (With HeldDeclarations) (With HeldProcDecl) Declarations ProcDecl (λ e. e.0) (λ e. e.0)
-
-abbrev declarations_told : Declarations-F Declarations ProcDecl → Piece
-declarations_told d =
-    both (there (λ v. told_part const_piece v.items) d.constants) (
-    both (there (λ v. told_part type_decl_piece v.items) d.types) (
-    both (there (λ v. told_part variable_piece v.items) d.variables) (pieces (λ p. both (procedure_piece p) token) d.procedures.items)))
-
-declarations_held : (y : WithDeclarations) → Named (declarations_told (declarations_of y)) (declarations_shown (declarations_of y))
+declarations_held : (y : WithDeclarations predicates) → Named (told.declarations_shown (declarations_of predicates y)) (declarations_shown (declarations_of predicates y))
 declarations_held y =
     n-both (n-there (λ v. told_part const_piece v.items) (λ v. part kinds.Const const_outline v.items) y.constants (λ v. n-part kinds.Const const_piece const_outline v.items n-const))
     (n-both (n-there (λ v. told_part type_decl_piece v.items) (λ v. part kinds.Type type_decl_outline v.items) y.types (λ v. n-part kinds.Type type_decl_piece type_decl_outline v.items n-type_decl))
     (n-both (n-there (λ v. told_part variable_piece v.items) (λ v. part kinds.Var variable_outline v.items) y.variables (λ v. n-part kinds.Var variable_piece variable_outline v.items n-variables))
     (n-map (λ p. both (procedure_piece p) token) (λ p. procedure_outline p ++ word kinds.Semicolon) _ y.procedures.items (λ p. n-both p.1 (n-word kinds.Semicolon)))))
 
-abbrev procedure_told : ProcDecl-F Declarations ProcDecl → Piece
-procedure_told p = declaring sorts.Procedure (opens_block (
-    both token (both (identdef_piece p.name) (both (there parameters_piece p.parameters) (both token
-    (both (declarations_piece p.declarations) (both (there (λ b. both token (block_piece b.value)) p.body)
-    (both (there (λ e. both token (expr_piece e.value)) p.returned) (both token (tells procedure_end token))))))))))
-
-procedure_held : (y : WithProcDecl) → Named (procedure_told (procedure_of y)) (procedure_shown (procedure_of y))
+procedure_held : (y : WithProcedure predicates) → Named (told.procedure_shown (procedure_of predicates y)) (procedure_shown (procedure_of predicates y))
 procedure_held y = n-declaring sorts.Procedure (n-opens_block (
     n-both (n-word kinds.Procedure) (n-both (n-identdef y.name) (n-both (n-there parameters_piece parameters_outline y.parameters n-parameters) (n-both (n-word kinds.Semicolon)
     (n-both y.declarations.1 (n-both (n-there (λ b. both token (block_piece b.value)) (λ b. word kinds.Begin ++ block_outline b.value) y.body (λ b. n-both (n-word kinds.Begin) (n-block b.value)))
@@ -106,22 +79,14 @@ procedure_held y = n-declaring sorts.Procedure (n-opens_block (
 
 -- ---- layer by layer
 
-declarations_step : (x : Declarations-F Declarations ProcDecl) (y : WithDeclarations) → declarations_of y ≡ x → HeldDeclarations (roll-Declarations x)
-declarations_step x y is =
-    named_as
-    (told.declarations_out (roll-Declarations x) ∙ ap (λ (z : Declarations-F Declarations ProcDecl). declarations_told z) (out-roll-Declarations x ∙ sym is))
-    (declarations_out (roll-Declarations x) ∙ ap (λ (z : Declarations-F Declarations ProcDecl). declarations_shown z) (out-roll-Declarations x ∙ sym is))
-    (declarations_held y)
-
-procedure_step : (x : ProcDecl-F Declarations ProcDecl) (y : WithProcDecl) → procedure_of y ≡ x → HeldProcDecl (roll-ProcDecl x)
-procedure_step x y is =
-    named_as
-    (told.procedure_told (roll-ProcDecl x) ∙ ap (λ (z : ProcDecl-F Declarations ProcDecl). procedure_told z) (out-roll-ProcDecl x ∙ sym is))
-    (procedure_out (roll-ProcDecl x) ∙ ap (λ (z : ProcDecl-F Declarations ProcDecl). construct constructs.ProcedureDeclaration (procedure_shown z)) (out-roll-ProcDecl x ∙ sym is))
-    (n-held constructs.ProcedureDeclaration (procedure_held y))
+steps : DeclarationSteps predicates
+steps = record {
+  declarations = λ y. named_as (told.declarations_made _) (declarations_made _) (declarations_held y);
+  procedure = λ y. named_as (told.procedure_made _) (procedure_made _) (n-held constructs.ProcedureDeclaration (procedure_held y));
+}
 
 pub n-declarations : (d : Declarations) → Named (declarations_piece d) (declarations_outline d)
-n-declarations = ind-Declarations HeldDeclarations HeldProcDecl declarations_step procedure_step
+n-declarations = declarations_induction predicates steps
 
 n-imports : (l : OneOrMore ImportItem) → Named (imports_piece l) (word kinds.Import ++ (separated kinds.Comma import_outline l ++ word kinds.Semicolon))
 unfolding imports_piece

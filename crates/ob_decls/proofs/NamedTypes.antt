@@ -1,22 +1,17 @@
 -- The piece of a type and its outline have the same tokens, and its rows name each identifier.
-use Rattle.std.proofs.Common.{◌≡◌, ℕ, zero, suc, false, ◌++◌, Option, Some, None, refl, sym, ap, ◌∙◌}
-use Rattle.std.specs.declared.boxed.Box.{Box}
-use Rattle.std.specs.declared.alloc.Global.{Global}
+use Rattle.std.proofs.Common.{ℕ, zero, suc, false, ◌++◌, refl}
 use Rattle.ob_scan.specs.declared.kind.Kind.TheVariants as kinds
 use Rattle.ob_tree.specs.declared.declaration.Parameters.{Parameters}
 use Rattle.ob_tree.specs.declared.declaration.TypeForm.TheOpen as layers
-use Rattle.ob_tree.specs.declared.declaration.TypeForm.TheShapes as shapes
-use Rattle.ob_tree.specs.declared.declaration.TypeForm.{TypeForm, TypeForm-F, roll-TypeForm, out-roll-TypeForm, ind-TypeForm, map-TypeForm}
-use Rattle.ob_tree.specs.declared.declaration.Fields.{Fields, Fields-F, roll-Fields, out-roll-Fields, map-Fields}
-use Rattle.ob_tree.specs.declared.declaration.Record.{Record, Record-F, roll-Record, out-roll-Record, map-Record}
-use Rattle.ob_tree.specs.declared.declaration.VarDecl.{VarDecl, VarDecl-F, roll-VarDecl, out-roll-VarDecl, ind-VarDecl, map-VarDecl}
+use Rattle.ob_tree.specs.declared.declaration.TypeForm.{TypeForm}
+use Rattle.ob_tree.specs.declared.declaration.VarDecl.{VarDecl}
 use Rattle.ob_tree.specs.Constructs as constructs
 use Rattle.ob_tree.specs.declared.name.Identdef.{Identdef}
 use Rattle.ob_tree.specs.Marks.{construct, word, declared, if_there, separated, times}
 use Rattle.ob_tree.specs.Names.{qualident_outline, identdef_outline}
 use Rattle.ob_tree.specs.Types.{section_outline, parameters_outline, type_outline, fields_outline, record_outline, var_outline}
-use Rattle.ob_tree.proofs.TypeLayers.{type_shown, fields_shown, record_shown, var_shown, type_out, fields_out, record_out, var_out}
-use Rattle.ob_tree.proofs.Closed.{With}
+use Rattle.ob_tree.proofs.TypeLayers.{type_shown, fields_shown, record_shown, var_shown, type_rolled, fields_rolled, record_rolled, var_rolled}
+use Rattle.ob_tree.proofs.TypeInduction.{TypePredicates, TypeSteps, WithType, WithFields, WithRecord, WithVar, type_of, fields_of, record_of, var_of, record_fields, type_induction, var_induction}
 use Rattle.ob_tree.specs.declared.name.Qualident.{Qualident}
 use Rattle.ob_tree.specs.declared.expression.ExprList.{ExprList, out-ExprList}
 use Rattle.ob_tree.specs.declared.declaration.ParameterSection.{ParameterSection}
@@ -24,11 +19,11 @@ use Rattle.ob_tree.specs.Expressions.{expr_outline, expr_list_outline}
 use Rattle.ob_tree.proofs.ExpressionLayers.{expr_list_out}
 use Rattle.ob_rows.specs.declared.rows.Sort.TheVariants as sorts
 use Rattle.ob_rows.specs.declared.rows.Part.TheVariants as parts
-use Rattle.ob_rows.specs.Parts.{Piece, token, both, tells, within, if_so, declaring}
+use Rattle.ob_rows.specs.Parts.{token, both, tells, declaring}
 use Rattle.ob_rows.specs.Parts.{if_there as there}
 use Rattle.ob_decls.specs.Expressions.{each_after, expr_piece}
 use Rattle.ob_decls.specs.Statements.{qualident_piece}
-use Rattle.ob_decls.specs.Types.{is_lone, part_here, record_row, in_record, open_arrays, section_inner, section_piece, identdef_piece, parameter_piece, parameters_piece, type_name_piece, lengths_piece, type_piece, fields_piece, record_piece, var_piece}
+use Rattle.ob_decls.specs.Types.{is_lone, part_here, open_arrays, section_inner, section_piece, identdef_piece, parameter_piece, parameters_piece, type_name_piece, lengths_piece, type_piece, fields_piece, record_piece, var_piece}
 use Rattle.ob_decls.proofs.TypeLayers as told
 use Rattle.ob_decls.proofs.Mirrored.{declares_it}
 use Rattle.ob_decls.proofs.Named.{Named, named_as, n-nothing, n-word, n-declared, n-both, n-three, n-first_declares, n-type_use, n-held, n-tells, n-within, n-declaring, n-opens_block, n-there, n-so, n-each, n-map, n-separated}
@@ -72,50 +67,15 @@ n-lengths l = named_as (told.lengths_out l) (expr_list_out l)
 
 -- each part mirrors its outline
 
-abbrev HeldTypeForm : TypeForm → Type 0
-HeldTypeForm t = Named (type_piece t) (type_outline t)
+abbrev predicates : TypePredicates
+predicates = record {
+  type = λ t. Named (type_piece t) (type_outline t);
+  fields = λ t. Named (fields_piece t) (fields_outline t);
+  record_type = λ t. Named (record_piece t) (record_outline t);
+  var = λ t. Named (var_piece t) (var_outline t);
+}
 
-abbrev HeldFields : Fields → Type 0
-HeldFields t = Named (fields_piece t) (fields_outline t)
-
-abbrev HeldRecord : Record → Type 0
-HeldRecord t = Named (record_piece t) (record_outline t)
-
-abbrev HeldVarDecl : VarDecl → Type 0
-HeldVarDecl t = Named (var_piece t) (var_outline t)
-
--- a layer whose parts do, and the layer itself
-
-abbrev WithTypeForm : Type 0
-WithTypeForm = TypeForm-F (With HeldTypeForm) (With HeldFields) (With HeldRecord) (With HeldVarDecl)
-
-abbrev type_of : WithTypeForm → TypeForm-F TypeForm Fields Record VarDecl
-type_of = map-TypeForm (With HeldTypeForm) (With HeldFields) (With HeldRecord) (With HeldVarDecl) TypeForm Fields Record VarDecl (λ e. e.0) (λ e. e.0) (λ e. e.0) (λ e. e.0)
-
-abbrev WithFields : Type 0
-WithFields = Fields-F (With HeldTypeForm) (With HeldFields) (With HeldRecord) (With HeldVarDecl)
-
-abbrev fields_of : WithFields → Fields-F TypeForm Fields Record VarDecl
-fields_of = map-Fields (With HeldTypeForm) (With HeldFields) (With HeldRecord) (With HeldVarDecl) TypeForm Fields Record VarDecl (λ e. e.0) (λ e. e.0) (λ e. e.0) (λ e. e.0)
-
-abbrev WithRecord : Type 0
-WithRecord = Record-F (With HeldTypeForm) (With HeldFields) (With HeldRecord) (With HeldVarDecl)
-
-abbrev record_of : WithRecord → Record-F TypeForm Fields Record VarDecl
-record_of = map-Record (With HeldTypeForm) (With HeldFields) (With HeldRecord) (With HeldVarDecl) TypeForm Fields Record VarDecl (λ e. e.0) (λ e. e.0) (λ e. e.0) (λ e. e.0)
-
-abbrev WithVarDecl : Type 0
-WithVarDecl = VarDecl-F (With HeldTypeForm) (With HeldFields) (With HeldRecord) (With HeldVarDecl)
-
-abbrev var_of : WithVarDecl → VarDecl-F TypeForm Fields Record VarDecl
-var_of = map-VarDecl (With HeldTypeForm) (With HeldFields) (With HeldRecord) (With HeldVarDecl) TypeForm Fields Record VarDecl (λ e. e.0) (λ e. e.0) (λ e. e.0) (λ e. e.0)
-
-fields_there : (o : Option (Box (With HeldFields) Global)) → Named (there (λ f. fields_piece f.value) ((shapes.former-Record-fields).map (With HeldFields) Fields (λ e. e.0) o))
-    (if_there (λ f. fields_outline f.value) ((shapes.former-Record-fields).map (With HeldFields) Fields (λ e. e.0) o))
-fields_there None = n-nothing
-fields_there (Some f) = f.value.1
-
-type_held : (y : WithTypeForm) → Named (told.type_shown (type_of y)) (type_shown (type_of y))
+type_held : (y : WithType predicates) → Named (told.type_shown (type_of predicates y)) (type_shown (type_of predicates y))
 type_held (layers.Named q) = n-held constructs.NamedType (n-type_name q)
 type_held (layers.ArrayOf lengths of) = n-held constructs.ArrayType (n-tells _ (λ c k. refl) (λ c k. refl)
     (n-both (n-word kinds.Array) (n-both (n-lengths lengths.value) (n-both (n-word kinds.Of) (n-within _ of.value.1)))))
@@ -123,66 +83,35 @@ type_held (layers.RecordOf r) = n-held constructs.RecordType (n-tells _ (λ c k.
 type_held (layers.PointerTo t) = n-held constructs.PointerType (n-tells _ (λ c k. refl) (λ c k. refl) (n-both (n-word kinds.Pointer) (n-both (n-word kinds.To) (n-within _ t.value.1))))
 type_held (layers.ProcOf p) = n-held constructs.ProcedureType (n-tells _ (λ c k. refl) (λ c k. refl) (n-opens_block (n-both (n-word kinds.Procedure) (n-there parameters_piece parameters_outline p n-parameters))))
 
-abbrev fields_told : Fields-F TypeForm Fields Record VarDecl → Piece
-fields_told f = both (declaring sorts.Field (var_piece f.first)) (both (each_after (λ v. declaring sorts.Field (var_piece v)) f.rest.items) (if_so f.closing_semicolon token))
-
-fields_held : (y : WithFields) → Named (fields_told (fields_of y)) (fields_shown (fields_of y))
+fields_held : (y : WithFields predicates) → Named (told.fields_shown (fields_of predicates y)) (fields_shown (fields_of predicates y))
 fields_held y =
     n-both (n-held constructs.FieldList (n-declaring sorts.Field y.first.1))
     (n-both (n-map (λ v. both token (declaring sorts.Field (var_piece v))) (λ v. word kinds.Semicolon ++ construct constructs.FieldList (var_outline v)) _ y.rest.items (λ v. n-both (n-word kinds.Semicolon) (n-held constructs.FieldList (n-declaring sorts.Field v.1))))
     (n-so y.closing_semicolon (n-word kinds.Semicolon)))
 
-abbrev record_told : Record-F TypeForm Fields Record VarDecl → Piece
-record_told r = tells (record_row r.base) (within in_record (
-    both token (both (there (λ q. both token (both (qualident_piece q) token)) r.base)
-    (both (there (λ x. fields_piece x.value) r.fields) token))))
-
-record_held : (y : WithRecord) → Named (record_told (record_of y)) (record_shown (record_of y))
+record_held : (y : WithRecord predicates) → Named (told.record_shown (record_of predicates y)) (record_shown (record_of predicates y))
 record_held y = n-tells _ (λ c k. refl) (λ c k. refl) (n-within _
     (n-both (n-word kinds.Record)
     (n-both (n-there (λ q. both token (both (qualident_piece q) token)) (λ q. word kinds.LeftParen ++ (qualident_outline q ++ word kinds.RightParen)) y.base (λ q. n-both (n-word kinds.LeftParen) (n-both (n-qualident q) (n-word kinds.RightParen))))
-    (n-both (fields_there y.fields) (n-word kinds.End)))))
+    (n-both (record_fields predicates (λ o. Named (there (λ f. fields_piece f.value) o) (if_there (λ f. fields_outline f.value) o)) n-nothing (λ f h. h) y) (n-word kinds.End)))))
 
-abbrev var_told : VarDecl-F TypeForm Fields Record VarDecl → Piece
-var_told v = both (identdef_piece v.names.first) (both (each_after identdef_piece v.names.rest.items) (both token (type_piece v.form)))
-
-var_held : (y : WithVarDecl) → Named (var_told (var_of y)) (var_shown (var_of y))
+var_held : (y : WithVar predicates) → Named (told.var_shown (var_of predicates y)) (var_shown (var_of predicates y))
 var_held y = n-three (n-identdef y.names.first)
     (n-each (λ i. both token (identdef_piece i)) (λ i. word kinds.Comma ++ identdef_outline i) y.names.rest.items (λ i. n-both (n-word kinds.Comma) (n-identdef i)))
     (n-both (n-word kinds.Colon) y.form.1)
 
 -- ---- layer by layer
 
-type_step : (x : TypeForm-F TypeForm Fields Record VarDecl) (y : WithTypeForm) → type_of y ≡ x → HeldTypeForm (roll-TypeForm x)
-type_step x y is =
-    named_as
-    (told.type_told (roll-TypeForm x) ∙ ap (λ (z : TypeForm-F TypeForm Fields Record VarDecl). told.type_shown z) (out-roll-TypeForm x ∙ sym is))
-    (type_out (roll-TypeForm x) ∙ ap (λ (z : TypeForm-F TypeForm Fields Record VarDecl). type_shown z) (out-roll-TypeForm x ∙ sym is))
-    (type_held y)
-
-fields_step : (x : Fields-F TypeForm Fields Record VarDecl) (y : WithFields) → fields_of y ≡ x → HeldFields (roll-Fields x)
-fields_step x y is =
-    named_as
-    (told.fields_out (roll-Fields x) ∙ ap (λ (z : Fields-F TypeForm Fields Record VarDecl). fields_told z) (out-roll-Fields x ∙ sym is))
-    (fields_out (roll-Fields x) ∙ ap (λ (z : Fields-F TypeForm Fields Record VarDecl). fields_shown z) (out-roll-Fields x ∙ sym is))
-    (fields_held y)
-
-record_step : (x : Record-F TypeForm Fields Record VarDecl) (y : WithRecord) → record_of y ≡ x → HeldRecord (roll-Record x)
-record_step x y is =
-    named_as
-    (told.record_out (roll-Record x) ∙ ap (λ (z : Record-F TypeForm Fields Record VarDecl). record_told z) (out-roll-Record x ∙ sym is))
-    (record_out (roll-Record x) ∙ ap (λ (z : Record-F TypeForm Fields Record VarDecl). record_shown z) (out-roll-Record x ∙ sym is))
-    (record_held y)
-
-var_step : (x : VarDecl-F TypeForm Fields Record VarDecl) (y : WithVarDecl) → var_of y ≡ x → HeldVarDecl (roll-VarDecl x)
-var_step x y is =
-    named_as
-    (told.var_out (roll-VarDecl x) ∙ ap (λ (z : VarDecl-F TypeForm Fields Record VarDecl). var_told z) (out-roll-VarDecl x ∙ sym is))
-    (var_out (roll-VarDecl x) ∙ ap (λ (z : VarDecl-F TypeForm Fields Record VarDecl). var_shown z) (out-roll-VarDecl x ∙ sym is))
-    (var_held y)
+steps : TypeSteps predicates
+steps = record {
+  type = λ y. named_as (told.type_rolled _) (type_rolled _) (type_held y);
+  fields = λ y. named_as (told.fields_rolled _) (fields_rolled _) (fields_held y);
+  record_type = λ y. named_as (told.record_rolled _) (record_rolled _) (record_held y);
+  var = λ y. named_as (told.var_rolled _) (var_rolled _) (var_held y);
+}
 
 pub n-type : (t : TypeForm) → Named (type_piece t) (type_outline t)
-n-type = ind-TypeForm HeldTypeForm HeldFields HeldRecord HeldVarDecl type_step fields_step record_step var_step
+n-type = type_induction predicates steps
 
 pub n-var : (v : VarDecl) → Named (var_piece v) (var_outline v)
-n-var = ind-VarDecl HeldTypeForm HeldFields HeldRecord HeldVarDecl type_step fields_step record_step var_step
+n-var = var_induction predicates steps

@@ -1,17 +1,15 @@
 -- What stands in a block of a module stands together.
-use Rattle.std.proofs.Common.{◌≡◌, List, refl, sym, ap, ◌∙◌, ℕ, ◌+◌}
+use Rattle.std.proofs.Common.{List, refl, ℕ, ◌+◌}
 use Rattle.ob_tree.specs.declared.name.OneOrMore.{OneOrMore}
 use Rattle.ob_tree.specs.declared.declaration.ConstDecl.{ConstDecl}
 use Rattle.ob_tree.specs.declared.declaration.TypeDecl.{TypeDecl}
 use Rattle.ob_tree.specs.declared.declaration.VarDecl.{VarDecl}
 use Rattle.ob_tree.specs.declared.declaration.ImportItem.{ImportItem}
 use Rattle.ob_tree.specs.declared.declaration.Module.{Module}
-use Rattle.ob_tree.specs.declared.declaration.Declarations.{Declarations, Declarations-F, roll-Declarations, out-roll-Declarations, ind-Declarations, map-Declarations}
-use Rattle.ob_tree.specs.declared.declaration.ProcDecl.{ProcDecl, ProcDecl-F, roll-ProcDecl, out-roll-ProcDecl, map-ProcDecl}
-use Rattle.ob_tree.proofs.Closed.{With}
+use Rattle.ob_tree.specs.declared.declaration.Declarations.{Declarations}
 use Rattle.ob_rows.specs.declared.rows.Sort.TheVariants as sorts
-use Rattle.ob_rows.specs.Parts.{Piece, token, both, tells, declaring, opens_block}
-use Rattle.ob_rows.specs.Parts.{if_there as there, each as pieces}
+use Rattle.ob_rows.specs.Parts.{Piece, token, both, tells, opens_block}
+use Rattle.ob_rows.specs.Parts.{if_there as there}
 use Rattle.ob_decls.specs.Expressions.{expr_piece}
 use Rattle.ob_decls.specs.Statements.{block_piece}
 use Rattle.ob_decls.specs.Types.{identdef_piece, parameters_piece}
@@ -29,6 +27,7 @@ use Rattle.ob_decls.proofs.LinedModules.{rows_in_order}
 use Rattle.ob_decls.proofs.Nested.{Nest}
 use Rattle.ob_decls.proofs.QuietStatements.{q-block}
 use Rattle.ob_tree.specs.declared.name.Identdef.{Identdef}
+use Rattle.ob_tree.proofs.DeclarationInduction.{DeclarationPredicates, DeclarationSteps, WithDeclarations, WithProcedure, declarations_of, procedure_of, declarations_induction}
 use Rattle.ob_rows.specs.Parts.{within}
 use Rattle.ob_decls.proofs.NestedPieces.{Stands, n-declares, n-tells, n-there, n-both, n-token, o-more, o-names, o-procedure, o-stands, p-quiet, s-both, s-declaring, s-each, s-is, s-map, s-nothing, s-plain, s-tells, s-there, s-token, stands_from}
 use Rattle.ob_decls.proofs.NestedTypes.{n-identdef, identdef_first, identdef_some, some_both, s-expr, s-parameters, s-type, b-var}
@@ -72,58 +71,34 @@ module _ (B : List Block) (up : AscendBy (λ (b : Block). b.first) B) where
   s-part : {X : Type 0} (f : X → Piece) (xs : List X) → ((x : X) → S (f x)) → S (told_part f xs)
   s-part f xs w = s-both B (s-token B) (s-each B (λ x. both (f x) token) xs (λ x. s-both B (w x) (s-token B)) (s-nothing B))
 
-  abbrev HeldDeclarations : Declarations → Type 0
-  HeldDeclarations t = S (declarations_piece t)
+  abbrev predicates : DeclarationPredicates
+  predicates = record {
+    declarations = λ t. S (declarations_piece t);
+    procedure = λ t. S (procedure_piece t);
+  }
 
-  abbrev HeldProcDecl : ProcDecl → Type 0
-  HeldProcDecl t = S (procedure_piece t)
-
-  abbrev WithDeclarations : Type 0
-  WithDeclarations = Declarations-F (With HeldDeclarations) (With HeldProcDecl)
-
-  abbrev declarations_of : WithDeclarations → Declarations-F Declarations ProcDecl
-  declarations_of = map-Declarations (With HeldDeclarations) (With HeldProcDecl) Declarations ProcDecl (λ e. e.0) (λ e. e.0)
-
-  abbrev WithProcDecl : Type 0
-  WithProcDecl = ProcDecl-F (With HeldDeclarations) (With HeldProcDecl)
-
-  abbrev procedure_of : WithProcDecl → ProcDecl-F Declarations ProcDecl
-  procedure_of = map-ProcDecl (With HeldDeclarations) (With HeldProcDecl) Declarations ProcDecl (λ e. e.0) (λ e. e.0)
-
-  abbrev declarations_told : Declarations-F Declarations ProcDecl → Piece
-  declarations_told d =
-      both (there (λ v. told_part const_piece v.items) d.constants) (
-      both (there (λ v. told_part type_decl_piece v.items) d.types) (
-      both (there (λ v. told_part variable_piece v.items) d.variables) (pieces (λ p. both (procedure_piece p) token) d.procedures.items)))
-
-  declarations_held : (y : WithDeclarations) → S (declarations_told (declarations_of y))
+  declarations_held : (y : WithDeclarations predicates) → S (told.declarations_shown (declarations_of predicates y))
   declarations_held y =
       s-both B (s-there B (λ v. told_part const_piece v.items) y.constants (λ v. s-part const_piece v.items s-const) (s-nothing B))
       (s-both B (s-there B (λ v. told_part type_decl_piece v.items) y.types (λ v. s-part type_decl_piece v.items s-type_decl) (s-nothing B))
       (s-both B (s-there B (λ v. told_part variable_piece v.items) y.variables (λ v. s-part variable_piece v.items s-variables) (s-nothing B))
       (s-map B (λ p. both (procedure_piece p) token) _ y.procedures.items (λ p. s-both B p.1 (s-token B)) (s-nothing B))))
 
-  abbrev procedure_told : ProcDecl-F Declarations ProcDecl → Piece
-  procedure_told p = declaring sorts.Procedure (opens_block (
-      both token (both (identdef_piece p.name) (both (there parameters_piece p.parameters) (both token
-      (both (declarations_piece p.declarations) (both (there (λ b. both token (block_piece b.value)) p.body)
-      (both (there (λ e. both token (expr_piece e.value)) p.returned) (both token (tells procedure_end token))))))))))
-
-  procedure_held : (y : WithProcDecl) → S (procedure_told (procedure_of y))
+  procedure_held : (y : WithProcedure predicates) → S (told.procedure_shown (procedure_of predicates y))
   procedure_held y = s-declaring B sorts.Procedure (procedure_some _) (o-procedure B up (n-identdef y.name) (identdef_first y.name) (identdef_some y.name) (
       s-both B (s-there B parameters_piece y.parameters (s-parameters B up) (s-nothing B)) (s-both B (s-token B)
       (s-both B y.declarations.1 (s-both B (s-there B (λ b. both token (block_piece b.value)) y.body (λ b. s-both B (s-token B) (s-plain B (p-quiet (q-block b.value)))) (s-nothing B))
       (s-both B (s-there B (λ e. both token (expr_piece e.value)) y.returned (λ e. s-both B (s-token B) (s-expr B up e.value)) (s-nothing B))
       (s-both B (s-token B) (s-tells B procedure_end (λ c k. refl) (λ c k. refl) (λ c k. refl) (s-token B)))))))))
 
-  declarations_step : (x : Declarations-F Declarations ProcDecl) (y : WithDeclarations) → declarations_of y ≡ x → HeldDeclarations (roll-Declarations x)
-  declarations_step x y is = s-is B (told.declarations_out (roll-Declarations x) ∙ ap (λ (z : Declarations-F Declarations ProcDecl). declarations_told z) (out-roll-Declarations x ∙ sym is)) (declarations_held y)
-
-  procedure_step : (x : ProcDecl-F Declarations ProcDecl) (y : WithProcDecl) → procedure_of y ≡ x → HeldProcDecl (roll-ProcDecl x)
-  procedure_step x y is = s-is B (told.procedure_told (roll-ProcDecl x) ∙ ap (λ (z : ProcDecl-F Declarations ProcDecl). procedure_told z) (out-roll-ProcDecl x ∙ sym is)) (procedure_held y)
+  steps : DeclarationSteps predicates
+  steps = record {
+    declarations = λ y. s-is B (told.declarations_made _) (declarations_held y);
+    procedure = λ y. s-is B (told.procedure_made _) (procedure_held y);
+  }
 
   s-declarations : (d : Declarations) → S (declarations_piece d)
-  s-declarations = ind-Declarations HeldDeclarations HeldProcDecl declarations_step procedure_step
+  s-declarations = declarations_induction predicates steps
 
   s-imports : (l : OneOrMore ImportItem) → S (imports_piece l)
   unfolding imports_piece

@@ -1,16 +1,11 @@
 -- What stands in the blocks of types stands together.
-use Rattle.std.proofs.Common.{◌≡◌, ℕ, zero, suc, false, Option, Some, None, refl, sym, ap, ◌∙◌}
-use Rattle.std.specs.declared.boxed.Box.{Box}
-use Rattle.std.specs.declared.alloc.Global.{Global}
+use Rattle.std.proofs.Common.{◌≡◌, ℕ, zero, suc, false, Option, Some, None, refl, sym, ap}
 use Rattle.ob_tree.specs.declared.declaration.Parameters.{Parameters}
 use Rattle.ob_tree.specs.declared.declaration.TypeForm.TheOpen as layers
-use Rattle.ob_tree.specs.declared.declaration.TypeForm.TheShapes as shapes
-use Rattle.ob_tree.specs.declared.declaration.TypeForm.{TypeForm, TypeForm-F, roll-TypeForm, out-roll-TypeForm, ind-TypeForm, map-TypeForm}
-use Rattle.ob_tree.specs.declared.declaration.Fields.{Fields, Fields-F, roll-Fields, out-roll-Fields, map-Fields}
-use Rattle.ob_tree.specs.declared.declaration.Record.{Record, Record-F, roll-Record, out-roll-Record, map-Record}
-use Rattle.ob_tree.specs.declared.declaration.VarDecl.{VarDecl, VarDecl-F, roll-VarDecl, out-roll-VarDecl, ind-VarDecl, map-VarDecl}
+use Rattle.ob_tree.specs.declared.declaration.TypeForm.{TypeForm}
+use Rattle.ob_tree.specs.declared.declaration.VarDecl.{VarDecl}
 use Rattle.ob_tree.specs.declared.name.Identdef.{Identdef}
-use Rattle.ob_tree.proofs.Closed.{With}
+use Rattle.ob_tree.proofs.TypeInduction.{TypePredicates, TypeSteps, WithType, WithFields, WithRecord, WithVar, type_of, fields_of, record_of, var_of, record_fields, type_induction, var_induction}
 use Rattle.ob_tree.specs.declared.name.Qualident.{Qualident}
 use Rattle.ob_tree.specs.declared.expression.Expr.{Expr}
 use Rattle.ob_tree.specs.declared.expression.ExprList.{ExprList, out-ExprList}
@@ -18,7 +13,7 @@ use Rattle.ob_tree.specs.declared.name.OneOrMore.{OneOrMore}
 use Rattle.ob_tree.specs.declared.declaration.ParameterSection.{ParameterSection}
 use Rattle.ob_rows.specs.declared.rows.Sort.TheVariants as sorts
 use Rattle.ob_rows.specs.declared.rows.Part.TheVariants as parts
-use Rattle.ob_rows.specs.Parts.{Piece, token, both, tells, within, if_so, declaring}
+use Rattle.ob_rows.specs.Parts.{Piece, token, both, tells, if_so, declaring}
 use Rattle.ob_rows.specs.Parts.{if_there as there}
 use Rattle.ob_decls.specs.Expressions.{each_after, expr_piece}
 use Rattle.ob_decls.specs.Statements.{qualident_piece}
@@ -145,77 +140,34 @@ module _ (B : List Block) (up : AscendBy (λ (b : Block). b.first) B) where
   b-is : {p q : Piece} → p ≡ q → Begins B q → Begins B p
   b-is e m = subst (Begins B) (sym e) m
 
-  abbrev HeldTypeForm : TypeForm → Type 0
-  HeldTypeForm t = S (type_piece t)
+  abbrev predicates : TypePredicates
+  predicates = record {
+    type = λ t. S (type_piece t);
+    fields = λ t. S (fields_piece t);
+    record_type = λ t. S (record_piece t);
+    var = λ t. Begins B (var_piece t);
+  }
 
-  abbrev HeldFields : Fields → Type 0
-  HeldFields t = S (fields_piece t)
-
-  abbrev HeldRecord : Record → Type 0
-  HeldRecord t = S (record_piece t)
-
-  abbrev HeldVarDecl : VarDecl → Type 0
-  HeldVarDecl t = Begins B (var_piece t)
-
-  abbrev WithTypeForm : Type 0
-  WithTypeForm = TypeForm-F (With HeldTypeForm) (With HeldFields) (With HeldRecord) (With HeldVarDecl)
-
-  abbrev type_of : WithTypeForm → TypeForm-F TypeForm Fields Record VarDecl
-  type_of = map-TypeForm (With HeldTypeForm) (With HeldFields) (With HeldRecord) (With HeldVarDecl) TypeForm Fields Record VarDecl (λ e. e.0) (λ e. e.0) (λ e. e.0) (λ e. e.0)
-
-  abbrev WithFields : Type 0
-  WithFields = Fields-F (With HeldTypeForm) (With HeldFields) (With HeldRecord) (With HeldVarDecl)
-
-  abbrev fields_of : WithFields → Fields-F TypeForm Fields Record VarDecl
-  fields_of = map-Fields (With HeldTypeForm) (With HeldFields) (With HeldRecord) (With HeldVarDecl) TypeForm Fields Record VarDecl (λ e. e.0) (λ e. e.0) (λ e. e.0) (λ e. e.0)
-
-  abbrev WithRecord : Type 0
-  WithRecord = Record-F (With HeldTypeForm) (With HeldFields) (With HeldRecord) (With HeldVarDecl)
-
-  abbrev record_of : WithRecord → Record-F TypeForm Fields Record VarDecl
-  record_of = map-Record (With HeldTypeForm) (With HeldFields) (With HeldRecord) (With HeldVarDecl) TypeForm Fields Record VarDecl (λ e. e.0) (λ e. e.0) (λ e. e.0) (λ e. e.0)
-
-  abbrev WithVarDecl : Type 0
-  WithVarDecl = VarDecl-F (With HeldTypeForm) (With HeldFields) (With HeldRecord) (With HeldVarDecl)
-
-  abbrev var_of : WithVarDecl → VarDecl-F TypeForm Fields Record VarDecl
-  var_of = map-VarDecl (With HeldTypeForm) (With HeldFields) (With HeldRecord) (With HeldVarDecl) TypeForm Fields Record VarDecl (λ e. e.0) (λ e. e.0) (λ e. e.0) (λ e. e.0)
-
-  fields_there : (o : Option (Box (With HeldFields) Global)) → S (there (λ f. fields_piece f.value) ((shapes.former-Record-fields).map (With HeldFields) Fields (λ e. e.0) o))
-  fields_there None = s-nothing B
-  fields_there (Some f) = f.value.1
-
-  type_held : (y : WithTypeForm) → S (told.type_shown (type_of y))
+  type_held : (y : WithType predicates) → S (told.type_shown (type_of predicates y))
   type_held (layers.Named q) = s-type_name q
   type_held (layers.ArrayOf lengths of) = s-part parts.Array (s-both B (s-token B) (s-both B (s-lengths lengths.value) (s-both B (s-token B) (s-within B _ (λ c k. refl) of.value.1))))
   type_held (layers.RecordOf r) = s-part parts.Record r.1
   type_held (layers.PointerTo t) = s-part parts.Pointer (s-both B (s-token B) (s-both B (s-token B) (s-within B _ (λ c k. refl) t.value.1)))
   type_held (layers.ProcOf p) = s-part parts.Procedure (s-block B up (late-there p))
 
-  abbrev fields_told : Fields-F TypeForm Fields Record VarDecl → Piece
-  fields_told f = both (declaring sorts.Field (var_piece f.first)) (both (each_after (λ v. declaring sorts.Field (var_piece v)) f.rest.items) (if_so f.closing_semicolon token))
-
-  fields_held : (y : WithFields) → S (fields_told (fields_of y))
+  fields_held : (y : WithFields predicates) → S (told.fields_shown (fields_of predicates y))
   fields_held y =
       s-both B (s-declaring B sorts.Field y.first.1.some y.first.1.opens)
       (s-both B (s-map B (λ v. both token (declaring sorts.Field (var_piece v))) _ y.rest.items (λ v. s-both B (s-token B) (s-declaring B sorts.Field v.1.some v.1.opens)) (s-nothing B))
       (s-so y.closing_semicolon))
 
-  abbrev record_told : Record-F TypeForm Fields Record VarDecl → Piece
-  record_told r = tells (record_row r.base) (within in_record (
-      both token (both (there (λ q. both token (both (qualident_piece q) token)) r.base)
-      (both (there (λ x. fields_piece x.value) r.fields) token))))
-
-  record_held : (y : WithRecord) → S (record_told (record_of y))
+  record_held : (y : WithRecord predicates) → S (told.record_shown (record_of predicates y))
   record_held y = s-tells B (record_row y.base) (λ c k. refl) (λ c k. refl) (λ c k. refl) (s-within B in_record (λ c k. refl)
       (s-both B (s-token B)
       (s-both B (s-there B (λ q. both token (both (qualident_piece q) token)) y.base (λ q. s-both B (s-token B) (s-both B (s-qualident q) (s-token B))) (s-nothing B))
-      (s-both B (fields_there y.fields) (s-token B)))))
+      (s-both B (record_fields predicates (λ o. S (there (λ f. fields_piece f.value) o)) (s-nothing B) (λ f h. h) y) (s-token B)))))
 
-  abbrev var_told : VarDecl-F TypeForm Fields Record VarDecl → Piece
-  var_told v = both (identdef_piece v.names.first) (both (each_after identdef_piece v.names.rest.items) (both token (type_piece v.form)))
-
-  var_held : (y : WithVarDecl) → Begins B (var_told (var_of y))
+  var_held : (y : WithVar predicates) → Begins B (told.var_shown (var_of predicates y))
   var_held y = record {
     opens = o-more B 0 1 (let l = identdef_some y.names.first in omega arith) (n-identdef y.names.first)
         (o-more B 1 1 (omega arith) (n-each (λ i. both token (identdef_piece i)) y.names.rest.items (λ i. n-both n-token (n-identdef i))) (o-stands B (s-both B (s-token B) y.form.1)));
@@ -224,20 +176,16 @@ module _ (B : List Block) (up : AscendBy (λ (b : Block). b.first) B) where
 
   -- ---- layer by layer
 
-  type_step : (x : TypeForm-F TypeForm Fields Record VarDecl) (y : WithTypeForm) → type_of y ≡ x → HeldTypeForm (roll-TypeForm x)
-  type_step x y is = s-is B (told.type_told (roll-TypeForm x) ∙ ap (λ (z : TypeForm-F TypeForm Fields Record VarDecl). told.type_shown z) (out-roll-TypeForm x ∙ sym is)) (type_held y)
-
-  fields_step : (x : Fields-F TypeForm Fields Record VarDecl) (y : WithFields) → fields_of y ≡ x → HeldFields (roll-Fields x)
-  fields_step x y is = s-is B (told.fields_out (roll-Fields x) ∙ ap (λ (z : Fields-F TypeForm Fields Record VarDecl). fields_told z) (out-roll-Fields x ∙ sym is)) (fields_held y)
-
-  record_step : (x : Record-F TypeForm Fields Record VarDecl) (y : WithRecord) → record_of y ≡ x → HeldRecord (roll-Record x)
-  record_step x y is = s-is B (told.record_out (roll-Record x) ∙ ap (λ (z : Record-F TypeForm Fields Record VarDecl). record_told z) (out-roll-Record x ∙ sym is)) (record_held y)
-
-  var_step : (x : VarDecl-F TypeForm Fields Record VarDecl) (y : WithVarDecl) → var_of y ≡ x → HeldVarDecl (roll-VarDecl x)
-  var_step x y is = b-is (told.var_out (roll-VarDecl x) ∙ ap (λ (z : VarDecl-F TypeForm Fields Record VarDecl). var_told z) (out-roll-VarDecl x ∙ sym is)) (var_held y)
+  steps : TypeSteps predicates
+  steps = record {
+    type = λ y. s-is B (told.type_rolled _) (type_held y);
+    fields = λ y. s-is B (told.fields_rolled _) (fields_held y);
+    record_type = λ y. s-is B (told.record_rolled _) (record_held y);
+    var = λ y. b-is (told.var_rolled _) (var_held y);
+  }
 
   pub s-type : (t : TypeForm) → S (type_piece t)
-  s-type = ind-TypeForm HeldTypeForm HeldFields HeldRecord HeldVarDecl type_step fields_step record_step var_step
+  s-type = type_induction predicates steps
 
   pub b-var : (v : VarDecl) → Begins B (var_piece v)
-  b-var = ind-VarDecl HeldTypeForm HeldFields HeldRecord HeldVarDecl type_step fields_step record_step var_step
+  b-var = var_induction predicates steps

@@ -1,6 +1,6 @@
 -- Parts of a tree that only use: nothing is declared in them, no type, block, import or end stands there, and what is used is used in
 -- the block around them.
-use Rattle.std.proofs.Common.{◌≡◌, ℕ, zero, suc, ◌+◌, ◌<◌, ◌≤◌, inl, inr, arith, Bool, true, false, List, [], ◌∷◌, ◌++◌, map, Option, Some, None, refl, sym, ap, ap₂, subst}
+use Rattle.std.proofs.Common.{◌≡◌, ℕ, zero, suc, ◌+◌, ◌<◌, ◌≤◌, inl, inr, arith, Bool, true, false, List, [], ◌∷◌, ◌++◌, Option, Some, None, refl, sym, ap, ap₂, subst}
 use Rattle.std.specs.Prelude.{Contains}
 use Rattle.std.proofs.lemmas.List.Elements.{Contains-append_cases}
 use Rattle.ob_rows.specs.declared.draft.Context.{Context}
@@ -12,7 +12,7 @@ use Rattle.ob_rows.specs.declared.rows.FormPart.{FormPart}
 use Rattle.ob_rows.specs.declared.rows.Import.{Import}
 use Rattle.ob_rows.specs.declared.rows.Record.{Record}
 use Rattle.ob_rows.specs.declared.rows.Used.{Used}
-use Rattle.ob_rows.specs.Parts.{Piece, Rows, no_rows, joined, nothing, token, both, tells, if_there, if_so, each}
+use Rattle.ob_rows.specs.Parts.{Piece, Rows, no_rows, joined, nothing, token, both, tells, if_there, if_so}
 use Rattle.ob_decls.specs.Expressions.{used}
 
 -- all rows but those of uses
@@ -86,17 +86,6 @@ q-there f (Some x) w = w x
 pub q-so : (b : Bool) {p : Piece} → Quiet p → Quiet (if_so b p)
 q-so true w = w
 q-so false w = q-nothing
-
-pub q-each : {X : Type 0} (f : X → Piece) (xs : List X) → ((x : X) → Quiet (f x)) → Quiet (each f xs)
-q-each f [] w = q-nothing
-q-each f (x ∷ xs) w = q-both (w x) (q-each f xs w)
-
-pub q-map : {X Y : Type 0} (f : Y → Piece) (h : X → Y) (xs : List X) → ((x : X) → Quiet (f (h x))) → Quiet (each f (map h xs))
-q-map f h [] w = q-nothing
-q-map f h (x ∷ xs) w = q-both (w x) (q-map f h xs w)
-
-pub q-is : {p q : Piece} → p ≡ q → Quiet q → Quiet p
-q-is {p} {q} e m = subst Quiet (sym e) m
 
 only : (x u : Used) → Contains (x ∷ []) u → x ≡ u
 only x u (zero, l, e) = e

@@ -1,5 +1,5 @@
 -- What declarations tell is known from their outlines.
-use Rattle.std.proofs.Common.{◌≡◌, ℕ, Bool, true, false, List, [], ◌∷◌, ◌++◌, map, Option, Some, None, refl, sym, ap, ap₂, ◌∙◌}
+use Rattle.std.proofs.Common.{◌≡◌, ℕ, Bool, true, false, List, [], ◌∷◌, ◌++◌, map, Option, Some, None, refl, ap, ap₂, ◌∙◌}
 use Rattle.std.specs.declared.boxed.Box.{Box}
 use Rattle.std.specs.declared.alloc.Global.{Global}
 use Rattle.ob_scan.specs.declared.kind.Kind.{Kind}
@@ -8,8 +8,8 @@ use Rattle.ob_tree.specs.declared.name.Identdef.{Identdef}
 use Rattle.ob_tree.specs.declared.expression.Expr.{Expr}
 use Rattle.ob_tree.specs.declared.statement.StatementSequence.{StatementSequence}
 use Rattle.ob_tree.specs.declared.declaration.Parameters.{Parameters}
-use Rattle.ob_tree.specs.declared.declaration.Declarations.{Declarations, Declarations-F, roll-Declarations, out-Declarations, out-roll-Declarations, ind-Declarations, map-Declarations}
-use Rattle.ob_tree.specs.declared.declaration.ProcDecl.{ProcDecl, ProcDecl-F, roll-ProcDecl, out-ProcDecl, out-roll-ProcDecl, map-ProcDecl}
+use Rattle.ob_tree.specs.declared.declaration.Declarations.{Declarations, roll-Declarations, out-Declarations, out-roll-Declarations}
+use Rattle.ob_tree.specs.declared.declaration.ProcDecl.{ProcDecl, roll-ProcDecl, out-ProcDecl, out-roll-ProcDecl}
 use Rattle.ob_tree.specs.Constructs as constructs
 use Rattle.ob_tree.specs.Marks.{Out, construct, word, repeated, if_there}
 use Rattle.ob_tree.specs.Expressions.{expr_outline}
@@ -17,7 +17,7 @@ use Rattle.ob_tree.specs.Statements.{block_outline}
 use Rattle.ob_tree.specs.Types.{parameters_outline}
 use Rattle.ob_tree.specs.Declaring.{const_outline, type_decl_outline, variable_outline, declarations_outline, procedure_outline}
 use Rattle.ob_tree.proofs.DeclarationLayers.{declarations_shown, procedure_shown, declarations_out, procedure_out}
-use Rattle.ob_tree.proofs.Closed.{With}
+use Rattle.ob_tree.proofs.DeclarationInduction.{DeclarationPredicates, DeclarationSteps, DeclarationsLayer, ProcedureLayer, WithDeclarations, WithProcedure, declarations_of, procedure_of, declarations_induction}
 use Rattle.ob_rows.specs.declared.rows.Sort.TheVariants as sorts
 use Rattle.ob_rows.specs.Parts.{Piece, token, both, tells, declaring, opens_block}
 use Rattle.ob_rows.specs.Parts.{if_there as there, each as pieces}
@@ -36,28 +36,16 @@ use Rattle.ob_decls.proofs.ReadingSections.{r-const, r-type_decl, r-variable, on
 
 -- ---- declarations
 
-abbrev HeldDeclarations : Declarations → Type 0
-HeldDeclarations x = Reads declarations_piece declarations_outline on_declarations (declarations_piece x) (declarations_outline x)
-
-abbrev HeldProcDecl : ProcDecl → Type 0
-HeldProcDecl x = Reads procedure_piece procedure_outline never (procedure_piece x) (procedure_outline x)
-
-abbrev WithDeclarations : Type 0
-WithDeclarations = Declarations-F (With HeldDeclarations) (With HeldProcDecl)
-
-abbrev declarations_of : WithDeclarations → Declarations-F Declarations ProcDecl
-declarations_of = map-Declarations (With HeldDeclarations) (With HeldProcDecl) Declarations ProcDecl (λ e. e.0) (λ e. e.0)
-
-abbrev WithProcDecl : Type 0
-WithProcDecl = ProcDecl-F (With HeldDeclarations) (With HeldProcDecl)
-
-abbrev procedure_of : WithProcDecl → ProcDecl-F Declarations ProcDecl
-procedure_of = map-ProcDecl (With HeldDeclarations) (With HeldProcDecl) Declarations ProcDecl (λ e. e.0) (λ e. e.0)
+abbrev predicates : DeclarationPredicates
+predicates = record {
+  declarations = λ x. Reads declarations_piece declarations_outline on_declarations (declarations_piece x) (declarations_outline x);
+  procedure = λ x. Reads procedure_piece procedure_outline never (procedure_piece x) (procedure_outline x);
+}
 
 abbrev Sections : Type 0
 Sections = Option (List Piece) × (Option (List Piece) × (Option (List Piece) × List Piece))
 
-abbrev declarations_parts : Declarations-F Declarations ProcDecl → Sections
+abbrev declarations_parts : DeclarationsLayer → Sections
 declarations_parts z = (maybe (λ v. map const_piece v.items) z.constants, (maybe (λ v. map type_decl_piece v.items) z.types, (maybe (λ v. map variable_piece v.items) z.variables, map procedure_piece z.procedures.items)))
 
 abbrev declarations_told : Sections → Piece
@@ -74,31 +62,31 @@ procedure_begins : (p : ProcDecl) (s : Out) → on_declarations ((procedure_outl
 unfolding construct
 procedure_begins p s = ap (λ (o : Out). on_declarations ((o ++ word kinds.Semicolon) ++ s)) (procedure_out p)
 
-consts_end : (z : Declarations-F Declarations ProcDecl) (s : Out) → on_declarations s ≡ false → on_section kinds.Const ((types_shown z.types ++ (variables_shown z.variables ++ procedures_shown z.procedures.items)) ++ s) ≡ false
+consts_end : (z : DeclarationsLayer) (s : Out) → on_declarations s ≡ false → on_section kinds.Const ((types_shown z.types ++ (variables_shown z.variables ++ procedures_shown z.procedures.items)) ++ s) ≡ false
 consts_end z s i = before_types kinds.Const z.types z.variables z.procedures.items s refl refl (no_const s i) (no_construct s i)
 
-types_end : (z : Declarations-F Declarations ProcDecl) (s : Out) → on_declarations s ≡ false → on_section kinds.Type ((variables_shown z.variables ++ procedures_shown z.procedures.items) ++ s) ≡ false
+types_end : (z : DeclarationsLayer) (s : Out) → on_declarations s ≡ false → on_section kinds.Type ((variables_shown z.variables ++ procedures_shown z.procedures.items) ++ s) ≡ false
 types_end z s i = before_variables kinds.Type z.variables z.procedures.items s refl (no_type s i) (no_construct s i)
 
-variables_end : (z : Declarations-F Declarations ProcDecl) (s : Out) → on_declarations s ≡ false → on_section kinds.Var (procedures_shown z.procedures.items ++ s) ≡ false
+variables_end : (z : DeclarationsLayer) (s : Out) → on_declarations s ≡ false → on_section kinds.Var (procedures_shown z.procedures.items ++ s) ≡ false
 variables_end z s i = before_procedures kinds.Var z.procedures.items s (no_var s i) (no_construct s i)
 
-declarations_held : (y : WithDeclarations) → Reads declarations_parts declarations_shown on_declarations (declarations_parts (declarations_of y)) (declarations_shown (declarations_of y))
+declarations_held : (y : WithDeclarations predicates) → Reads declarations_parts declarations_shown on_declarations (declarations_parts (declarations_of predicates y)) (declarations_shown (declarations_of predicates y))
 declarations_held y =
-    r-until (r-there (on_section kinds.Const) (λ z. z.constants) y.constants (r-list const_piece const_outline kinds.Const r-const const_begins) (list_ends kinds.Const) (λ v s. refl)) (λ s i. consts_end (declarations_of y) s i) (λ z s i. consts_end z s i)
-    (r-until (r-there (on_section kinds.Type) (λ z. z.types) y.types (r-list type_decl_piece type_decl_outline kinds.Type r-type_decl type_decl_begins) (list_ends kinds.Type) (λ v s. refl)) (λ s i. types_end (declarations_of y) s i) (λ z s i. types_end z s i)
-    (r-until (r-there (on_section kinds.Var) (λ z. z.variables) y.variables (r-list variable_piece variable_outline kinds.Var r-variable variable_begins) (list_ends kinds.Var) (λ v s. refl)) (λ s i. variables_end (declarations_of y) s i) (λ z s i. variables_end z s i)
+    r-until (r-there (on_section kinds.Const) (λ z. z.constants) y.constants (r-list const_piece const_outline kinds.Const r-const const_begins) (list_ends kinds.Const) (λ v s. refl)) (λ s i. consts_end (declarations_of predicates y) s i) (λ z s i. consts_end z s i)
+    (r-until (r-there (on_section kinds.Type) (λ z. z.types) y.types (r-list type_decl_piece type_decl_outline kinds.Type r-type_decl type_decl_begins) (list_ends kinds.Type) (λ v s. refl)) (λ s i. types_end (declarations_of predicates y) s i) (λ z s i. types_end z s i)
+    (r-until (r-there (on_section kinds.Var) (λ z. z.variables) y.variables (r-list variable_piece variable_outline kinds.Var r-variable variable_begins) (list_ends kinds.Var) (λ v s. refl)) (λ s i. variables_end (declarations_of predicates y) s i) (λ z s i. variables_end z s i)
     (r-at (λ z. z.procedures.items) (r-map procedure_piece (λ p. procedure_outline p ++ word kinds.Semicolon) never on_declarations procedure_begins (λ s i. refl) (λ p s. refl) _ y.procedures.items (λ p. r-then kinds.Semicolon p.1 (λ s. refl))))))
 
-declarations_layer : (x : Declarations-F Declarations ProcDecl) (y : WithDeclarations) → declarations_of y ≡ x → HeldDeclarations (roll-Declarations x)
-declarations_layer x y is = r-layer out-Declarations declarations_parts declarations_shown declarations_told declarations_tells declarations_out (roll-Declarations x) (declarations_of y) (out-roll-Declarations x ∙ sym is) (declarations_held y)
+declarations_layer : (y : WithDeclarations predicates) → predicates.declarations (roll-Declarations (declarations_of predicates y))
+declarations_layer y = r-layer out-Declarations declarations_parts declarations_shown declarations_told declarations_tells declarations_out _ _ (out-roll-Declarations (declarations_of predicates y)) (declarations_held y)
 
 -- ---- procedures
 
 abbrev Heading : Type 0
 Heading = Identdef × (Option Piece × (Piece × (Option Piece × (Option Phrase × Bool))))
 
-abbrev procedure_parts : ProcDecl-F Declarations ProcDecl → Heading
+abbrev procedure_parts : ProcedureLayer → Heading
 procedure_parts z = (z.name, (maybe parameters_piece z.parameters, (declarations_piece z.declarations, (maybe (λ b. block_piece b.value) z.body, (maybe (λ e. expr_phrase e.value) z.returned, true)))))
 
 abbrev procedure_with : Identdef → Piece → Piece → Piece → Piece → Piece
@@ -151,7 +139,7 @@ r-body b = r-past kinds.Begin (r-at (λ z. z.value) (r-block b.value))
 r-returned : (e : Box Expr Global) → Reads {Z = Box Expr Global} (λ z. expr_phrase z.value) (λ z. word kinds.Return ++ expr_outline z.value) never (expr_phrase e.value) (word kinds.Return ++ expr_outline e.value)
 r-returned e = r-past kinds.Return (r-at (λ z. z.value) (r-expr e.value))
 
-procedure_held : (y : WithProcDecl) → Reads procedure_parts procedure_shown never (procedure_parts (procedure_of y)) (procedure_shown (procedure_of y))
+procedure_held : (y : WithProcedure predicates) → Reads procedure_parts procedure_shown never (procedure_parts (procedure_of predicates y)) (procedure_shown (procedure_of predicates y))
 procedure_held y =
     r-past kinds.Procedure (r-until (r-at (λ z. z.name) (r-identdef y.name)) (λ s i. no_star y.parameters _ s) (λ z s i. no_star z.parameters _ s)
     (r-until (r-heading (λ z. z.parameters) y.parameters) (λ s i. refl) (λ z s i. refl)
@@ -161,8 +149,14 @@ procedure_held y =
     (r-until (r-there (on_word kinds.Return) (λ z. z.returned) y.returned r-returned (λ s i. refl) (λ e s. refl)) (λ s i. refl) (λ z s i. refl)
     (r-past kinds.End (r-repeated (λ z. z.name.name) (λ z. z.end_name) y.name.name y.end_name))))))))
 
-procedure_layer : (x : ProcDecl-F Declarations ProcDecl) (y : WithProcDecl) → procedure_of y ≡ x → HeldProcDecl (roll-ProcDecl x)
-procedure_layer x y is = r-layer out-ProcDecl procedure_parts (λ z. construct constructs.ProcedureDeclaration (procedure_shown z)) procedure_told procedure_tells procedure_out (roll-ProcDecl x) (procedure_of y) (out-roll-ProcDecl x ∙ sym is) (r-held constructs.ProcedureDeclaration (procedure_held y) (λ s. refl))
+procedure_layer : (y : WithProcedure predicates) → predicates.procedure (roll-ProcDecl (procedure_of predicates y))
+procedure_layer y = r-layer out-ProcDecl procedure_parts (λ z. construct constructs.ProcedureDeclaration (procedure_shown z)) procedure_told procedure_tells procedure_out _ _ (out-roll-ProcDecl (procedure_of predicates y)) (r-held constructs.ProcedureDeclaration (procedure_held y) (λ s. refl))
+
+steps : DeclarationSteps predicates
+steps = record {
+  declarations = declarations_layer;
+  procedure = procedure_layer;
+}
 
 pub r-declarations : (x : Declarations) → Reads declarations_piece declarations_outline on_declarations (declarations_piece x) (declarations_outline x)
-r-declarations = ind-Declarations HeldDeclarations HeldProcDecl declarations_layer procedure_layer
+r-declarations = declarations_induction predicates steps

@@ -1,25 +1,22 @@
 -- What an element, a list, a designator and a selector tell is known from their outlines, if what their parts tell is.
-use Rattle.std.proofs.Common.{◌≡◌, ℕ, suc, ◌+◌, true, List, [], ◌++◌, length, map, Option, Some, None, refl, sym, ap, ◌∙◌}
+use Rattle.std.proofs.Common.{◌≡◌, ℕ, suc, ◌+◌, true, List, [], ◌++◌, length, map, Option, Some, None, refl, ap, ◌∙◌}
 use Rattle.std.specs.declared.boxed.Box.{Box}
 use Rattle.std.specs.declared.alloc.Global.{Global}
 use Rattle.ob_scan.specs.declared.kind.Kind.TheVariants as kinds
 use Rattle.ob_tree.specs.declared.expression.Factor.TheShapes as shapes
 use Rattle.ob_tree.specs.declared.expression.Factor.TheOpen as layers
-use Rattle.ob_tree.specs.declared.expression.Factor.{Factor}
-use Rattle.ob_tree.specs.declared.expression.Selector.{Selector, Selector-F, roll-Selector, out-Selector, out-roll-Selector}
-use Rattle.ob_tree.specs.declared.expression.Designator.{Designator, Designator-F, fold_out-Designator, roll-Designator, out-Designator, out-roll-Designator}
-use Rattle.ob_tree.specs.declared.expression.Element.{Element, Element-F, fold_out-Element, roll-Element, out-Element, out-roll-Element}
-use Rattle.ob_tree.specs.declared.expression.ElementList.{ElementList, ElementList-F, fold_out-ElementList, roll-ElementList, out-ElementList, out-roll-ElementList}
+use Rattle.ob_tree.specs.declared.expression.Selector.{Selector, roll-Selector, out-Selector, out-roll-Selector}
+use Rattle.ob_tree.specs.declared.expression.Designator.{Designator, fold_out-Designator, roll-Designator, out-Designator, out-roll-Designator}
+use Rattle.ob_tree.specs.declared.expression.Element.{Element, fold_out-Element, roll-Element, out-Element, out-roll-Element}
+use Rattle.ob_tree.specs.declared.expression.ElementList.{ElementList, fold_out-ElementList, roll-ElementList, out-ElementList, out-roll-ElementList}
 use Rattle.ob_tree.specs.declared.expression.Expr.{Expr}
-use Rattle.ob_tree.specs.declared.expression.ExprList.{ExprList, ExprList-F, fold_out-ExprList, roll-ExprList, out-ExprList, out-roll-ExprList}
-use Rattle.ob_tree.specs.declared.expression.SimpleExpression.{SimpleExpression}
-use Rattle.ob_tree.specs.declared.expression.Term.{Term}
+use Rattle.ob_tree.specs.declared.expression.ExprList.{ExprList, fold_out-ExprList, roll-ExprList, out-ExprList, out-roll-ExprList}
 use Rattle.ob_tree.specs.Constructs as constructs
-use Rattle.ob_tree.specs.Marks.{Out, construct, word, used, if_there, each}
+use Rattle.ob_tree.specs.Marks.{Out, construct, word, if_there, each}
 use Rattle.ob_tree.specs.Marks.{selected as selected_name}
 use Rattle.ob_tree.specs.Expressions.{selector_outline, element_outline, expr_outline, expr_list_outline}
-use Rattle.ob_tree.proofs.ExpressionLayers.{selector_shown, element_shown, element_list_shown, expr_list_shown, selector_out, designator_out, element_out, element_list_out, expr_out, expr_list_out}
-use Rattle.ob_tree.proofs.Closed.{With}
+use Rattle.ob_tree.proofs.ExpressionLayers.{selector_shown, element_shown, element_list_shown, expr_list_shown, selector_out, designator_out, element_out, element_list_out, expr_out, expr_list_out, designator_shown}
+use Rattle.ob_tree.proofs.ExpressionInduction.{With, SelectorLayer, DesignatorLayer, ElementLayer, ElementListLayer, ExprListLayer, WithSelector, WithDesignator, WithElement, WithElementList, WithExprList, selector_of, designator_of, element_of, element_list_of, expr_list_of}
 use Rattle.ob_rows.specs.declared.rows.Step.TheVariants as steps_of
 use Rattle.ob_rows.specs.declared.rows.TypeName.{TypeName}
 use Rattle.ob_rows.specs.Parts.{Piece, token, both, tells}
@@ -30,11 +27,11 @@ use Rattle.ob_decls.specs.Expressions.{selected, denoted, element_piece, element
 use Rattle.ob_decls.proofs.ExpressionLayers as told
 use Rattle.ob_decls.proofs.Reading.{tail_is, Reads, never, on_word, on_any_word, on_construct, on_list, no_word, maybe, r-use, r-both, r-past, r-then, r-held, r-at, r-none, r-some, r-layer}
 use Rattle.ob_decls.proofs.ReadingLists.{r-map}
-use Rattle.ob_decls.proofs.ReadingExpressionParts.{HeldSelector, HeldDesignator, HeldElement, HeldElementList, HeldExpr, HeldExprList, WithSelector, selector_of, WithDesignator, designator_of, WithElement, element_of, WithElementList, element_list_of, WithExprList, expr_list_of}
+use Rattle.ob_decls.proofs.ReadingExpressionParts.{readable}
 
 -- ---- elements and lists
 
-abbrev element_parts : Element-F Factor Selector Designator Element ElementList Expr ExprList SimpleExpression Term → Phrase × Option Phrase
+abbrev element_parts : ElementLayer → Phrase × Option Phrase
 element_parts z = (expr_phrase z.low, maybe expr_phrase z.high)
 
 abbrev element_told : Phrase × Option Phrase → Piece
@@ -51,20 +48,20 @@ element_tells e = fold_out-Element Phrase Selected Denoted Piece Piece Phrase Li
 abbrev high_shown : Option Expr → Out
 high_shown o = if_there (λ h. word kinds.DotDot ++ expr_outline h) o
 
-abbrev high_of : Option (With HeldExpr) → Option Expr
-high_of = (shapes.former-Element-high).map (With HeldExpr) Expr (λ e. e.0)
+abbrev high_of : Option (With readable.expr) → Option Expr
+high_of = (shapes.former-Element-high).map (With readable.expr) Expr (λ e. e.0)
 
-high_held : (o : Option (With HeldExpr)) → Reads {Z = Element-F Factor Selector Designator Element ElementList Expr ExprList SimpleExpression Term} (λ z. maybe expr_phrase z.high) (λ z. high_shown z.high) on_any_word (maybe expr_phrase (high_of o)) (high_shown (high_of o))
+high_held : (o : Option (With readable.expr)) → Reads {Z = ElementLayer} (λ z. maybe expr_phrase z.high) (λ z. high_shown z.high) on_any_word (maybe expr_phrase (high_of o)) (high_shown (high_of o))
 high_held None = r-none expr_phrase (λ h. word kinds.DotDot ++ expr_outline h) on_any_word (λ c s. refl) (λ z. z.high)
 high_held (Some e) = r-some (r-past kinds.DotDot e.1) (λ s i. refl) (λ s. refl) (λ z. z.high)
 
-element_held : (y : WithElement) → Reads element_parts (λ z. construct constructs.Element (element_shown z)) never (element_parts (element_of y)) (construct constructs.Element (element_shown (element_of y)))
+element_held : (y : WithElement readable) → Reads element_parts (λ z. construct constructs.Element (element_shown z)) never (element_parts (element_of readable y)) (construct constructs.Element (element_shown (element_of readable y)))
 element_held y = r-held constructs.Element (r-both (r-at (λ z. z.low) y.low.1) (high_held y.high)) (λ s. refl)
 
-pub element_layer : (x : Element-F Factor Selector Designator Element ElementList Expr ExprList SimpleExpression Term) (y : WithElement) → element_of y ≡ x → HeldElement (roll-Element x)
-element_layer x y is = r-layer out-Element element_parts (λ z. construct constructs.Element (element_shown z)) element_told element_tells element_out (roll-Element x) (element_of y) (out-roll-Element x ∙ sym is) (element_held y)
+pub element_layer : (y : WithElement readable) → readable.element (roll-Element (element_of readable y))
+element_layer y = r-layer out-Element element_parts (λ z. construct constructs.Element (element_shown z)) element_told element_tells element_out _ _ (out-roll-Element (element_of readable y)) (element_held y)
 
-abbrev element_list_parts : ElementList-F Factor Selector Designator Element ElementList Expr ExprList SimpleExpression Term → Piece × List Piece
+abbrev element_list_parts : ElementListLayer → Piece × List Piece
 element_list_parts z = (element_piece z.first, map element_piece z.rest.items)
 
 abbrev element_list_told : Piece × List Piece → Piece
@@ -74,13 +71,13 @@ element_list_tells : (l : ElementList) → element_list_piece l ≡ element_list
 unfolding element_list_piece element_piece
 element_list_tells l = fold_out-ElementList Phrase Selected Denoted Piece Piece Phrase Listed Phrase Phrase factor_step selector_step designator_step element_step element_list_step expr_step expr_list_step sum_step term_step l
 
-element_list_held : (y : WithElementList) → Reads element_list_parts element_list_shown (on_word kinds.Comma) (element_list_parts (element_list_of y)) (element_list_shown (element_list_of y))
+element_list_held : (y : WithElementList readable) → Reads element_list_parts element_list_shown (on_word kinds.Comma) (element_list_parts (element_list_of readable y)) (element_list_shown (element_list_of readable y))
 element_list_held y = r-both (r-at (λ z. z.first) y.first.1) (r-at (λ z. z.rest.items) (r-map element_piece (λ e. word kinds.Comma ++ element_outline e) never (on_word kinds.Comma) (λ p s. refl) (λ s i. refl) (λ p s. refl) _ y.rest.items (λ e. r-past kinds.Comma e.1)))
 
-pub element_list_layer : (x : ElementList-F Factor Selector Designator Element ElementList Expr ExprList SimpleExpression Term) (y : WithElementList) → element_list_of y ≡ x → HeldElementList (roll-ElementList x)
-element_list_layer x y is = r-layer out-ElementList element_list_parts element_list_shown element_list_told element_list_tells element_list_out (roll-ElementList x) (element_list_of y) (out-roll-ElementList x ∙ sym is) (element_list_held y)
+pub element_list_layer : (y : WithElementList readable) → readable.element_list (roll-ElementList (element_list_of readable y))
+element_list_layer y = r-layer out-ElementList element_list_parts element_list_shown element_list_told element_list_tells element_list_out _ _ (out-roll-ElementList (element_list_of readable y)) (element_list_held y)
 
-abbrev expr_list_parts : ExprList-F Factor Selector Designator Element ElementList Expr ExprList SimpleExpression Term → Phrase × List Phrase
+abbrev expr_list_parts : ExprListLayer → Phrase × List Phrase
 expr_list_parts z = (expr_phrase z.first, map expr_phrase z.rest.items)
 
 abbrev expr_list_told : Phrase × List Phrase → Listed
@@ -90,15 +87,15 @@ expr_list_tells : (l : ExprList) → listed l ≡ expr_list_told (expr_list_part
 unfolding listed expr_phrase
 expr_list_tells l = fold_out-ExprList Phrase Selected Denoted Piece Piece Phrase Listed Phrase Phrase factor_step selector_step designator_step element_step element_list_step expr_step expr_list_step sum_step term_step l
 
-expr_list_held : (y : WithExprList) → Reads expr_list_parts expr_list_shown (on_word kinds.Comma) (expr_list_parts (expr_list_of y)) (expr_list_shown (expr_list_of y))
+expr_list_held : (y : WithExprList readable) → Reads expr_list_parts expr_list_shown (on_word kinds.Comma) (expr_list_parts (expr_list_of readable y)) (expr_list_shown (expr_list_of readable y))
 expr_list_held y = r-both (r-at (λ z. z.first) y.first.1) (r-at (λ z. z.rest.items) (r-map expr_phrase (λ e. word kinds.Comma ++ expr_outline e) never (on_word kinds.Comma) (λ p s. refl) (λ s i. refl) (λ p s. refl) _ y.rest.items (λ e. r-past kinds.Comma e.1)))
 
-pub expr_list_layer : (x : ExprList-F Factor Selector Designator Element ElementList Expr ExprList SimpleExpression Term) (y : WithExprList) → expr_list_of y ≡ x → HeldExprList (roll-ExprList x)
-expr_list_layer x y is = r-layer out-ExprList expr_list_parts expr_list_shown expr_list_told expr_list_tells expr_list_out (roll-ExprList x) (expr_list_of y) (out-roll-ExprList x ∙ sym is) (expr_list_held y)
+pub expr_list_layer : (y : WithExprList readable) → readable.expr_list (roll-ExprList (expr_list_of readable y))
+expr_list_layer y = r-layer out-ExprList expr_list_parts expr_list_shown expr_list_told expr_list_tells expr_list_out _ _ (out-roll-ExprList (expr_list_of readable y)) (expr_list_held y)
 
 -- ---- designators
 
-abbrev designator_parts : Designator-F Factor Selector Designator Element ElementList Expr ExprList SimpleExpression Term → ℕ × List Selected
+abbrev designator_parts : DesignatorLayer → ℕ × List Selected
 designator_parts z = (z.head, map selected z.selectors.items)
 
 abbrev designator_told : ℕ × List Selected → Denoted
@@ -106,9 +103,6 @@ designator_told p = record {
   piece = λ is_written. tells (designator_row is_written) (tells (its_selectors p.1) (both (uses (first_name p.1)) (pieces (λ s. s.piece) p.1)));
   name = name_with p.1;
 }
-
-abbrev designator_shown : Designator-F Factor Selector Designator Element ElementList Expr ExprList SimpleExpression Term → Out
-designator_shown d = used d.head ++ each selector_outline d.selectors.items
 
 designator_tells : (d : Designator) → denoted d ≡ designator_told (designator_parts (out-Designator d))
 unfolding denoted selected
@@ -118,11 +112,11 @@ selector_begins : (x : Selector) (s : Out) → on_construct (selector_outline x 
 unfolding construct
 selector_begins x s = ap (λ (o : Out). on_construct (o ++ s)) (selector_out x)
 
-designator_held : (y : WithDesignator) → Reads designator_parts (λ z. construct constructs.Designator (designator_shown z)) never (designator_parts (designator_of y)) (construct constructs.Designator (designator_shown (designator_of y)))
+designator_held : (y : WithDesignator readable) → Reads designator_parts (λ z. construct constructs.Designator (designator_shown z)) never (designator_parts (designator_of readable y)) (construct constructs.Designator (designator_shown (designator_of readable y)))
 designator_held y = r-held constructs.Designator (r-both (r-use (λ z. z.head) y.head) (r-at (λ z. z.selectors.items) (r-map selected selector_outline never on_construct selector_begins (λ s i. refl) (λ p s. refl) _ y.selectors.items (λ s. s.1)))) (λ s. refl)
 
-pub designator_layer : (x : Designator-F Factor Selector Designator Element ElementList Expr ExprList SimpleExpression Term) (y : WithDesignator) → designator_of y ≡ x → HeldDesignator (roll-Designator x)
-designator_layer x y is = r-layer out-Designator designator_parts (λ z. construct constructs.Designator (designator_shown z)) designator_told designator_tells designator_out (roll-Designator x) (designator_of y) (out-roll-Designator x ∙ sym is) (designator_held y)
+pub designator_layer : (y : WithDesignator readable) → readable.designator (roll-Designator (designator_of readable y))
+designator_layer y = r-layer out-Designator designator_parts (λ z. construct constructs.Designator (designator_shown z)) designator_told designator_tells designator_out _ _ (out-roll-Designator (designator_of readable y)) (designator_held y)
 
 -- ---- selectors
 
@@ -161,35 +155,35 @@ field_is m n r s e = cc
 field_tail : (m n : ℕ) (r s : Out) → (word kinds.Dot ++ selected_name m) ++ r ≡ (word kinds.Dot ++ selected_name n) ++ s → r ≡ s
 field_tail m n r s e = cc
 
-field_same : (m : ℕ) (z : Selector-F Factor Selector Designator Element ElementList Expr ExprList SimpleExpression Term) (r s : Out) → (word kinds.Dot ++ selected_name m) ++ r ≡ selector_shown z ++ s → (told.selector_shown (layers.Field m) ≡ told.selector_shown z) × (r ≡ s)
+field_same : (m : ℕ) (z : SelectorLayer) (r s : Out) → (word kinds.Dot ++ selected_name m) ++ r ≡ selector_shown z ++ s → (told.selector_shown (layers.Field m) ≡ told.selector_shown z) × (r ≡ s)
 unfolding expr_list_piece
 field_same m (layers.Field n) r s e = (ap (λ (k : ℕ). told.selector_shown (layers.Field k)) (field_is m n r s e), field_tail m n r s e)
 field_same m (layers.Index l) r s e = absurd cc
 field_same m layers.Target r s e = absurd cc
 field_same m (layers.Arguments l) r s e = absurd cc
 
-index_same : (a : Listed) (o : Out) → Reads listed expr_list_outline (on_word kinds.Comma) a o → (z : Selector-F Factor Selector Designator Element ElementList Expr ExprList SimpleExpression Term) (r s : Out) → (word kinds.LeftBracket ++ (o ++ word kinds.RightBracket)) ++ r ≡ selector_shown z ++ s → (index_told a ≡ told.selector_shown z) × (r ≡ s)
+index_same : (a : Listed) (o : Out) → Reads listed expr_list_outline (on_word kinds.Comma) a o → (z : SelectorLayer) (r s : Out) → (word kinds.LeftBracket ++ (o ++ word kinds.RightBracket)) ++ r ≡ selector_shown z ++ s → (index_told a ≡ told.selector_shown z) × (r ≡ s)
 unfolding expr_list_piece
 index_same a o x (layers.Field n) r s e = absurd cc
 index_same a o x (layers.Index l) r s e = (let h = (r-past kinds.LeftBracket (r-then kinds.RightBracket (r-at (λ (b : Box ExprList Global). b.value) x) (λ s. refl))).same l r s refl refl e in (ap index_told h.0, h.1))
 index_same a o x layers.Target r s e = absurd cc
 index_same a o x (layers.Arguments l) r s e = absurd cc
 
-target_same : (z : Selector-F Factor Selector Designator Element ElementList Expr ExprList SimpleExpression Term) (r s : Out) → word kinds.Caret ++ r ≡ selector_shown z ++ s → (told.selector_shown layers.Target ≡ told.selector_shown z) × (r ≡ s)
+target_same : (z : SelectorLayer) (r s : Out) → word kinds.Caret ++ r ≡ selector_shown z ++ s → (told.selector_shown layers.Target ≡ told.selector_shown z) × (r ≡ s)
 unfolding expr_list_piece
 target_same (layers.Field n) r s e = absurd cc
 target_same (layers.Index l) r s e = absurd cc
 target_same layers.Target r s e = (refl, tail_is _ _ r s e)
 target_same (layers.Arguments l) r s e = absurd cc
 
-arguments_same : (a : Option Listed) (o : Out) → Reads list_parts list_shown (on_list kinds.Comma) a o → (z : Selector-F Factor Selector Designator Element ElementList Expr ExprList SimpleExpression Term) (r s : Out) → (word kinds.LeftParen ++ (o ++ word kinds.RightParen)) ++ r ≡ selector_shown z ++ s → (arguments_told a ≡ told.selector_shown z) × (r ≡ s)
+arguments_same : (a : Option Listed) (o : Out) → Reads list_parts list_shown (on_list kinds.Comma) a o → (z : SelectorLayer) (r s : Out) → (word kinds.LeftParen ++ (o ++ word kinds.RightParen)) ++ r ≡ selector_shown z ++ s → (arguments_told a ≡ told.selector_shown z) × (r ≡ s)
 unfolding expr_list_piece
 arguments_same a o x (layers.Field n) r s e = absurd cc
 arguments_same a o x (layers.Index l) r s e = absurd cc
 arguments_same a o x layers.Target r s e = absurd cc
 arguments_same a o x (layers.Arguments l) r s e = (let h = (r-past kinds.LeftParen (r-then kinds.RightParen x (λ s. refl))).same l r s refl refl e in (ap arguments_told h.0 ∙ arguments_seen l, h.1))
 
-selector_held : (y : WithSelector) → Reads told.selector_shown selector_shown never (told.selector_shown (selector_of y)) (selector_shown (selector_of y))
+selector_held : (y : WithSelector readable) → Reads told.selector_shown selector_shown never (told.selector_shown (selector_of readable y)) (selector_shown (selector_of readable y))
 unfolding expr_list_piece
 selector_held (layers.Field n) = record { same = λ z r s i j e. field_same n z r s e }
 selector_held (layers.Index l) = record { same = λ z r s i j e. index_same _ _ l.value.1 z r s e }
@@ -200,5 +194,5 @@ selector_held (layers.Arguments (Some l)) = record { same = λ z r s i j e. argu
 selector_tells : (x : Selector) → selected x ≡ told.selector_shown (out-Selector x)
 selector_tells x = told.selector_out x
 
-pub selector_layer : (x : Selector-F Factor Selector Designator Element ElementList Expr ExprList SimpleExpression Term) (y : WithSelector) → selector_of y ≡ x → HeldSelector (roll-Selector x)
-selector_layer x y is = r-layer out-Selector told.selector_shown (λ z. construct constructs.Selector (selector_shown z)) (λ a. a) selector_tells selector_out (roll-Selector x) (selector_of y) (out-roll-Selector x ∙ sym is) (r-held constructs.Selector (selector_held y) (λ s. refl))
+pub selector_layer : (y : WithSelector readable) → readable.selector (roll-Selector (selector_of readable y))
+selector_layer y = r-layer out-Selector told.selector_shown (λ z. construct constructs.Selector (selector_shown z)) (λ a. a) selector_tells selector_out _ _ (out-roll-Selector (selector_of readable y)) (r-held constructs.Selector (selector_held y) (λ s. refl))

@@ -5,26 +5,22 @@ use Rattle.std.specs.declared.alloc.Global.{Global}
 use Rattle.ob_scan.specs.declared.kind.Kind.TheVariants as kinds
 use Rattle.ob_tree.specs.declared.expression.Literal.{Literal}
 use Rattle.ob_tree.specs.declared.expression.Factor.TheOpen as layers
-use Rattle.ob_tree.specs.declared.expression.Factor.{Factor, Factor-F, roll-Factor, out-Factor, out-roll-Factor}
-use Rattle.ob_tree.specs.declared.expression.Selector.{Selector}
+use Rattle.ob_tree.specs.declared.expression.Factor.{Factor, roll-Factor, out-Factor, out-roll-Factor}
 use Rattle.ob_tree.specs.declared.expression.Designator.{Designator}
-use Rattle.ob_tree.specs.declared.expression.Element.{Element}
 use Rattle.ob_tree.specs.declared.expression.ElementList.{ElementList, out-ElementList}
 use Rattle.ob_tree.specs.declared.expression.Expr.{Expr}
-use Rattle.ob_tree.specs.declared.expression.ExprList.{ExprList}
-use Rattle.ob_tree.specs.declared.expression.SimpleExpression.{SimpleExpression}
-use Rattle.ob_tree.specs.declared.expression.Term.{Term}
 use Rattle.ob_tree.specs.Constructs as constructs
 use Rattle.ob_tree.specs.Marks.{Out, Value, construct, word, if_there, each}
 use Rattle.ob_tree.specs.Expressions.{factor_outline, designator_outline, element_outline, element_list_outline, expr_outline}
 use Rattle.ob_tree.proofs.ExpressionLayers.{factor_shown, factor_out, designator_out, element_out, element_list_out}
+use Rattle.ob_tree.proofs.ExpressionInduction.{FactorLayer, WithFactor, factor_of}
 use Rattle.ob_rows.specs.Parts.{Piece, token, both}
 use Rattle.ob_rows.specs.Parts.{if_there as there}
 use Rattle.ob_decls.specs.Expressions.{Phrase, Denoted, no_name}
 use Rattle.ob_decls.specs.Expressions.{factor_phrase, denoted, element_list_piece, factor_piece, designator_piece, expr_piece, expr_phrase}
 use Rattle.ob_decls.proofs.ExpressionLayers as told
 use Rattle.ob_decls.proofs.Reading.{tail_is, Reads, never, on_construct, on_list, no_word, clash, maybe, r-past, r-then, r-held, r-at, r-none, r-some, r-layer}
-use Rattle.ob_decls.proofs.ReadingExpressionParts.{HeldFactor, HeldDesignator, WithFactor, factor_of}
+use Rattle.ob_decls.proofs.ReadingExpressionParts.{readable}
 
 -- ---- factors
 
@@ -64,7 +60,7 @@ designator_begins d s = ap (λ (o : Out). on_construct (o ++ s)) (designator_out
 pub no_name_here : (d : Designator) (r s : Out) → on_construct r ≡ false → r ≡ designator_outline d ++ s → ⊥
 no_name_here d r s i e = clash (on_construct r) true (ap on_construct e ∙ designator_begins d s) i
 
-value_same : (m : Literal) (a : ℕ) (z : Factor-F Factor Selector Designator Element ElementList Expr ExprList SimpleExpression Term) (r s : Out) → (Value m a ∷ []) ++ r ≡ factor_shown z ++ s → (told.factor_shown (layers.Value m a) ≡ told.factor_shown z) × (r ≡ s)
+value_same : (m : Literal) (a : ℕ) (z : FactorLayer) (r s : Out) → (Value m a ∷ []) ++ r ≡ factor_shown z ++ s → (told.factor_shown (layers.Value m a) ≡ told.factor_shown z) × (r ≡ s)
 unfolding factor_piece designator_piece expr_piece
 value_same m a (layers.Value k n) r s e = (refl, tail_is _ _ r s e)
 value_same m a layers.Nil r s e = absurd cc
@@ -75,7 +71,7 @@ value_same m a (layers.Name d) r s e = absurd (no_name_here d _ s refl e)
 value_same m a (layers.Group g) r s e = absurd cc
 value_same m a (layers.Not f) r s e = absurd cc
 
-nil_same : (z : Factor-F Factor Selector Designator Element ElementList Expr ExprList SimpleExpression Term) (r s : Out) → word kinds.Nil ++ r ≡ factor_shown z ++ s → (told.factor_shown layers.Nil ≡ told.factor_shown z) × (r ≡ s)
+nil_same : (z : FactorLayer) (r s : Out) → word kinds.Nil ++ r ≡ factor_shown z ++ s → (told.factor_shown layers.Nil ≡ told.factor_shown z) × (r ≡ s)
 unfolding factor_piece designator_piece expr_piece
 nil_same (layers.Value k n) r s e = absurd cc
 nil_same layers.Nil r s e = (refl, tail_is _ _ r s e)
@@ -86,7 +82,7 @@ nil_same (layers.Name d) r s e = absurd (no_name_here d _ s refl e)
 nil_same (layers.Group g) r s e = absurd cc
 nil_same (layers.Not f) r s e = absurd cc
 
-true_same : (z : Factor-F Factor Selector Designator Element ElementList Expr ExprList SimpleExpression Term) (r s : Out) → word kinds.True ++ r ≡ factor_shown z ++ s → (told.factor_shown layers.True ≡ told.factor_shown z) × (r ≡ s)
+true_same : (z : FactorLayer) (r s : Out) → word kinds.True ++ r ≡ factor_shown z ++ s → (told.factor_shown layers.True ≡ told.factor_shown z) × (r ≡ s)
 unfolding factor_piece designator_piece expr_piece
 true_same (layers.Value k n) r s e = absurd cc
 true_same layers.Nil r s e = absurd cc
@@ -97,7 +93,7 @@ true_same (layers.Name d) r s e = absurd (no_name_here d _ s refl e)
 true_same (layers.Group g) r s e = absurd cc
 true_same (layers.Not f) r s e = absurd cc
 
-false_same : (z : Factor-F Factor Selector Designator Element ElementList Expr ExprList SimpleExpression Term) (r s : Out) → word kinds.False ++ r ≡ factor_shown z ++ s → (told.factor_shown layers.False ≡ told.factor_shown z) × (r ≡ s)
+false_same : (z : FactorLayer) (r s : Out) → word kinds.False ++ r ≡ factor_shown z ++ s → (told.factor_shown layers.False ≡ told.factor_shown z) × (r ≡ s)
 unfolding factor_piece designator_piece expr_piece
 false_same (layers.Value k n) r s e = absurd cc
 false_same layers.Nil r s e = absurd cc
@@ -108,7 +104,7 @@ false_same (layers.Name d) r s e = absurd (no_name_here d _ s refl e)
 false_same (layers.Group g) r s e = absurd cc
 false_same (layers.Not f) r s e = absurd cc
 
-set_same : (a : Option Piece) (o : Out) → Reads set_parts set_shown (on_list kinds.Comma) a o → (z : Factor-F Factor Selector Designator Element ElementList Expr ExprList SimpleExpression Term) (r s : Out) → (word kinds.LeftBrace ++ (o ++ word kinds.RightBrace)) ++ r ≡ factor_shown z ++ s → (set_told a ≡ told.factor_shown z) × (r ≡ s)
+set_same : (a : Option Piece) (o : Out) → Reads set_parts set_shown (on_list kinds.Comma) a o → (z : FactorLayer) (r s : Out) → (word kinds.LeftBrace ++ (o ++ word kinds.RightBrace)) ++ r ≡ factor_shown z ++ s → (set_told a ≡ told.factor_shown z) × (r ≡ s)
 unfolding factor_piece designator_piece expr_piece
 set_same a o x (layers.Value k n) r s e = absurd cc
 set_same a o x layers.Nil r s e = absurd cc
@@ -119,7 +115,7 @@ set_same a o x (layers.Name d) r s e = absurd (no_name_here d _ s refl e)
 set_same a o x (layers.Group g) r s e = absurd cc
 set_same a o x (layers.Not f) r s e = absurd cc
 
-name_same : (b : Designator) → HeldDesignator b → (z : Factor-F Factor Selector Designator Element ElementList Expr ExprList SimpleExpression Term) (r s : Out) → designator_outline b ++ r ≡ factor_shown z ++ s → (name_told (denoted b) ≡ told.factor_shown z) × (r ≡ s)
+name_same : (b : Designator) → readable.designator b → (z : FactorLayer) (r s : Out) → designator_outline b ++ r ≡ factor_shown z ++ s → (name_told (denoted b) ≡ told.factor_shown z) × (r ≡ s)
 unfolding factor_piece designator_piece expr_piece
 name_same b x (layers.Value k n) r s e = absurd (no_name_here b (factor_shown (layers.Value k n) ++ s) r refl (sym e))
 name_same b x layers.Nil r s e = absurd (no_name_here b (factor_shown layers.Nil ++ s) r refl (sym e))
@@ -130,7 +126,7 @@ name_same b x (layers.Name d) r s e = (let h = x.same d r s refl refl e in (ap n
 name_same b x (layers.Group g) r s e = absurd (no_name_here b (factor_shown (layers.Group g) ++ s) r refl (sym e))
 name_same b x (layers.Not f) r s e = absurd (no_name_here b (factor_shown (layers.Not f) ++ s) r refl (sym e))
 
-group_same : (a : Phrase) (o : Out) → Reads expr_phrase expr_outline never a o → (z : Factor-F Factor Selector Designator Element ElementList Expr ExprList SimpleExpression Term) (r s : Out) → (word kinds.LeftParen ++ (o ++ word kinds.RightParen)) ++ r ≡ factor_shown z ++ s → (group_told a ≡ told.factor_shown z) × (r ≡ s)
+group_same : (a : Phrase) (o : Out) → Reads expr_phrase expr_outline never a o → (z : FactorLayer) (r s : Out) → (word kinds.LeftParen ++ (o ++ word kinds.RightParen)) ++ r ≡ factor_shown z ++ s → (group_told a ≡ told.factor_shown z) × (r ≡ s)
 unfolding factor_piece designator_piece expr_piece
 group_same a o x (layers.Value k n) r s e = absurd cc
 group_same a o x layers.Nil r s e = absurd cc
@@ -141,7 +137,7 @@ group_same a o x (layers.Name d) r s e = absurd (no_name_here d _ s refl e)
 group_same a o x (layers.Group g) r s e = (let h = (r-past kinds.LeftParen (r-then kinds.RightParen (r-at (λ (b : Box Expr Global). b.value) x) (λ s. refl))).same g r s refl refl e in (ap group_told h.0, h.1))
 group_same a o x (layers.Not f) r s e = absurd cc
 
-not_same : (a : Phrase) (o : Out) → Reads factor_phrase factor_outline never a o → (z : Factor-F Factor Selector Designator Element ElementList Expr ExprList SimpleExpression Term) (r s : Out) → (word kinds.Tilde ++ construct constructs.Negated o) ++ r ≡ factor_shown z ++ s → (not_told a ≡ told.factor_shown z) × (r ≡ s)
+not_same : (a : Phrase) (o : Out) → Reads factor_phrase factor_outline never a o → (z : FactorLayer) (r s : Out) → (word kinds.Tilde ++ construct constructs.Negated o) ++ r ≡ factor_shown z ++ s → (not_told a ≡ told.factor_shown z) × (r ≡ s)
 unfolding factor_piece designator_piece expr_piece
 not_same a o x (layers.Value k n) r s e = absurd cc
 not_same a o x layers.Nil r s e = absurd cc
@@ -152,7 +148,7 @@ not_same a o x (layers.Name d) r s e = absurd (no_name_here d _ s refl e)
 not_same a o x (layers.Group g) r s e = absurd cc
 not_same a o x (layers.Not f) r s e = (let h = (r-past kinds.Tilde (r-held constructs.Negated (r-at (λ (b : Box Factor Global). b.value) x) (λ s. refl))).same f r s refl refl e in (ap not_told h.0, h.1))
 
-factor_held : (y : WithFactor) → Reads told.factor_shown factor_shown never (told.factor_shown (factor_of y)) (factor_shown (factor_of y))
+factor_held : (y : WithFactor readable) → Reads told.factor_shown factor_shown never (told.factor_shown (factor_of readable y)) (factor_shown (factor_of readable y))
 unfolding factor_piece designator_piece expr_piece
 factor_held (layers.Value k n) = record { same = λ z r s i j e. value_same k n z r s e }
 factor_held layers.Nil = record { same = λ z r s i j e. nil_same z r s e }
@@ -167,5 +163,5 @@ factor_held (layers.Not f) = record { same = λ z r s i j e. not_same _ _ f.valu
 factor_tells : (x : Factor) → factor_phrase x ≡ told.factor_shown (out-Factor x)
 factor_tells x = told.factor_out x
 
-pub factor_layer : (x : Factor-F Factor Selector Designator Element ElementList Expr ExprList SimpleExpression Term) (y : WithFactor) → factor_of y ≡ x → HeldFactor (roll-Factor x)
-factor_layer x y is = r-layer out-Factor told.factor_shown (λ z. construct constructs.Factor (factor_shown z)) (λ a. a) factor_tells factor_out (roll-Factor x) (factor_of y) (out-roll-Factor x ∙ sym is) (r-held constructs.Factor (factor_held y) (λ s. refl))
+pub factor_layer : (y : WithFactor readable) → readable.factor (roll-Factor (factor_of readable y))
+factor_layer y = r-layer out-Factor told.factor_shown (λ z. construct constructs.Factor (factor_shown z)) (λ a. a) factor_tells factor_out _ _ (out-roll-Factor (factor_of readable y)) (r-held constructs.Factor (factor_held y) (λ s. refl))

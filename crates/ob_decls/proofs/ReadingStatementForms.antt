@@ -9,7 +9,6 @@ use Rattle.ob_tree.specs.declared.expression.Designator.{Designator}
 use Rattle.ob_tree.specs.declared.expression.Expr.{Expr}
 use Rattle.ob_tree.specs.declared.statement.Case.{Case}
 use Rattle.ob_tree.specs.declared.statement.Case.TheOpen as layers
-use Rattle.ob_tree.specs.declared.statement.Stmt.{Stmt, Stmt-F}
 use Rattle.ob_tree.specs.declared.statement.StatementSequence.{StatementSequence}
 use Rattle.ob_tree.specs.declared.statement.Branch.{Branch}
 use Rattle.ob_tree.specs.declared.statement.For.{For}
@@ -20,6 +19,7 @@ use Rattle.ob_tree.specs.Marks.{Out, Ends, Word, construct, word, if_there, each
 use Rattle.ob_tree.specs.Expressions.{expr_outline, designator_outline}
 use Rattle.ob_tree.specs.Statements.{case_outline, block_outline, branch_outline, for_outline}
 use Rattle.ob_tree.proofs.StatementLayers.{if_shown, stmt_shown, for_out}
+use Rattle.ob_tree.proofs.StatementInduction.{StmtLayer}
 use Rattle.ob_rows.specs.Parts.{Piece, token, both}
 use Rattle.ob_rows.specs.Parts.{if_there as there, each as pieces}
 use Rattle.ob_decls.specs.Expressions.{Phrase, Denoted, denoted, expr_phrase, expr_piece, designator_piece}
@@ -29,9 +29,6 @@ use Rattle.ob_decls.proofs.Reading.{tail_is, Reads, never, on_word, on_construct
 use Rattle.ob_decls.proofs.ReadingLists.{there_told, each_told}
 use Rattle.ob_decls.proofs.ReadingFactors.{no_name_here}
 use Rattle.ob_decls.proofs.ReadingExpressions.{r-expr, r-designator}
-
-abbrev pub Layer : Type 0
-Layer = Stmt-F Case Stmt Branch For StatementSequence
 
 -- ---- what the parts of each form tell, and their outlines
 
@@ -154,14 +151,14 @@ apart d q o r s e = let h = (r-designator d).same q ((word kinds.Assign ++ o) ++
 
 -- ---- form by form
 
-abbrev pub Agrees : Layer → Layer → Out → Out → Type 0
+abbrev pub Agrees : StmtLayer → StmtLayer → Out → Out → Type 0
 Agrees x z r s = (told.stmt_shown x ≡ told.stmt_shown z) × (r ≡ s)
 
 empty_unlike : (o p r s : Out) → construct constructs.EmptyStatement o ++ r ≡ construct constructs.Statement p ++ s → ⊥
 unfolding construct
 empty_unlike o p r s e = cc
 
-pub empty_same : (z : Layer) (r s : Out) → construct constructs.EmptyStatement [] ++ r ≡ stmt_shown z ++ s → Agrees layers.Empty z r s
+pub empty_same : (z : StmtLayer) (r s : Out) → construct constructs.EmptyStatement [] ++ r ≡ stmt_shown z ++ s → Agrees layers.Empty z r s
 empty_same layers.Empty r s e = (refl, tail_is _ _ _ _ (inside constructs.EmptyStatement [] [] r s e))
 empty_same (layers.Assign d a) r s e = absurd (empty_unlike [] _ r s e)
 empty_same (layers.Call d) r s e = absurd (empty_unlike [] _ r s e)
@@ -171,7 +168,7 @@ empty_same (layers.While f v) r s e = absurd (empty_unlike [] _ r s e)
 empty_same (layers.Repeat m a) r s e = absurd (empty_unlike [] _ r s e)
 empty_same (layers.For f) r s e = absurd (empty_unlike [] _ r s e)
 
-pub if_same : (f : Box Branch Global) (v : Vec Branch Global) (o : Option (Box StatementSequence Global)) → Reads if_parts if_outline never (if_parts (f, (v, o))) (if_outline (f, (v, o))) → (z : Layer) (r s : Out) → construct constructs.Statement (if_outline (f, (v, o))) ++ r ≡ stmt_shown z ++ s → Agrees (layers.If f v o) z r s
+pub if_same : (f : Box Branch Global) (v : Vec Branch Global) (o : Option (Box StatementSequence Global)) → Reads if_parts if_outline never (if_parts (f, (v, o))) (if_outline (f, (v, o))) → (z : StmtLayer) (r s : Out) → construct constructs.Statement (if_outline (f, (v, o))) ++ r ≡ stmt_shown z ++ s → Agrees (layers.If f v o) z r s
 if_same f v o x layers.Empty r s e = absurd (empty_unlike [] _ s r (sym e))
 if_same f v o x (layers.Assign d u) r s e = absurd (no_assign d _ _ _ refl (inside constructs.Statement _ _ r s e))
 if_same f v o x (layers.Call d) r s e = absurd (no_name_here d _ _ refl (inside constructs.Statement _ _ r s e))
@@ -181,7 +178,7 @@ if_same f v o x (layers.While g w) r s e = absurd (other kinds.If kinds.While _ 
 if_same f v o x (layers.Repeat n u) r s e = absurd (other kinds.If kinds.Repeat _ _ refl refl (inside constructs.Statement _ _ r s e))
 if_same f v o x (layers.For g) r s e = absurd (no_for g _ _ refl (inside constructs.Statement _ _ r s e))
 
-pub case_same : (a : Expr) (c : Box Case Global) (v : Vec Case Global) → Reads case_parts cases_outline never (case_parts (a, (c, v))) (cases_outline (a, (c, v))) → (z : Layer) (r s : Out) → construct constructs.Statement (cases_outline (a, (c, v))) ++ r ≡ stmt_shown z ++ s → Agrees (layers.Case a c v) z r s
+pub case_same : (a : Expr) (c : Box Case Global) (v : Vec Case Global) → Reads case_parts cases_outline never (case_parts (a, (c, v))) (cases_outline (a, (c, v))) → (z : StmtLayer) (r s : Out) → construct constructs.Statement (cases_outline (a, (c, v))) ++ r ≡ stmt_shown z ++ s → Agrees (layers.Case a c v) z r s
 case_same a c v x layers.Empty r s e = absurd (empty_unlike [] _ s r (sym e))
 case_same a c v x (layers.Assign d u) r s e = absurd (no_assign d _ _ _ refl (inside constructs.Statement _ _ r s e))
 case_same a c v x (layers.Call d) r s e = absurd (no_name_here d _ _ refl (inside constructs.Statement _ _ r s e))
@@ -191,7 +188,7 @@ case_same a c v x (layers.While g w) r s e = absurd (other kinds.Case kinds.Whil
 case_same a c v x (layers.Repeat n u) r s e = absurd (other kinds.Case kinds.Repeat _ _ refl refl (inside constructs.Statement _ _ r s e))
 case_same a c v x (layers.For g) r s e = absurd (no_for g _ _ refl (inside constructs.Statement _ _ r s e))
 
-pub while_same : (f : Box Branch Global) (v : Vec Branch Global) → Reads while_parts while_outline never (while_parts (f, v)) (while_outline (f, v)) → (z : Layer) (r s : Out) → construct constructs.Statement (while_outline (f, v)) ++ r ≡ stmt_shown z ++ s → Agrees (layers.While f v) z r s
+pub while_same : (f : Box Branch Global) (v : Vec Branch Global) → Reads while_parts while_outline never (while_parts (f, v)) (while_outline (f, v)) → (z : StmtLayer) (r s : Out) → construct constructs.Statement (while_outline (f, v)) ++ r ≡ stmt_shown z ++ s → Agrees (layers.While f v) z r s
 while_same f v x layers.Empty r s e = absurd (empty_unlike [] _ s r (sym e))
 while_same f v x (layers.Assign d u) r s e = absurd (no_assign d _ _ _ refl (inside constructs.Statement _ _ r s e))
 while_same f v x (layers.Call d) r s e = absurd (no_name_here d _ _ refl (inside constructs.Statement _ _ r s e))
@@ -201,7 +198,7 @@ while_same f v x (layers.While g w) r s e = let h = (r-held constructs.Statement
 while_same f v x (layers.Repeat n u) r s e = absurd (other kinds.While kinds.Repeat _ _ refl refl (inside constructs.Statement _ _ r s e))
 while_same f v x (layers.For g) r s e = absurd (no_for g _ _ refl (inside constructs.Statement _ _ r s e))
 
-pub repeat_same : (m : Box StatementSequence Global) (a : Expr) → Reads repeat_parts repeat_outline never (repeat_parts (m, a)) (repeat_outline (m, a)) → (z : Layer) (r s : Out) → construct constructs.Statement (repeat_outline (m, a)) ++ r ≡ stmt_shown z ++ s → Agrees (layers.Repeat m a) z r s
+pub repeat_same : (m : Box StatementSequence Global) (a : Expr) → Reads repeat_parts repeat_outline never (repeat_parts (m, a)) (repeat_outline (m, a)) → (z : StmtLayer) (r s : Out) → construct constructs.Statement (repeat_outline (m, a)) ++ r ≡ stmt_shown z ++ s → Agrees (layers.Repeat m a) z r s
 repeat_same m a x layers.Empty r s e = absurd (empty_unlike [] _ s r (sym e))
 repeat_same m a x (layers.Assign d u) r s e = absurd (no_assign d _ _ _ refl (inside constructs.Statement _ _ r s e))
 repeat_same m a x (layers.Call d) r s e = absurd (no_name_here d _ _ refl (inside constructs.Statement _ _ r s e))
@@ -211,7 +208,7 @@ repeat_same m a x (layers.While g w) r s e = absurd (other kinds.Repeat kinds.Wh
 repeat_same m a x (layers.Repeat n u) r s e = let h = (r-held constructs.Statement x (λ p. refl)).same (n, u) r s refl refl e in (repeat_seen (m, a) ∙ ap repeat_told h.0 ∙ sym (repeat_seen (n, u)), h.1)
 repeat_same m a x (layers.For g) r s e = absurd (no_for g _ _ refl (inside constructs.Statement _ _ r s e))
 
-pub for_same : (b : Box For Global) → Reads for_piece for_outline never (for_piece b.value) (for_outline b.value) → (z : Layer) (r s : Out) → construct constructs.Statement (for_outline b.value) ++ r ≡ stmt_shown z ++ s → Agrees (layers.For b) z r s
+pub for_same : (b : Box For Global) → Reads for_piece for_outline never (for_piece b.value) (for_outline b.value) → (z : StmtLayer) (r s : Out) → construct constructs.Statement (for_outline b.value) ++ r ≡ stmt_shown z ++ s → Agrees (layers.For b) z r s
 for_same b x layers.Empty r s e = absurd (empty_unlike [] _ s r (sym e))
 for_same b x (layers.Assign d a) r s e = absurd (no_assign d _ _ _ (for_plain b.value _) (inside constructs.Statement _ _ r s e))
 for_same b x (layers.Call d) r s e = absurd (no_name_here d _ _ (for_plain b.value _) (inside constructs.Statement _ _ r s e))
@@ -224,7 +221,7 @@ for_same b x (layers.For f) r s e = (r-held constructs.Statement x (λ q. refl))
 assign_held : (b : AssignForm) → Reads assign_parts assign_outline never (assign_parts b) (assign_outline b)
 assign_held b = r-both (r-at (λ z. z.0) (r-designator b.0)) (r-past kinds.Assign (r-at (λ z. z.1) (r-expr b.1)))
 
-pub assign_same : (b : AssignForm) (z : Layer) (r s : Out) → construct constructs.Statement (assign_outline b) ++ r ≡ stmt_shown z ++ s → Agrees (layers.Assign b.0 b.1) z r s
+pub assign_same : (b : AssignForm) (z : StmtLayer) (r s : Out) → construct constructs.Statement (assign_outline b) ++ r ≡ stmt_shown z ++ s → Agrees (layers.Assign b.0 b.1) z r s
 assign_same b layers.Empty r s e = absurd (empty_unlike [] _ s r (sym e))
 assign_same b (layers.Assign d a) r s e = let h = (r-held constructs.Statement (assign_held b) (λ q. refl)).same (d, a) r s refl refl e in (assign_seen b ∙ ap assign_told h.0 ∙ sym (assign_seen (d, a)), h.1)
 assign_same b (layers.Call d) r s e = absurd (apart b.0 d _ _ _ (inside constructs.Statement _ _ r s e))
@@ -234,7 +231,7 @@ assign_same b (layers.While f v) r s e = absurd (no_assign b.0 _ _ _ refl (sym (
 assign_same b (layers.Repeat m a) r s e = absurd (no_assign b.0 _ _ _ refl (sym (inside constructs.Statement _ _ r s e)))
 assign_same b (layers.For f) r s e = absurd (no_assign b.0 _ _ _ (for_plain f.value _) (sym (inside constructs.Statement _ _ r s e)))
 
-pub call_same : (b : Designator) (z : Layer) (r s : Out) → construct constructs.Statement (designator_outline b) ++ r ≡ stmt_shown z ++ s → Agrees (layers.Call b) z r s
+pub call_same : (b : Designator) (z : StmtLayer) (r s : Out) → construct constructs.Statement (designator_outline b) ++ r ≡ stmt_shown z ++ s → Agrees (layers.Call b) z r s
 call_same b layers.Empty r s e = absurd (empty_unlike [] _ s r (sym e))
 call_same b (layers.Assign d a) r s e = absurd (apart d b _ _ _ (sym (inside constructs.Statement _ _ r s e)))
 call_same b (layers.Call d) r s e = let h = (r-held constructs.Statement (r-designator b) (λ q. refl)).same d r s refl refl e in (call_seen b ∙ ap call_told h.0 ∙ sym (call_seen d), h.1)

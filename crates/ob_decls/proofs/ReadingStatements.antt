@@ -11,18 +11,19 @@ use Rattle.ob_tree.specs.declared.statement.Label.{Label}
 use Rattle.ob_tree.specs.declared.statement.Label.TheVariants as labels
 use Rattle.ob_tree.specs.declared.statement.Case.TheOpen as layers
 use Rattle.ob_tree.specs.declared.statement.Case.TheShapes as shapes
-use Rattle.ob_tree.specs.declared.statement.Case.{Case, Case-F, roll-Case, out-Case, out-roll-Case, map-Case}
-use Rattle.ob_tree.specs.declared.statement.Stmt.{Stmt, Stmt-F, roll-Stmt, out-Stmt, out-roll-Stmt, map-Stmt}
-use Rattle.ob_tree.specs.declared.statement.StatementSequence.{StatementSequence, StatementSequence-F, roll-StatementSequence, out-StatementSequence, out-roll-StatementSequence, ind-StatementSequence, map-StatementSequence}
-use Rattle.ob_tree.specs.declared.statement.Branch.{Branch, Branch-F, roll-Branch, out-Branch, out-roll-Branch, map-Branch}
-use Rattle.ob_tree.specs.declared.statement.For.{For, For-F, roll-For, out-For, out-roll-For, map-For}
+use Rattle.ob_tree.specs.declared.statement.Case.{Case, roll-Case, out-Case, out-roll-Case}
+use Rattle.ob_tree.specs.declared.statement.Stmt.{roll-Stmt, out-Stmt, out-roll-Stmt}
+use Rattle.ob_tree.specs.declared.statement.StatementSequence.{StatementSequence, roll-StatementSequence, out-StatementSequence, out-roll-StatementSequence}
+use Rattle.ob_tree.specs.declared.statement.Branch.{Branch, roll-Branch, out-Branch, out-roll-Branch}
+use Rattle.ob_tree.specs.declared.statement.For.{For, roll-For, out-For, out-roll-For}
 use Rattle.ob_tree.specs.Constructs as constructs
 use Rattle.ob_tree.specs.Marks.{Out, Ends, construct, word, if_there, each, each_after, separated}
 use Rattle.ob_tree.specs.Expressions.{expr_outline}
 use Rattle.ob_tree.specs.Statements.{label_outline, label_range_outline, case_outline, stmt_outline, block_outline, branch_outline, for_outline}
 use Rattle.ob_tree.specs.Names.{qualident_outline}
 use Rattle.ob_tree.proofs.StatementLayers.{case_shown, stmt_shown, block_shown, branch_shown, for_shown, case_out, stmt_out, block_out, branch_out, for_out}
-use Rattle.ob_tree.proofs.Closed.{With}
+use Rattle.ob_tree.proofs.ExpressionInduction.{With}
+use Rattle.ob_tree.proofs.StatementInduction.{StatementPredicates, StatementSteps, CaseLayer, BranchLayer, ForLayer, BlockLayer, WithCase, WithStmt, WithBranch, WithFor, WithBlock, case_of, stmt_of, branch_of, for_of, block_of, block_induction}
 use Rattle.ob_rows.specs.Parts.{Piece, token, both}
 use Rattle.ob_rows.specs.Parts.{if_there as there, each as pieces}
 use Rattle.ob_decls.specs.Expressions.{Phrase, expr_phrase, expr_piece}
@@ -36,73 +37,34 @@ use Rattle.ob_decls.proofs.ReadingStatementForms.{inside, empty_same, assign_sam
 
 -- each part can be read
 
-abbrev HeldCase : Case → Type 0
-HeldCase t = Reads case_piece case_outline never (case_piece t) (case_outline t)
-
-abbrev HeldStmt : Stmt → Type 0
-HeldStmt t = Reads stmt_piece stmt_outline never (stmt_piece t) (stmt_outline t)
-
-abbrev HeldBlock : StatementSequence → Type 0
-HeldBlock t = Reads block_piece block_outline (on_word kinds.Semicolon) (block_piece t) (block_outline t)
-
--- a branch with any word in it
-abbrev HeldBranch : Branch → Type 0
-HeldBranch t = (k : Kind) → Reads branch_piece (λ z. branch_outline z k) (on_word kinds.Semicolon) (branch_piece t) (branch_outline t k)
-
-abbrev HeldFor : For → Type 0
-HeldFor t = Reads for_piece for_outline never (for_piece t) (for_outline t)
-
--- a layer whose parts can be read, and the layer itself
-
-abbrev WithCase : Type 0
-WithCase = Case-F (With HeldCase) (With HeldStmt) (With HeldBranch) (With HeldFor) (With HeldBlock)
-
-abbrev case_of : WithCase → Case-F Case Stmt Branch For StatementSequence
-case_of = map-Case (With HeldCase) (With HeldStmt) (With HeldBranch) (With HeldFor) (With HeldBlock) Case Stmt Branch For StatementSequence (λ e. e.0) (λ e. e.0) (λ e. e.0) (λ e. e.0) (λ e. e.0)
-
-abbrev WithStmt : Type 0
-WithStmt = Stmt-F (With HeldCase) (With HeldStmt) (With HeldBranch) (With HeldFor) (With HeldBlock)
-
-abbrev stmt_of : WithStmt → Stmt-F Case Stmt Branch For StatementSequence
-stmt_of = map-Stmt (With HeldCase) (With HeldStmt) (With HeldBranch) (With HeldFor) (With HeldBlock) Case Stmt Branch For StatementSequence (λ e. e.0) (λ e. e.0) (λ e. e.0) (λ e. e.0) (λ e. e.0)
-
-abbrev WithBlock : Type 0
-WithBlock = StatementSequence-F (With HeldCase) (With HeldStmt) (With HeldBranch) (With HeldFor) (With HeldBlock)
-
-abbrev block_of : WithBlock → StatementSequence-F Case Stmt Branch For StatementSequence
-block_of = map-StatementSequence (With HeldCase) (With HeldStmt) (With HeldBranch) (With HeldFor) (With HeldBlock) Case Stmt Branch For StatementSequence (λ e. e.0) (λ e. e.0) (λ e. e.0) (λ e. e.0) (λ e. e.0)
-
-abbrev WithBranch : Type 0
-WithBranch = Branch-F (With HeldCase) (With HeldStmt) (With HeldBranch) (With HeldFor) (With HeldBlock)
-
-abbrev branch_of : WithBranch → Branch-F Case Stmt Branch For StatementSequence
-branch_of = map-Branch (With HeldCase) (With HeldStmt) (With HeldBranch) (With HeldFor) (With HeldBlock) Case Stmt Branch For StatementSequence (λ e. e.0) (λ e. e.0) (λ e. e.0) (λ e. e.0) (λ e. e.0)
-
-abbrev WithFor : Type 0
-WithFor = For-F (With HeldCase) (With HeldStmt) (With HeldBranch) (With HeldFor) (With HeldBlock)
-
-abbrev for_of : WithFor → For-F Case Stmt Branch For StatementSequence
-for_of = map-For (With HeldCase) (With HeldStmt) (With HeldBranch) (With HeldFor) (With HeldBlock) Case Stmt Branch For StatementSequence (λ e. e.0) (λ e. e.0) (λ e. e.0) (λ e. e.0) (λ e. e.0)
+abbrev predicates : StatementPredicates
+predicates = record {
+  case = λ t. Reads case_piece case_outline never (case_piece t) (case_outline t);
+  stmt = λ t. Reads stmt_piece stmt_outline never (stmt_piece t) (stmt_outline t);
+  branch = λ t. (k : Kind) → Reads branch_piece (λ z. branch_outline z k) (on_word kinds.Semicolon) (branch_piece t) (branch_outline t k);
+  for = λ t. Reads for_piece for_outline never (for_piece t) (for_outline t);
+  block = λ t. Reads block_piece block_outline (on_word kinds.Semicolon) (block_piece t) (block_outline t);
+}
 
 -- the parts behind boxes and in lists
 
-abbrev block_in : Box (With HeldBlock) Global → Box StatementSequence Global
-block_in = (shapes.former-Case-Labelled-1).map (With HeldBlock) StatementSequence (λ e. e.0)
+abbrev block_in : Box (With predicates.block) Global → Box StatementSequence Global
+block_in = (shapes.former-Case-Labelled-1).map (With predicates.block) StatementSequence (λ e. e.0)
 
-abbrev branch_in : Box (With HeldBranch) Global → Box Branch Global
-branch_in = (shapes.former-Stmt-If-0).map (With HeldBranch) Branch (λ e. e.0)
+abbrev branch_in : Box (With predicates.branch) Global → Box Branch Global
+branch_in = (shapes.former-Stmt-If-0).map (With predicates.branch) Branch (λ e. e.0)
 
-abbrev branches_in : Vec (With HeldBranch) Global → Vec Branch Global
-branches_in = (shapes.former-Stmt-If-1).map (With HeldBranch) Branch (λ e. e.0)
+abbrev branches_in : Vec (With predicates.branch) Global → Vec Branch Global
+branches_in = (shapes.former-Stmt-If-1).map (With predicates.branch) Branch (λ e. e.0)
 
-abbrev case_in : Box (With HeldCase) Global → Box Case Global
-case_in = (shapes.former-Stmt-Case-1).map (With HeldCase) Case (λ e. e.0)
+abbrev case_in : Box (With predicates.case) Global → Box Case Global
+case_in = (shapes.former-Stmt-Case-1).map (With predicates.case) Case (λ e. e.0)
 
-abbrev cases_in : Vec (With HeldCase) Global → Vec Case Global
-cases_in = (shapes.former-Stmt-Case-2).map (With HeldCase) Case (λ e. e.0)
+abbrev cases_in : Vec (With predicates.case) Global → Vec Case Global
+cases_in = (shapes.former-Stmt-Case-2).map (With predicates.case) Case (λ e. e.0)
 
-abbrev for_in : Box (With HeldFor) Global → Box For Global
-for_in = (shapes.former-Stmt-For-0).map (With HeldFor) For (λ e. e.0)
+abbrev for_in : Box (With predicates.for) Global → Box For Global
+for_in = (shapes.former-Stmt-For-0).map (With predicates.for) For (λ e. e.0)
 
 -- ---- cases
 
@@ -149,24 +111,24 @@ range_there r o p s e = label_there r.low _ (o ++ p) s (sym (append_assoc (label
 labelled_there : (z : Labelled) (r s : Out) → labelled_outline z ++ r ≡ Ends constructs.Case ∷ s → ⊥
 labelled_there z r s e = range_there z.0.first _ _ s (sym (append_assoc (separated kinds.Comma label_range_outline z.0) (word kinds.Colon ++ block_outline z.1.value) r) ∙ e)
 
-none_same : (z : Case-F Case Stmt Branch For StatementSequence) (r s : Out) → Ends constructs.Case ∷ r ≡ case_shown z ++ Ends constructs.Case ∷ s → (told.case_shown layers.Nothing ≡ told.case_shown z) × (r ≡ s)
+none_same : (z : CaseLayer) (r s : Out) → Ends constructs.Case ∷ r ≡ case_shown z ++ Ends constructs.Case ∷ s → (told.case_shown layers.Nothing ≡ told.case_shown z) × (r ≡ s)
 none_same layers.Nothing r s e = (refl, tail_is _ _ r s e)
 none_same (layers.Labelled l b) r s e = absurd (labelled_there (l, b) _ r (sym e))
 
 labelled_same : (m : OneOrMore LabelRange) (b : Box StatementSequence Global) → Reads labelled_parts labelled_outline (on_word kinds.Semicolon) (labelled_parts (m, b)) (labelled_outline (m, b)) →
-    (z : Case-F Case Stmt Branch For StatementSequence) (r s : Out) → labelled_outline (m, b) ++ Ends constructs.Case ∷ r ≡ case_shown z ++ Ends constructs.Case ∷ s → (told.case_shown (layers.Labelled m b) ≡ told.case_shown z) × (r ≡ s)
+    (z : CaseLayer) (r s : Out) → labelled_outline (m, b) ++ Ends constructs.Case ∷ r ≡ case_shown z ++ Ends constructs.Case ∷ s → (told.case_shown (layers.Labelled m b) ≡ told.case_shown z) × (r ≡ s)
 labelled_same m b x layers.Nothing r s e = absurd (labelled_there (m, b) _ s e)
 labelled_same m b x (layers.Labelled l c) r s e = let h = x.same (l, c) (Ends constructs.Case ∷ r) (Ends constructs.Case ∷ s) refl refl e in (labelled_seen (m, b) ∙ ap labelled_told h.0 ∙ sym (labelled_seen (l, c)), tail_is _ _ r s h.1)
 
-case_inside : (y : WithCase) (z : Case-F Case Stmt Branch For StatementSequence) (r s : Out) → case_shown (case_of y) ++ Ends constructs.Case ∷ r ≡ case_shown z ++ Ends constructs.Case ∷ s → (told.case_shown (case_of y) ≡ told.case_shown z) × (r ≡ s)
+case_inside : (y : WithCase predicates) (z : CaseLayer) (r s : Out) → case_shown (case_of predicates y) ++ Ends constructs.Case ∷ r ≡ case_shown z ++ Ends constructs.Case ∷ s → (told.case_shown (case_of predicates y) ≡ told.case_shown z) × (r ≡ s)
 case_inside layers.Nothing z r s e = none_same z r s e
 case_inside (layers.Labelled l b) z r s e = labelled_same l (block_in b) (r-until (r-at (λ q. q.0) (ranges_held l)) (λ p i. refl) (λ q p i. refl) (r-past kinds.Colon (r-at (λ q. q.1.value) b.value.1))) z r s e
 
-case_held : (y : WithCase) → Reads told.case_shown (λ z. construct constructs.Case (case_shown z)) never (told.case_shown (case_of y)) (construct constructs.Case (case_shown (case_of y)))
+case_held : (y : WithCase predicates) → Reads told.case_shown (λ z. construct constructs.Case (case_shown z)) never (told.case_shown (case_of predicates y)) (construct constructs.Case (case_shown (case_of predicates y)))
 case_held y = record { same = λ z r s i j e. case_inside y z r s (inside constructs.Case _ _ r s e) }
 
-case_layer : (x : Case-F Case Stmt Branch For StatementSequence) (y : WithCase) → case_of y ≡ x → HeldCase (roll-Case x)
-case_layer x y is = r-layer out-Case told.case_shown (λ z. construct constructs.Case (case_shown z)) (λ a. a) told.case_told case_out (roll-Case x) (case_of y) (out-roll-Case x ∙ sym is) (case_held y)
+case_layer : (y : WithCase predicates) → predicates.case (roll-Case (case_of predicates y))
+case_layer y = r-layer out-Case told.case_shown (λ z. construct constructs.Case (case_shown z)) (λ a. a) told.case_told case_out _ _ (out-roll-Case (case_of predicates y)) (case_held y)
 
 -- ---- statements
 
@@ -183,10 +145,10 @@ no_semicolon k s i = not_the_first kinds.Semicolon [] s (none_behind k (kinds.Se
 abbrev else_outline : Option (Box StatementSequence Global) → Out
 else_outline o = if_there (λ b. word kinds.Else ++ block_outline b.value) o
 
-abbrev else_of : Option (Box (With HeldBlock) Global) → Option (Box StatementSequence Global)
-else_of = (shapes.former-Stmt-If-2).map (With HeldBlock) StatementSequence (λ e. e.0)
+abbrev else_of : Option (Box (With predicates.block) Global) → Option (Box StatementSequence Global)
+else_of = (shapes.former-Stmt-If-2).map (With predicates.block) StatementSequence (λ e. e.0)
 
-else_held : (o : Option (Box (With HeldBlock) Global)) →
+else_held : (o : Option (Box (With predicates.block) Global)) →
     Reads {Z = Option (Box StatementSequence Global)} (λ z. maybe (λ b. block_piece b.value) z) else_outline (on_words ends_else) (maybe (λ b. block_piece b.value) (else_of o)) (else_outline (else_of o))
 else_held None = r-none (λ b. block_piece b.value) (λ b. word kinds.Else ++ block_outline b.value) (on_words ends_else) (λ b s. refl) (λ z. z)
 else_held (Some b) = r-some (r-past kinds.Else (r-at (λ c. c.value) b.value.1)) (λ s i. no_semicolon kinds.Else s i) (λ s. refl) (λ z. z)
@@ -194,7 +156,7 @@ else_held (Some b) = r-some (r-past kinds.Else (r-at (λ c. c.value) b.value.1))
 abbrev branches_outline : Kind → List Branch → Out
 branches_outline k bs = each (λ b. word kinds.Elsif ++ branch_outline b k) bs
 
-branches_held : {X : Type 0} (k : Kind) (h : X → Branch) (xs : List X) → ((x : X) → HeldBranch (h x)) →
+branches_held : {X : Type 0} (k : Kind) (h : X → Branch) (xs : List X) → ((x : X) → predicates.branch (h x)) →
     Reads (map branch_piece) (branches_outline k) (on_words ends_if) (map branch_piece (map h xs)) (branches_outline k (map h xs))
 branches_held k h xs w = r-map branch_piece (λ b. word kinds.Elsif ++ branch_outline b k) (on_word kinds.Semicolon) (on_words ends_if) (λ b s. refl) (λ s i. no_semicolon kinds.Elsif s i) (λ b s. refl) h xs (λ x. r-past kinds.Elsif (w x k))
 
@@ -211,7 +173,7 @@ behind_while : (k : Kind) (bs : List Branch) (s : Out) → on_word kinds.Semicol
 behind_while k [] s = refl
 behind_while k (b ∷ bs) s = refl
 
-stmt_held : (y : WithStmt) → Reads told.stmt_shown stmt_shown never (told.stmt_shown (stmt_of y)) (stmt_shown (stmt_of y))
+stmt_held : (y : WithStmt predicates) → Reads told.stmt_shown stmt_shown never (told.stmt_shown (stmt_of predicates y)) (stmt_shown (stmt_of predicates y))
 stmt_held layers.Empty = record { same = λ z r s i j e. empty_same z r s e }
 stmt_held (layers.Assign d a) = record { same = λ z r s i j e. assign_same (d, a) z r s e }
 stmt_held (layers.Call d) = record { same = λ z r s i j e. call_same d z r s e }
@@ -231,12 +193,12 @@ stmt_held (layers.While f v) = record {
 stmt_held (layers.Repeat b a) = record { same = λ z r s i j e. repeat_same (block_in b) a (r-past kinds.Repeat (r-until (r-at (λ q. q.0.value) b.value.1) (λ s i. refl) (λ q s i. refl) (r-past kinds.Until (r-at (λ q. q.1) (r-expr a))))) z r s e }
 stmt_held (layers.For f) = record { same = λ z r s i j e. for_same (for_in f) f.value.1 z r s e }
 
-stmt_layer : (x : Stmt-F Case Stmt Branch For StatementSequence) (y : WithStmt) → stmt_of y ≡ x → HeldStmt (roll-Stmt x)
-stmt_layer x y is = r-layer out-Stmt told.stmt_shown stmt_shown (λ a. a) told.stmt_told stmt_out (roll-Stmt x) (stmt_of y) (out-roll-Stmt x ∙ sym is) (stmt_held y)
+stmt_layer : (y : WithStmt predicates) → predicates.stmt (roll-Stmt (stmt_of predicates y))
+stmt_layer y = r-layer out-Stmt told.stmt_shown stmt_shown (λ a. a) told.stmt_told stmt_out _ _ (out-roll-Stmt (stmt_of predicates y)) (stmt_held y)
 
 -- ---- blocks, branches and FOR
 
-abbrev block_parts : StatementSequence-F Case Stmt Branch For StatementSequence → Piece × List Piece
+abbrev block_parts : BlockLayer → Piece × List Piece
 block_parts z = (stmt_piece z.first, map stmt_piece z.rest.items)
 
 abbrev block_told : Piece × List Piece → Piece
@@ -245,13 +207,13 @@ block_told p = both p.0 (pieces (λ s. both token s) p.1)
 block_tells : (b : StatementSequence) → block_piece b ≡ block_told (block_parts (out-StatementSequence b))
 block_tells b = told.block_out b ∙ ap (λ (o : Piece). both (stmt_piece (out-StatementSequence b).first) o) (each_told stmt_piece (λ s. both token s) (out-StatementSequence b).rest.items)
 
-block_held : (y : WithBlock) → Reads block_parts block_shown (on_word kinds.Semicolon) (block_parts (block_of y)) (block_shown (block_of y))
+block_held : (y : WithBlock predicates) → Reads block_parts block_shown (on_word kinds.Semicolon) (block_parts (block_of predicates y)) (block_shown (block_of predicates y))
 block_held y = r-both (r-at (λ z. z.first) y.first.1) (r-at (λ z. z.rest.items) (r-map stmt_piece (λ s. word kinds.Semicolon ++ stmt_outline s) never (on_word kinds.Semicolon) (λ p s. refl) (λ s i. refl) (λ p s. refl) _ y.rest.items (λ s. r-past kinds.Semicolon s.1)))
 
-block_layer : (x : StatementSequence-F Case Stmt Branch For StatementSequence) (y : WithBlock) → block_of y ≡ x → HeldBlock (roll-StatementSequence x)
-block_layer x y is = r-layer out-StatementSequence block_parts block_shown block_told block_tells block_out (roll-StatementSequence x) (block_of y) (out-roll-StatementSequence x ∙ sym is) (block_held y)
+block_layer : (y : WithBlock predicates) → predicates.block (roll-StatementSequence (block_of predicates y))
+block_layer y = r-layer out-StatementSequence block_parts block_shown block_told block_tells block_out _ _ (out-roll-StatementSequence (block_of predicates y)) (block_held y)
 
-abbrev branch_parts : Branch-F Case Stmt Branch For StatementSequence → Phrase × Piece
+abbrev branch_parts : BranchLayer → Phrase × Piece
 branch_parts z = (expr_phrase z.condition, block_piece z.body)
 
 abbrev branch_told : Phrase × Piece → Piece
@@ -261,13 +223,13 @@ branch_tells : (b : Branch) → branch_piece b ≡ branch_told (branch_parts (ou
 unfolding expr_piece
 branch_tells b = told.branch_out b
 
-branch_held : (y : WithBranch) (k : Kind) → Reads branch_parts (λ z. branch_shown z k) (on_word kinds.Semicolon) (branch_parts (branch_of y)) (branch_shown (branch_of y) k)
+branch_held : (y : WithBranch predicates) (k : Kind) → Reads branch_parts (λ z. branch_shown z k) (on_word kinds.Semicolon) (branch_parts (branch_of predicates y)) (branch_shown (branch_of predicates y) k)
 branch_held y k = r-both (r-at (λ z. z.condition) (r-expr y.condition)) (r-past k (r-at (λ z. z.body) y.body.1))
 
-branch_layer : (x : Branch-F Case Stmt Branch For StatementSequence) (y : WithBranch) → branch_of y ≡ x → HeldBranch (roll-Branch x)
-branch_layer x y is k = r-layer out-Branch branch_parts (λ z. branch_shown z k) branch_told branch_tells (λ b. branch_out b k) (roll-Branch x) (branch_of y) (out-roll-Branch x ∙ sym is) (branch_held y k)
+branch_layer : (y : WithBranch predicates) → predicates.branch (roll-Branch (branch_of predicates y))
+branch_layer y k = r-layer out-Branch branch_parts (λ z. branch_shown z k) branch_told branch_tells (λ b. branch_out b k) _ _ (out-roll-Branch (branch_of predicates y)) (branch_held y k)
 
-abbrev for_parts : For-F Case Stmt Branch For StatementSequence → ℕ × (Phrase × (Phrase × (Option Phrase × Piece)))
+abbrev for_parts : ForLayer → ℕ × (Phrase × (Phrase × (Option Phrase × Piece)))
 for_parts z = (z.variable, (expr_phrase z.from, (expr_phrase z.to, (maybe expr_phrase z.by, block_piece z.body))))
 
 abbrev for_told : ℕ × (Phrase × (Phrase × (Option Phrase × Piece))) → Piece
@@ -279,15 +241,24 @@ unfolding expr_piece
 for_tells f = told.for_out f ∙ ap (λ (o : Piece). both token (both variable_piece (both token (both (expr_phrase (out-For f).from).piece (both token (both (expr_phrase (out-For f).to).piece
     (both o (both token (both (block_piece (out-For f).body) token))))))))) (there_told expr_phrase (λ e. both token e.piece) (out-For f).by)
 
-for_held : (y : WithFor) → Reads for_parts for_shown never (for_parts (for_of y)) (for_shown (for_of y))
+for_held : (y : WithFor predicates) → Reads for_parts for_shown never (for_parts (for_of predicates y)) (for_shown (for_of predicates y))
 for_held y = r-past kinds.For (r-both (r-use (λ z. z.variable) y.variable) (r-past kinds.Assign (r-both (r-at (λ z. z.from) (r-expr y.from)) (r-past kinds.To (r-both (r-at (λ z. z.to) (r-expr y.to))
     (r-until (r-there {f = expr_phrase} {g = λ e. word kinds.By ++ expr_outline e} {part = never} (on_word kinds.By) (λ z. z.by) y.by (λ e. r-past kinds.By (r-expr e)) (λ s i. refl) (λ e s. refl)) (λ s i. refl) (λ z s i. refl)
     (r-past kinds.Do (r-then kinds.End (r-at (λ z. z.body) y.body.1) (λ s. refl)))))))))
 
-for_layer : (x : For-F Case Stmt Branch For StatementSequence) (y : WithFor) → for_of y ≡ x → HeldFor (roll-For x)
-for_layer x y is = r-layer out-For for_parts for_shown for_told for_tells for_out (roll-For x) (for_of y) (out-roll-For x ∙ sym is) (for_held y)
+for_layer : (y : WithFor predicates) → predicates.for (roll-For (for_of predicates y))
+for_layer y = r-layer out-For for_parts for_shown for_told for_tells for_out _ _ (out-roll-For (for_of predicates y)) (for_held y)
 
 -- ---- every tree can be read
 
+steps : StatementSteps predicates
+steps = record {
+  case = case_layer;
+  stmt = stmt_layer;
+  branch = branch_layer;
+  for = for_layer;
+  block = block_layer;
+}
+
 pub r-block : (b : StatementSequence) → Reads block_piece block_outline (on_word kinds.Semicolon) (block_piece b) (block_outline b)
-r-block = ind-StatementSequence HeldCase HeldStmt HeldBranch HeldFor HeldBlock case_layer stmt_layer branch_layer for_layer block_layer
+r-block = block_induction predicates steps

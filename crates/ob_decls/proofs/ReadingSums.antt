@@ -1,5 +1,5 @@
 -- What an expression, a sum and a term tell is known from their outlines, if what their parts tell is.
-use Rattle.std.proofs.Common.{◌≡◌, Bool, true, false, List, [], ◌∷◌, ◌++◌, map, Option, Some, None, refl, sym, ap, ◌∙◌}
+use Rattle.std.proofs.Common.{◌≡◌, Bool, true, false, List, [], ◌∷◌, ◌++◌, map, Option, Some, None, refl, ap, ◌∙◌}
 use Rattle.std.specs.declared.boxed.Box.{Box}
 use Rattle.std.specs.declared.alloc.Global.{Global}
 use Rattle.ob_tree.specs.declared.expression.Relation.{Relation}
@@ -8,19 +8,14 @@ use Rattle.ob_tree.specs.declared.expression.AddOperator.{AddOperator}
 use Rattle.ob_tree.specs.declared.expression.MulOperator.{MulOperator}
 use Rattle.ob_tree.specs.declared.expression.Factor.TheShapes as shapes
 use Rattle.ob_tree.specs.declared.expression.Factor.{Factor}
-use Rattle.ob_tree.specs.declared.expression.Selector.{Selector}
-use Rattle.ob_tree.specs.declared.expression.Designator.{Designator}
-use Rattle.ob_tree.specs.declared.expression.Element.{Element}
-use Rattle.ob_tree.specs.declared.expression.ElementList.{ElementList}
-use Rattle.ob_tree.specs.declared.expression.Expr.{Expr, Expr-F, fold_out-Expr, roll-Expr, out-Expr, out-roll-Expr}
-use Rattle.ob_tree.specs.declared.expression.ExprList.{ExprList}
-use Rattle.ob_tree.specs.declared.expression.SimpleExpression.{SimpleExpression, SimpleExpression-F, fold_out-SimpleExpression, roll-SimpleExpression, out-SimpleExpression, out-roll-SimpleExpression}
-use Rattle.ob_tree.specs.declared.expression.Term.{Term, Term-F, fold_out-Term, roll-Term, out-Term, out-roll-Term}
+use Rattle.ob_tree.specs.declared.expression.Expr.{Expr, fold_out-Expr, roll-Expr, out-Expr, out-roll-Expr}
+use Rattle.ob_tree.specs.declared.expression.SimpleExpression.{SimpleExpression, fold_out-SimpleExpression, roll-SimpleExpression, out-SimpleExpression, out-roll-SimpleExpression}
+use Rattle.ob_tree.specs.declared.expression.Term.{Term, fold_out-Term, roll-Term, out-Term, out-roll-Term}
 use Rattle.ob_tree.specs.Constructs as constructs
-use Rattle.ob_tree.specs.Marks.{Out, construct, word, if_there, each}
+use Rattle.ob_tree.specs.Marks.{Out, construct, word, if_there}
 use Rattle.ob_tree.specs.Expressions.{relation_kind, sign_kind, add_kind, mul_kind, factor_outline, sum_outline, term_outline}
-use Rattle.ob_tree.proofs.ExpressionLayers.{expr_shown, sum_shown, expr_out, sum_out, term_out}
-use Rattle.ob_tree.proofs.Closed.{With}
+use Rattle.ob_tree.proofs.ExpressionLayers.{expr_shown, sum_shown, expr_out, sum_out, term_out, term_shown}
+use Rattle.ob_tree.proofs.ExpressionInduction.{With, ExprLayer, SumLayer, TermLayer, WithExpr, WithSum, WithTerm, expr_of, sum_of, term_of}
 use Rattle.ob_rows.specs.Parts.{Piece, token, both}
 use Rattle.ob_rows.specs.Parts.{if_there as there, each as pieces}
 use Rattle.ob_decls.specs.Expressions.{Phrase, Listed, Selected, Denoted, Lone, if_alone, if_bare}
@@ -28,11 +23,11 @@ use Rattle.ob_decls.specs.Expressions.{factor_phrase, expr_phrase, sum_phrase, t
 use Rattle.ob_rows.proofs.Steps.{each-map}
 use Rattle.ob_decls.proofs.Reading.{Reads, never, on_any_word, maybe, r-until, r-both, r-held, r-at, r-none, r-some, r-any, r-past_any, r-layer}
 use Rattle.ob_decls.proofs.ReadingLists.{r-map, each_told}
-use Rattle.ob_decls.proofs.ReadingExpressionParts.{HeldExpr, HeldSum, HeldTerm, WithExpr, expr_of, WithSum, sum_of, WithTerm, term_of}
+use Rattle.ob_decls.proofs.ReadingExpressionParts.{readable}
 
 -- ---- expressions
 
-abbrev expr_parts : Expr-F Factor Selector Designator Element ElementList Expr ExprList SimpleExpression Term → Phrase × Option Phrase
+abbrev expr_parts : ExprLayer → Phrase × Option Phrase
 expr_parts z = (sum_phrase z.left, maybe (λ c. sum_phrase c.1.value) z.compared)
 
 abbrev expr_told : Phrase × Option Phrase → Phrase
@@ -51,19 +46,19 @@ expr_tells e = fold_out-Expr Phrase Selected Denoted Piece Piece Phrase Listed P
 abbrev compared_shown : Option (Relation × Box SimpleExpression Global) → Out
 compared_shown o = if_there (λ c. word (relation_kind c.0) ++ sum_outline c.1.value) o
 
-abbrev compared_of : Option (Relation × Box (With HeldSum) Global) → Option (Relation × Box SimpleExpression Global)
-compared_of = (shapes.former-Expr-compared).map (With HeldSum) SimpleExpression (λ e. e.0)
+abbrev compared_of : Option (Relation × Box (With readable.sum) Global) → Option (Relation × Box SimpleExpression Global)
+compared_of = (shapes.former-Expr-compared).map (With readable.sum) SimpleExpression (λ e. e.0)
 
-compared_held : (o : Option (Relation × Box (With HeldSum) Global)) →
-    Reads {Z = Expr-F Factor Selector Designator Element ElementList Expr ExprList SimpleExpression Term} (λ z. maybe (λ c. sum_phrase c.1.value) z.compared) (λ z. compared_shown z.compared) on_any_word (maybe (λ c. sum_phrase c.1.value) (compared_of o)) (compared_shown (compared_of o))
+compared_held : (o : Option (Relation × Box (With readable.sum) Global)) →
+    Reads {Z = ExprLayer} (λ z. maybe (λ c. sum_phrase c.1.value) z.compared) (λ z. compared_shown z.compared) on_any_word (maybe (λ c. sum_phrase c.1.value) (compared_of o)) (compared_shown (compared_of o))
 compared_held None = r-none (λ c. sum_phrase c.1.value) (λ c. word (relation_kind c.0) ++ sum_outline c.1.value) on_any_word (λ c s. refl) (λ z. z.compared)
 compared_held (Some c) = r-some (r-past_any (λ d. relation_kind d.0) (relation_kind c.0) (r-at (λ d. d.1.value) c.1.value.1)) (λ s i. refl) (λ s. refl) (λ z. z.compared)
 
-expr_held : (y : WithExpr) → Reads expr_parts (λ z. construct constructs.Expression (expr_shown z)) never (expr_parts (expr_of y)) (construct constructs.Expression (expr_shown (expr_of y)))
+expr_held : (y : WithExpr readable) → Reads expr_parts (λ z. construct constructs.Expression (expr_shown z)) never (expr_parts (expr_of readable y)) (construct constructs.Expression (expr_shown (expr_of readable y)))
 expr_held y = r-held constructs.Expression (r-both (r-at (λ z. z.left) y.left.1) (compared_held y.compared)) (λ s. refl)
 
-pub expr_layer : (x : Expr-F Factor Selector Designator Element ElementList Expr ExprList SimpleExpression Term) (y : WithExpr) → expr_of y ≡ x → HeldExpr (roll-Expr x)
-expr_layer x y is = r-layer out-Expr expr_parts (λ z. construct constructs.Expression (expr_shown z)) expr_told expr_tells expr_out (roll-Expr x) (expr_of y) (out-roll-Expr x ∙ sym is) (expr_held y)
+pub expr_layer : (y : WithExpr readable) → readable.expr (roll-Expr (expr_of readable y))
+expr_layer y = r-layer out-Expr expr_parts (λ z. construct constructs.Expression (expr_shown z)) expr_told expr_tells expr_out _ _ (out-roll-Expr (expr_of readable y)) (expr_held y)
 
 -- ---- terms and sums
 
@@ -71,14 +66,11 @@ alone : {X A B : Type 0} (f : X → A) (g : X → B) (xs : List X) (n : Lone) �
 alone f g [] n = refl
 alone f g (x ∷ xs) n = refl
 
-abbrev term_parts : Term-F Factor Selector Designator Element ElementList Expr ExprList SimpleExpression Term → Phrase × List Phrase
+abbrev term_parts : TermLayer → Phrase × List Phrase
 term_parts z = (factor_phrase z.first, map (λ p. factor_phrase p.1) z.rest.items)
 
 abbrev term_told : Phrase × List Phrase → Phrase
 term_told p = record { piece = both p.0.piece (pieces (λ q. both token q.piece) p.1); name = if_alone p.1 p.0.name }
-
-abbrev term_shown : Term-F Factor Selector Designator Element ElementList Expr ExprList SimpleExpression Term → Out
-term_shown t = factor_outline t.first ++ each (λ p. word (mul_kind p.0) ++ factor_outline p.1) t.rest.items
 
 phrase : (p q : Piece) (m n : Lone) → p ≡ q → m ≡ n → (let x : Phrase = record { piece = p; name = m } in x) ≡ record { piece = q; name = n }
 phrase p q m n e f = rw (e, f) refl
@@ -89,13 +81,13 @@ term_tells t = fold_out-Term Phrase Selected Denoted Piece Piece Phrase Listed P
     (ap (λ (o : Piece). both (factor_phrase (out-Term t).first).piece o) (each-map (λ (p : MulOperator × Phrase). both token p.1.piece) _ (out-Term t).rest.items ∙ each_told (λ (p : MulOperator × Factor). factor_phrase p.1) (λ q. both token q.piece) (out-Term t).rest.items))
     (alone _ (λ (p : MulOperator × Factor). factor_phrase p.1) (out-Term t).rest.items (factor_phrase (out-Term t).first).name)
 
-term_held : (y : WithTerm) → Reads term_parts (λ z. construct constructs.Term (term_shown z)) never (term_parts (term_of y)) (construct constructs.Term (term_shown (term_of y)))
+term_held : (y : WithTerm readable) → Reads term_parts (λ z. construct constructs.Term (term_shown z)) never (term_parts (term_of readable y)) (construct constructs.Term (term_shown (term_of readable y)))
 term_held y = r-held constructs.Term (r-both (r-at (λ z. z.first) y.first.1) (r-at (λ z. z.rest.items) (r-map (λ p. factor_phrase p.1) (λ p. word (mul_kind p.0) ++ factor_outline p.1) never on_any_word (λ p s. refl) (λ s i. refl) (λ p s. refl) _ y.rest.items (λ p. r-past_any (λ q. mul_kind q.0) (mul_kind p.0) (r-at (λ q. q.1) p.1.1))))) (λ s. refl)
 
-pub term_layer : (x : Term-F Factor Selector Designator Element ElementList Expr ExprList SimpleExpression Term) (y : WithTerm) → term_of y ≡ x → HeldTerm (roll-Term x)
-term_layer x y is = r-layer out-Term term_parts (λ z. construct constructs.Term (term_shown z)) term_told term_tells term_out (roll-Term x) (term_of y) (out-roll-Term x ∙ sym is) (term_held y)
+pub term_layer : (y : WithTerm readable) → readable.term (roll-Term (term_of readable y))
+term_layer y = r-layer out-Term term_parts (λ z. construct constructs.Term (term_shown z)) term_told term_tells term_out _ _ (out-roll-Term (term_of readable y)) (term_held y)
 
-abbrev sum_parts : SimpleExpression-F Factor Selector Designator Element ElementList Expr ExprList SimpleExpression Term → Option Bool × (Phrase × List Phrase)
+abbrev sum_parts : SumLayer → Option Bool × (Phrase × List Phrase)
 sum_parts z = (maybe (λ x. true) z.sign, (term_phrase z.first, map (λ p. term_phrase p.1) z.rest.items))
 
 abbrev sum_told : Option Bool × (Phrase × List Phrase) → Phrase
@@ -116,12 +108,12 @@ term_begins : (t : Term) (r s : Out) → on_any_word ((term_outline t ++ r) ++ s
 unfolding construct
 term_begins t r s = ap (λ (o : Out). on_any_word ((o ++ r) ++ s)) (term_out t)
 
-sign_held : (g : Option Sign) → Reads {Z = SimpleExpression-F Factor Selector Designator Element ElementList Expr ExprList SimpleExpression Term} (λ z. maybe (λ x. true) z.sign) (λ z. if_there (λ x. word (sign_kind x)) z.sign) on_any_word (maybe (λ x. true) g) (if_there (λ x. word (sign_kind x)) g)
+sign_held : (g : Option Sign) → Reads {Z = SumLayer} (λ z. maybe (λ x. true) z.sign) (λ z. if_there (λ x. word (sign_kind x)) z.sign) on_any_word (maybe (λ x. true) g) (if_there (λ x. word (sign_kind x)) g)
 sign_held None = r-none (λ x. true) (λ x. word (sign_kind x)) on_any_word (λ x s. refl) (λ z. z.sign)
 sign_held (Some g) = r-some (r-any sign_kind (sign_kind g)) (λ s i. refl) (λ s. refl) (λ z. z.sign)
 
-sum_held : (y : WithSum) → Reads sum_parts (λ z. construct constructs.SimpleExpression (sum_shown z)) never (sum_parts (sum_of y)) (construct constructs.SimpleExpression (sum_shown (sum_of y)))
+sum_held : (y : WithSum readable) → Reads sum_parts (λ z. construct constructs.SimpleExpression (sum_shown z)) never (sum_parts (sum_of readable y)) (construct constructs.SimpleExpression (sum_shown (sum_of readable y)))
 sum_held y = r-held constructs.SimpleExpression (r-until (sign_held y.sign) (λ s i. term_begins y.first.0 _ s) (λ z s i. term_begins z.first _ s) (r-both (r-at (λ z. z.first) y.first.1) (r-at (λ z. z.rest.items) (r-map (λ p. term_phrase p.1) (λ p. word (add_kind p.0) ++ term_outline p.1) never on_any_word (λ p s. refl) (λ s i. refl) (λ p s. refl) _ y.rest.items (λ p. r-past_any (λ q. add_kind q.0) (add_kind p.0) (r-at (λ q. q.1) p.1.1)))))) (λ s. refl)
 
-pub sum_layer : (x : SimpleExpression-F Factor Selector Designator Element ElementList Expr ExprList SimpleExpression Term) (y : WithSum) → sum_of y ≡ x → HeldSum (roll-SimpleExpression x)
-sum_layer x y is = r-layer out-SimpleExpression sum_parts (λ z. construct constructs.SimpleExpression (sum_shown z)) sum_told sum_tells sum_out (roll-SimpleExpression x) (sum_of y) (out-roll-SimpleExpression x ∙ sym is) (sum_held y)
+pub sum_layer : (y : WithSum readable) → readable.sum (roll-SimpleExpression (sum_of readable y))
+sum_layer y = r-layer out-SimpleExpression sum_parts (λ z. construct constructs.SimpleExpression (sum_shown z)) sum_told sum_tells sum_out _ _ (out-roll-SimpleExpression (sum_of readable y)) (sum_held y)

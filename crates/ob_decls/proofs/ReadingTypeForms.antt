@@ -7,10 +7,8 @@ use Rattle.ob_tree.specs.declared.name.Qualident.{Qualident}
 use Rattle.ob_tree.specs.declared.expression.ExprList.{ExprList, out-ExprList}
 use Rattle.ob_tree.specs.declared.declaration.Parameters.{Parameters}
 use Rattle.ob_tree.specs.declared.declaration.TypeForm.TheOpen as layers
-use Rattle.ob_tree.specs.declared.declaration.TypeForm.{TypeForm, TypeForm-F}
-use Rattle.ob_tree.specs.declared.declaration.Fields.{Fields}
+use Rattle.ob_tree.specs.declared.declaration.TypeForm.{TypeForm}
 use Rattle.ob_tree.specs.declared.declaration.Record.{Record}
-use Rattle.ob_tree.specs.declared.declaration.VarDecl.{VarDecl}
 use Rattle.ob_tree.specs.Constructs as constructs
 use Rattle.ob_tree.specs.Marks.{Out, construct, word, if_there}
 use Rattle.ob_tree.specs.Names.{qualident_outline}
@@ -18,6 +16,7 @@ use Rattle.ob_tree.specs.Expressions.{expr_outline, expr_list_outline}
 use Rattle.ob_tree.specs.Types.{parameters_outline, type_outline, record_outline}
 use Rattle.ob_tree.proofs.ExpressionLayers.{expr_list_shown, expr_list_out}
 use Rattle.ob_tree.proofs.TypeLayers.{type_shown}
+use Rattle.ob_tree.proofs.TypeInduction.{TypeLayer}
 use Rattle.ob_rows.specs.declared.rows.Part.TheVariants as parts
 use Rattle.ob_rows.specs.Parts.{Piece, token, both, tells, within, opens_block}
 use Rattle.ob_rows.specs.Parts.{if_there as there, each as pieces}
@@ -52,10 +51,7 @@ r-lengths l = r-made lengths_told (λ z. z) lengths_tells expr_list_out (lengths
 
 -- ---- types
 
-abbrev Form : Type 0
-Form = TypeForm-F TypeForm Fields Record VarDecl
-
-pub named_same : (p : Qualident) (z : Form) (r s : Out) → construct constructs.NamedType (qualident_outline p) ++ r ≡ type_shown z ++ s → (type_name_piece p ≡ told.type_shown z) × (r ≡ s)
+pub named_same : (p : Qualident) (z : TypeLayer) (r s : Out) → construct constructs.NamedType (qualident_outline p) ++ r ≡ type_shown z ++ s → (type_name_piece p ≡ told.type_shown z) × (r ≡ s)
 unfolding construct
 named_same p (layers.Named q) r s e = let h = (r-held constructs.NamedType (r-qualident p) (λ t. refl)).same q r s refl refl e in (ap type_name_piece h.0, h.1)
 named_same p (layers.ArrayOf l t) r s e = absurd cc
@@ -71,7 +67,7 @@ array_held : {a b : Piece} {o q : Out} → Reads lengths_piece expr_list_outline
     (construct constructs.ArrayType (word kinds.Array ++ (o ++ (word kinds.Of ++ q))))
 array_held x y = r-held constructs.ArrayType (r-past kinds.Array (r-until (r-at (λ w. w.0.value) x) (λ s i. refl) (λ z s i. refl) (r-past kinds.Of (r-at (λ w. w.1.value) y)))) (λ s. refl)
 
-pub array_same : (a b : Piece) (o q : Out) → Reads lengths_piece expr_list_outline (on_word kinds.Comma) a o → Reads type_piece type_outline never b q → (z : Form) (r s : Out) → construct constructs.ArrayType (word kinds.Array ++ (o ++ (word kinds.Of ++ q))) ++ r ≡ type_shown z ++ s → (array_told (a, b) ≡ told.type_shown z) × (r ≡ s)
+pub array_same : (a b : Piece) (o q : Out) → Reads lengths_piece expr_list_outline (on_word kinds.Comma) a o → Reads type_piece type_outline never b q → (z : TypeLayer) (r s : Out) → construct constructs.ArrayType (word kinds.Array ++ (o ++ (word kinds.Of ++ q))) ++ r ≡ type_shown z ++ s → (array_told (a, b) ≡ told.type_shown z) × (r ≡ s)
 unfolding construct
 array_same a b o q x y (layers.Named p) r s e = absurd cc
 array_same a b o q x y (layers.ArrayOf l t) r s e = let h = (array_held x y).same (l, t) r s refl refl e in (ap array_told h.0, h.1)
@@ -82,7 +78,7 @@ array_same a b o q x y (layers.ProcOf p) r s e = absurd cc
 abbrev pub record_form_told : Piece → Piece
 record_form_told p = tells (part_here parts.Record) p
 
-pub record_same : (x : Record) → Reads record_piece record_outline never (record_piece x) (record_outline x) → (z : Form) (r s : Out) → construct constructs.RecordType (record_outline x) ++ r ≡ type_shown z ++ s → (record_form_told (record_piece x) ≡ told.type_shown z) × (r ≡ s)
+pub record_same : (x : Record) → Reads record_piece record_outline never (record_piece x) (record_outline x) → (z : TypeLayer) (r s : Out) → construct constructs.RecordType (record_outline x) ++ r ≡ type_shown z ++ s → (record_form_told (record_piece x) ≡ told.type_shown z) × (r ≡ s)
 unfolding construct
 record_same x y (layers.Named p) r s e = absurd cc
 record_same x y (layers.ArrayOf l t) r s e = absurd cc
@@ -97,7 +93,7 @@ pointer_held : {b : Piece} {q : Out} → Reads type_piece type_outline never b q
     Reads {Z = Box TypeForm Global} (λ w. type_piece w.value) (λ w. construct constructs.PointerType (word kinds.Pointer ++ (word kinds.To ++ type_outline w.value))) never b (construct constructs.PointerType (word kinds.Pointer ++ (word kinds.To ++ q)))
 pointer_held y = r-held constructs.PointerType (r-past kinds.Pointer (r-past kinds.To (r-at (λ w. w.value) y))) (λ s. refl)
 
-pub pointer_same : (b : Piece) (q : Out) → Reads type_piece type_outline never b q → (z : Form) (r s : Out) → construct constructs.PointerType (word kinds.Pointer ++ (word kinds.To ++ q)) ++ r ≡ type_shown z ++ s → (pointer_told b ≡ told.type_shown z) × (r ≡ s)
+pub pointer_same : (b : Piece) (q : Out) → Reads type_piece type_outline never b q → (z : TypeLayer) (r s : Out) → construct constructs.PointerType (word kinds.Pointer ++ (word kinds.To ++ q)) ++ r ≡ type_shown z ++ s → (pointer_told b ≡ told.type_shown z) × (r ≡ s)
 unfolding construct
 pointer_same b q y (layers.Named p) r s e = absurd cc
 pointer_same b q y (layers.ArrayOf l t) r s e = absurd cc
@@ -114,7 +110,7 @@ procedure_seen o = ap (λ (p : Piece). tells (part_here parts.Procedure) (opens_
 procedure_held : (o : Option Parameters) → Reads {Z = Option Parameters} (maybe parameters_piece) (λ w. construct constructs.ProcedureType (word kinds.Procedure ++ if_there parameters_outline w)) never (maybe parameters_piece o) (construct constructs.ProcedureType (word kinds.Procedure ++ if_there parameters_outline o))
 procedure_held o = r-held constructs.ProcedureType (r-past kinds.Procedure (r-heading (λ w. w) o)) (λ s. refl)
 
-pub procedure_same : (o : Option Parameters) (z : Form) (r s : Out) → construct constructs.ProcedureType (word kinds.Procedure ++ if_there parameters_outline o) ++ r ≡ type_shown z ++ s → (told.type_shown (layers.ProcOf o) ≡ told.type_shown z) × (r ≡ s)
+pub procedure_same : (o : Option Parameters) (z : TypeLayer) (r s : Out) → construct constructs.ProcedureType (word kinds.Procedure ++ if_there parameters_outline o) ++ r ≡ type_shown z ++ s → (told.type_shown (layers.ProcOf o) ≡ told.type_shown z) × (r ≡ s)
 unfolding construct
 procedure_same o (layers.Named p) r s e = absurd cc
 procedure_same o (layers.ArrayOf l t) r s e = absurd cc

@@ -7,17 +7,18 @@ use Rattle.ob_tree.specs.declared.name.Identdef.{Identdef}
 use Rattle.ob_tree.specs.declared.name.Qualident.{Qualident}
 use Rattle.ob_tree.specs.declared.declaration.TypeForm.TheOpen as layers
 use Rattle.ob_tree.specs.declared.declaration.TypeForm.TheShapes as shapes
-use Rattle.ob_tree.specs.declared.declaration.TypeForm.{TypeForm, TypeForm-F, roll-TypeForm, out-TypeForm, out-roll-TypeForm, ind-TypeForm, map-TypeForm}
-use Rattle.ob_tree.specs.declared.declaration.Fields.{Fields, Fields-F, roll-Fields, out-Fields, out-roll-Fields, map-Fields}
-use Rattle.ob_tree.specs.declared.declaration.Record.{Record, Record-F, roll-Record, out-Record, out-roll-Record, map-Record}
-use Rattle.ob_tree.specs.declared.declaration.VarDecl.{VarDecl, VarDecl-F, roll-VarDecl, out-VarDecl, out-roll-VarDecl, ind-VarDecl, map-VarDecl}
+use Rattle.ob_tree.specs.declared.declaration.TypeForm.{TypeForm, roll-TypeForm, out-TypeForm, out-roll-TypeForm}
+use Rattle.ob_tree.specs.declared.declaration.Fields.{Fields, roll-Fields, out-Fields, out-roll-Fields}
+use Rattle.ob_tree.specs.declared.declaration.Record.{Record, roll-Record, out-Record, out-roll-Record}
+use Rattle.ob_tree.specs.declared.declaration.VarDecl.{VarDecl, roll-VarDecl, out-VarDecl, out-roll-VarDecl}
 use Rattle.ob_tree.specs.Constructs as constructs
 use Rattle.ob_tree.specs.Marks.{Out, Begins, Ends, Identifier, Value, Word, construct, word, if_there, if_so}
 use Rattle.ob_tree.specs.Names.{qualident_outline}
 use Rattle.ob_tree.specs.Types.{type_outline, fields_outline, record_outline, var_outline}
 use Rattle.ob_tree.specs.Leaves.{same_kind}
 use Rattle.ob_tree.proofs.TypeLayers.{type_shown, fields_shown, record_shown, var_shown, type_out, fields_out, record_out, var_out}
-use Rattle.ob_tree.proofs.Closed.{With}
+use Rattle.ob_tree.proofs.ExpressionInduction.{With}
+use Rattle.ob_tree.proofs.TypeInduction.{TypePredicates, TypeSteps, FieldsLayer, RecordLayer, VarLayer, WithType, WithFields, WithRecord, WithVar, type_of, fields_of, record_of, var_of, type_induction, var_induction}
 use Rattle.ob_rows.specs.declared.rows.Sort.TheVariants as sorts
 use Rattle.ob_rows.specs.Parts.{Piece, token, both, tells, within, declaring}
 use Rattle.ob_rows.specs.Parts.{if_there as there, if_so as so}
@@ -33,55 +34,25 @@ use Rattle.ob_decls.proofs.ReadingTypeForms.{r-lengths, named_same, array_same, 
 
 -- each part can be read
 
-abbrev HeldTypeForm : TypeForm → Type 0
-HeldTypeForm x = Reads type_piece type_outline never (type_piece x) (type_outline x)
-
-abbrev HeldFields : Fields → Type 0
-HeldFields x = Reads fields_piece fields_outline (on_list kinds.Semicolon) (fields_piece x) (fields_outline x)
-
-abbrev HeldRecord : Record → Type 0
-HeldRecord x = Reads record_piece record_outline never (record_piece x) (record_outline x)
-
-abbrev HeldVarDecl : VarDecl → Type 0
-HeldVarDecl x = Reads var_piece var_outline never (var_piece x) (var_outline x)
-
--- a layer whose parts can be read, and the layer itself
-
-abbrev WithTypeForm : Type 0
-WithTypeForm = TypeForm-F (With HeldTypeForm) (With HeldFields) (With HeldRecord) (With HeldVarDecl)
-
-abbrev type_of : WithTypeForm → TypeForm-F TypeForm Fields Record VarDecl
-type_of = map-TypeForm (With HeldTypeForm) (With HeldFields) (With HeldRecord) (With HeldVarDecl) TypeForm Fields Record VarDecl (λ e. e.0) (λ e. e.0) (λ e. e.0) (λ e. e.0)
-
-abbrev WithFields : Type 0
-WithFields = Fields-F (With HeldTypeForm) (With HeldFields) (With HeldRecord) (With HeldVarDecl)
-
-abbrev fields_of : WithFields → Fields-F TypeForm Fields Record VarDecl
-fields_of = map-Fields (With HeldTypeForm) (With HeldFields) (With HeldRecord) (With HeldVarDecl) TypeForm Fields Record VarDecl (λ e. e.0) (λ e. e.0) (λ e. e.0) (λ e. e.0)
-
-abbrev WithRecord : Type 0
-WithRecord = Record-F (With HeldTypeForm) (With HeldFields) (With HeldRecord) (With HeldVarDecl)
-
-abbrev record_of : WithRecord → Record-F TypeForm Fields Record VarDecl
-record_of = map-Record (With HeldTypeForm) (With HeldFields) (With HeldRecord) (With HeldVarDecl) TypeForm Fields Record VarDecl (λ e. e.0) (λ e. e.0) (λ e. e.0) (λ e. e.0)
-
-abbrev WithVarDecl : Type 0
-WithVarDecl = VarDecl-F (With HeldTypeForm) (With HeldFields) (With HeldRecord) (With HeldVarDecl)
-
-abbrev var_of : WithVarDecl → VarDecl-F TypeForm Fields Record VarDecl
-var_of = map-VarDecl (With HeldTypeForm) (With HeldFields) (With HeldRecord) (With HeldVarDecl) TypeForm Fields Record VarDecl (λ e. e.0) (λ e. e.0) (λ e. e.0) (λ e. e.0)
+abbrev predicates : TypePredicates
+predicates = record {
+  type = λ x. Reads type_piece type_outline never (type_piece x) (type_outline x);
+  fields = λ x. Reads fields_piece fields_outline (on_list kinds.Semicolon) (fields_piece x) (fields_outline x);
+  record_type = λ x. Reads record_piece record_outline never (record_piece x) (record_outline x);
+  var = λ x. Reads var_piece var_outline never (var_piece x) (var_outline x);
+}
 
 -- ---- types
 
-type_held : (y : WithTypeForm) → Reads told.type_shown type_shown never (told.type_shown (type_of y)) (type_shown (type_of y))
+type_held : (y : WithType predicates) → Reads told.type_shown type_shown never (told.type_shown (type_of predicates y)) (type_shown (type_of predicates y))
 type_held (layers.Named q) = record { same = λ z r s i j e. named_same q z r s e }
 type_held (layers.ArrayOf l t) = record { same = λ z r s i j e. array_same _ _ _ _ (r-lengths l.value) t.value.1 z r s e }
 type_held (layers.RecordOf x) = record { same = λ z r s i j e. record_same x.0 x.1 z r s e }
 type_held (layers.PointerTo t) = record { same = λ z r s i j e. pointer_same _ _ t.value.1 z r s e }
 type_held (layers.ProcOf o) = record { same = λ z r s i j e. procedure_same o z r s e }
 
-type_layer : (x : TypeForm-F TypeForm Fields Record VarDecl) (y : WithTypeForm) → type_of y ≡ x → HeldTypeForm (roll-TypeForm x)
-type_layer x y is = r-layer out-TypeForm told.type_shown type_shown (λ a. a) told.type_told type_out (roll-TypeForm x) (type_of y) (out-roll-TypeForm x ∙ sym is) (type_held y)
+type_layer : (y : WithType predicates) → predicates.type (roll-TypeForm (type_of predicates y))
+type_layer y = r-layer out-TypeForm told.type_shown type_shown (λ a. a) told.type_told type_out _ _ (out-roll-TypeForm (type_of predicates y)) (type_held y)
 
 -- ---- fields
 
@@ -115,7 +86,7 @@ closing_ends false (Identifier r n ∷ ms) i = refl
 closing_ends false (Value l n ∷ ms) i = refl
 closing_ends false (Word w ∷ ms) i = not_so _ _ i
 
-abbrev fields_parts : Fields-F TypeForm Fields Record VarDecl → Piece × (List Piece × Bool)
+abbrev fields_parts : FieldsLayer → Piece × (List Piece × Bool)
 fields_parts z = (var_piece z.first, (map var_piece z.rest.items, z.closing_semicolon))
 
 abbrev fields_told : Piece × (List Piece × Bool) → Piece
@@ -129,18 +100,18 @@ further_field : (v : VarDecl) (s : Out) → on_further ((word kinds.Semicolon ++
 unfolding construct
 further_field v s = refl
 
-fields_held : (y : WithFields) → Reads fields_parts fields_shown (on_list kinds.Semicolon) (fields_parts (fields_of y)) (fields_shown (fields_of y))
+fields_held : (y : WithFields predicates) → Reads fields_parts fields_shown (on_list kinds.Semicolon) (fields_parts (fields_of predicates y)) (fields_shown (fields_of predicates y))
 fields_held y = r-both (r-at (λ z. z.first) (r-held constructs.FieldList y.first.1 (λ s. refl)))
     (r-until (r-at (λ z. z.rest.items) (r-map var_piece (λ v. word kinds.Semicolon ++ construct constructs.FieldList (var_outline v)) never on_further further_field (λ s i. refl) (λ v s. refl) _ y.rest.items (λ v. r-past kinds.Semicolon (r-held constructs.FieldList v.1 (λ s. refl)))))
     (λ s i. closing_ends y.closing_semicolon s i) (λ z s i. closing_ends z.closing_semicolon s i)
     (r-so kinds.Semicolon (on_list kinds.Semicolon) (λ s. refl) (λ z. z.closing_semicolon) y.closing_semicolon))
 
-fields_layer : (x : Fields-F TypeForm Fields Record VarDecl) (y : WithFields) → fields_of y ≡ x → HeldFields (roll-Fields x)
-fields_layer x y is = r-layer out-Fields fields_parts fields_shown fields_told fields_tells fields_out (roll-Fields x) (fields_of y) (out-roll-Fields x ∙ sym is) (fields_held y)
+fields_layer : (y : WithFields predicates) → predicates.fields (roll-Fields (fields_of predicates y))
+fields_layer y = r-layer out-Fields fields_parts fields_shown fields_told fields_tells fields_out _ _ (out-roll-Fields (fields_of predicates y)) (fields_held y)
 
 -- ---- records
 
-abbrev record_parts : Record-F TypeForm Fields Record VarDecl → Option Qualident × Option Piece
+abbrev record_parts : RecordLayer → Option Qualident × Option Piece
 record_parts z = (maybe (λ q. q) z.base, maybe (λ f. fields_piece f.value) z.fields)
 
 abbrev record_told : Option Qualident × Option Piece → Piece
@@ -165,24 +136,24 @@ unfolding construct
 after_base None s = refl
 after_base (Some f) s = ap (λ (o : Out). on_word kinds.LeftParen ((o ++ word kinds.End) ++ s)) (fields_out f.value)
 
-abbrev fields_at : Option (Box (With HeldFields) Global) → Option (Box Fields Global)
-fields_at = (shapes.former-Record-fields).map (With HeldFields) Fields (λ e. e.0)
+abbrev fields_at : Option (Box (With predicates.fields) Global) → Option (Box Fields Global)
+fields_at = (shapes.former-Record-fields).map (With predicates.fields) Fields (λ e. e.0)
 
-r-fields : (o : Option (Box (With HeldFields) Global)) →
-    Reads {Z = Record-F TypeForm Fields Record VarDecl} (λ z. maybe (λ f. fields_piece f.value) z.fields) (λ z. if_there (λ f. fields_outline f.value) z.fields) (on_list kinds.Semicolon) (maybe (λ f. fields_piece f.value) (fields_at o)) (if_there (λ f. fields_outline f.value) (fields_at o))
+r-fields : (o : Option (Box (With predicates.fields) Global)) →
+    Reads {Z = RecordLayer} (λ z. maybe (λ f. fields_piece f.value) z.fields) (λ z. if_there (λ f. fields_outline f.value) z.fields) (on_list kinds.Semicolon) (maybe (λ f. fields_piece f.value) (fields_at o)) (if_there (λ f. fields_outline f.value) (fields_at o))
 r-fields None = r-none (λ f. fields_piece f.value) (λ f. fields_outline f.value) (on_list kinds.Semicolon) (λ f s. fields_begin f.value s) (λ z. z.fields)
 r-fields (Some f) = r-some (r-at (λ b. b.value) f.value.1) (λ s i. i) (λ s. fields_begin f.value.0 s) (λ z. z.fields)
 
-record_held : (y : WithRecord) → Reads record_parts record_shown never (record_parts (record_of y)) (record_shown (record_of y))
+record_held : (y : WithRecord predicates) → Reads record_parts record_shown never (record_parts (record_of predicates y)) (record_shown (record_of predicates y))
 record_held y = r-past kinds.Record (r-until (r-there (on_word kinds.LeftParen) (λ z. z.base) y.base r-base (λ s i. refl) (λ q s. refl)) (λ s i. after_base (fields_at y.fields) s) (λ z s i. after_base z.fields s)
     (r-then kinds.End (r-fields y.fields) (λ s. refl)))
 
-record_layer : (x : Record-F TypeForm Fields Record VarDecl) (y : WithRecord) → record_of y ≡ x → HeldRecord (roll-Record x)
-record_layer x y is = r-layer out-Record record_parts record_shown record_told record_tells record_out (roll-Record x) (record_of y) (out-roll-Record x ∙ sym is) (record_held y)
+record_layer : (y : WithRecord predicates) → predicates.record_type (roll-Record (record_of predicates y))
+record_layer y = r-layer out-Record record_parts record_shown record_told record_tells record_out _ _ (out-roll-Record (record_of predicates y)) (record_held y)
 
 -- ---- names of one type
 
-abbrev var_parts : VarDecl-F TypeForm Fields Record VarDecl → (Identdef × List Identdef) × Piece
+abbrev var_parts : VarLayer → (Identdef × List Identdef) × Piece
 var_parts z = ((z.names.first, map (λ i. i) z.names.rest.items), type_piece z.form)
 
 abbrev var_told : (Identdef × List Identdef) × Piece → Piece
@@ -195,16 +166,24 @@ var_tells v = told.var_out v ∙
 star_ends : (s : Out) → on_words (kinds.Comma ∷ kinds.Star ∷ []) s ≡ false → on_word kinds.Star s ≡ false
 star_ends s i = not_the_first kinds.Star [] s (none_behind kinds.Comma (kinds.Star ∷ []) s i)
 
-var_held : (y : WithVarDecl) → Reads var_parts var_shown never (var_parts (var_of y)) (var_shown (var_of y))
+var_held : (y : WithVar predicates) → Reads var_parts var_shown never (var_parts (var_of predicates y)) (var_shown (var_of predicates y))
 var_held y = r-until (r-at (λ z. z.names) (r-separated kinds.Comma (on_words (kinds.Comma ∷ kinds.Star ∷ [])) r-identdef (λ s. refl) (λ s. refl) star_ends y.names)) (λ s i. refl) (λ z s i. refl) (r-past kinds.Colon (r-at (λ z. z.form) y.form.1))
 
-var_layer : (x : VarDecl-F TypeForm Fields Record VarDecl) (y : WithVarDecl) → var_of y ≡ x → HeldVarDecl (roll-VarDecl x)
-var_layer x y is = r-layer out-VarDecl var_parts var_shown var_told var_tells var_out (roll-VarDecl x) (var_of y) (out-roll-VarDecl x ∙ sym is) (var_held y)
+var_layer : (y : WithVar predicates) → predicates.var (roll-VarDecl (var_of predicates y))
+var_layer y = r-layer out-VarDecl var_parts var_shown var_told var_tells var_out _ _ (out-roll-VarDecl (var_of predicates y)) (var_held y)
 
 -- ---- every tree can be read
 
+steps : TypeSteps predicates
+steps = record {
+  type = type_layer;
+  fields = fields_layer;
+  record_type = record_layer;
+  var = var_layer;
+}
+
 pub r-type : (x : TypeForm) → Reads type_piece type_outline never (type_piece x) (type_outline x)
-r-type = ind-TypeForm HeldTypeForm HeldFields HeldRecord HeldVarDecl type_layer fields_layer record_layer var_layer
+r-type = type_induction predicates steps
 
 pub r-var : (x : VarDecl) → Reads var_piece var_outline never (var_piece x) (var_outline x)
-r-var = ind-VarDecl HeldTypeForm HeldFields HeldRecord HeldVarDecl type_layer fields_layer record_layer var_layer
+r-var = var_induction predicates steps

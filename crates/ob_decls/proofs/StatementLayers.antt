@@ -9,15 +9,16 @@ use Rattle.ob_tree.specs.declared.name.OneOrMore.{OneOrMore}
 use Rattle.ob_tree.specs.declared.name.Qualident.{Qualident}
 use Rattle.ob_tree.specs.declared.statement.Label.TheVariants as labels
 use Rattle.ob_tree.specs.declared.statement.LabelRange.{LabelRange}
-use Rattle.ob_tree.specs.declared.statement.Case.{Case, Case-F, fold_out-Case, out-Case, map-Case}
+use Rattle.ob_tree.specs.declared.statement.Case.{Case, fold_out-Case, roll-Case, out-Case, out-roll-Case, map-Case}
 use Rattle.ob_tree.specs.declared.statement.Case.TheOpen as layers
 use Rattle.ob_tree.specs.declared.statement.Case.TheShapes as shapes
 use Rattle.ob_tree.specs.declared.statement.Case.TheVariants as cases
-use Rattle.ob_tree.specs.declared.statement.Stmt.{Stmt, Stmt-F, fold_out-Stmt, out-Stmt, map-Stmt}
+use Rattle.ob_tree.specs.declared.statement.Stmt.{Stmt, fold_out-Stmt, roll-Stmt, out-Stmt, out-roll-Stmt, map-Stmt}
 use Rattle.ob_tree.specs.declared.statement.Stmt.TheVariants as statements
-use Rattle.ob_tree.specs.declared.statement.StatementSequence.{StatementSequence, fold_out-StatementSequence, out-StatementSequence}
-use Rattle.ob_tree.specs.declared.statement.Branch.{Branch, fold_out-Branch, out-Branch}
-use Rattle.ob_tree.specs.declared.statement.For.{For, fold_out-For, out-For}
+use Rattle.ob_tree.specs.declared.statement.StatementSequence.{StatementSequence, fold_out-StatementSequence, roll-StatementSequence, out-StatementSequence, out-roll-StatementSequence}
+use Rattle.ob_tree.specs.declared.statement.Branch.{Branch, fold_out-Branch, roll-Branch, out-Branch, out-roll-Branch}
+use Rattle.ob_tree.specs.declared.statement.For.{For, fold_out-For, roll-For, out-For, out-roll-For}
+use Rattle.ob_tree.proofs.StatementInduction.{CaseLayer, StmtLayer, BranchLayer, ForLayer, BlockLayer}
 use Rattle.ob_rows.specs.Parts.{Piece, nothing, token, both, tells, if_there}
 use Rattle.ob_decls.specs.Expressions.{used, designator_row, each_after, expr_piece, designator_piece}
 use Rattle.ob_decls.specs.Statements.{variable_piece, qualident_piece, label_piece, label_range_piece, case_step, stmt_step, block_step, branch_step, for_step, case_piece, stmt_piece, block_piece, branch_piece, for_piece}
@@ -52,14 +53,14 @@ pub label_range_out : (r : LabelRange) → label_range_piece r ≡ both (label_p
 unfolding label_range_piece
 label_range_out r = refl
 
-abbrev pub case_shown : Case-F Case Stmt Branch For StatementSequence → Piece
+abbrev pub case_shown : CaseLayer → Piece
 case_shown layers.Nothing = nothing
 case_shown (layers.Labelled ranges body) = both (label_range_piece ranges.first) (both (each_after label_range_piece ranges.rest.items) (both token (block_piece body.value)))
 
 abbrev pub if_shown : Box Branch Global → Piece → Piece → Piece
 if_shown first rest otherwise = both token (both (branch_piece first.value) (both rest (both otherwise token)))
 
-abbrev pub stmt_shown : Stmt-F Case Stmt Branch For StatementSequence → Piece
+abbrev pub stmt_shown : StmtLayer → Piece
 stmt_shown layers.Empty = nothing
 stmt_shown (layers.Assign d e) = both (designator_piece true d) (both token (expr_piece e))
 stmt_shown (layers.Call d) = designator_piece false d
@@ -69,7 +70,18 @@ stmt_shown (layers.While first rest) = both token (both (branch_piece first.valu
 stmt_shown (layers.Repeat body e) = both token (both (block_piece body.value) (both token (expr_piece e)))
 stmt_shown (layers.For f) = for_piece f.value
 
-case_seen : (x : Case-F Case Stmt Branch For StatementSequence) → case_step (map-Case Case Stmt Branch For StatementSequence Piece Piece Piece Piece Piece case_piece stmt_piece branch_piece for_piece block_piece x) ≡ case_shown x
+abbrev pub block_shown : BlockLayer → Piece
+block_shown b = both (stmt_piece b.first) (each_after stmt_piece b.rest.items)
+
+abbrev pub branch_shown : BranchLayer → Piece
+branch_shown b = both (expr_piece b.condition) (both token (block_piece b.body))
+
+abbrev pub for_shown : ForLayer → Piece
+for_shown f =
+    both token (both variable_piece (both token (both (expr_piece f.from) (both token (both (expr_piece f.to)
+    (both (if_there (λ e. both token (expr_piece e)) f.by) (both token (both (block_piece f.body) token))))))))
+
+case_seen : (x : CaseLayer) → case_step (map-Case Case Stmt Branch For StatementSequence Piece Piece Piece Piece Piece case_piece stmt_piece branch_piece for_piece block_piece x) ≡ case_shown x
 case_seen layers.Nothing = refl
 case_seen (layers.Labelled ranges body) = refl
 
@@ -77,7 +89,7 @@ case_out : (c : Case) → case_piece c ≡ case_shown (out-Case c)
 unfolding case_piece stmt_piece branch_piece for_piece block_piece
 case_out c = fold_out-Case Piece Piece Piece Piece Piece case_step stmt_step branch_step for_step block_step c ∙ case_seen (out-Case c)
 
-stmt_seen : (x : Stmt-F Case Stmt Branch For StatementSequence) → stmt_step (map-Stmt Case Stmt Branch For StatementSequence Piece Piece Piece Piece Piece case_piece stmt_piece branch_piece for_piece block_piece x) ≡ stmt_shown x
+stmt_seen : (x : StmtLayer) → stmt_step (map-Stmt Case Stmt Branch For StatementSequence Piece Piece Piece Piece Piece case_piece stmt_piece branch_piece for_piece block_piece x) ≡ stmt_shown x
 stmt_seen layers.Empty = refl
 stmt_seen (layers.Assign d e) = refl
 stmt_seen (layers.Call d) = refl
@@ -93,26 +105,42 @@ stmt_out : (s : Stmt) → stmt_piece s ≡ stmt_shown (out-Stmt s)
 unfolding case_piece stmt_piece branch_piece for_piece block_piece
 stmt_out s = fold_out-Stmt Piece Piece Piece Piece Piece case_step stmt_step branch_step for_step block_step s ∙ stmt_seen (out-Stmt s)
 
-pub block_out : (b : StatementSequence) → block_piece b ≡ both (stmt_piece (out-StatementSequence b).first) (each_after stmt_piece (out-StatementSequence b).rest.items)
+pub block_out : (b : StatementSequence) → block_piece b ≡ block_shown (out-StatementSequence b)
 unfolding block_piece stmt_piece
 block_out b =
     fold_out-StatementSequence Piece Piece Piece Piece Piece case_step stmt_step branch_step for_step block_step b
     ∙ ap (λ (o : Piece). both (stmt_piece (out-StatementSequence b).first) o) (each-map (λ (s : Piece). both token s) _ (out-StatementSequence b).rest.items)
 
-pub branch_out : (b : Branch) → branch_piece b ≡ both (expr_piece (out-Branch b).condition) (both token (block_piece (out-Branch b).body))
+pub branch_out : (b : Branch) → branch_piece b ≡ branch_shown (out-Branch b)
 unfolding branch_piece block_piece
 branch_out b = fold_out-Branch Piece Piece Piece Piece Piece case_step stmt_step branch_step for_step block_step b
 
-pub for_out : (f : For) → for_piece f ≡
-    both token (both variable_piece (both token (both (expr_piece (out-For f).from) (both token (both (expr_piece (out-For f).to)
-    (both (if_there (λ e. both token (expr_piece e)) (out-For f).by) (both token (both (block_piece (out-For f).body) token))))))))
+pub for_out : (f : For) → for_piece f ≡ for_shown (out-For f)
 unfolding for_piece block_piece
 for_out f = fold_out-For Piece Piece Piece Piece Piece case_step stmt_step branch_step for_step block_step f
 
 -- the same at a value that is made
 
-cased : (c : Case) (x : Case-F Case Stmt Branch For StatementSequence) → out-Case c ≡ x → case_piece c ≡ case_shown x
+cased : (c : Case) (x : CaseLayer) → out-Case c ≡ x → case_piece c ≡ case_shown x
 cased c x e = case_out c ∙ ap (λ y. case_shown y) e
+
+stated : (s : Stmt) (x : StmtLayer) → out-Stmt s ≡ x → stmt_piece s ≡ stmt_shown x
+stated s x e = stmt_out s ∙ ap (λ y. stmt_shown y) e
+
+pub case_rolled : (x : CaseLayer) → case_piece (roll-Case x) ≡ case_shown x
+case_rolled x = cased (roll-Case x) x (out-roll-Case x)
+
+pub stmt_rolled : (x : StmtLayer) → stmt_piece (roll-Stmt x) ≡ stmt_shown x
+stmt_rolled x = stated (roll-Stmt x) x (out-roll-Stmt x)
+
+pub branch_rolled : (x : BranchLayer) → branch_piece (roll-Branch x) ≡ branch_shown x
+branch_rolled x = branch_out (roll-Branch x) ∙ ap (λ y. branch_shown y) (out-roll-Branch x)
+
+pub for_rolled : (x : ForLayer) → for_piece (roll-For x) ≡ for_shown x
+for_rolled x = for_out (roll-For x) ∙ ap (λ y. for_shown y) (out-roll-For x)
+
+pub block_rolled : (x : BlockLayer) → block_piece (roll-StatementSequence x) ≡ block_shown x
+block_rolled x = block_out (roll-StatementSequence x) ∙ ap (λ y. block_shown y) (out-roll-StatementSequence x)
 
 pub nothing_made : case_piece cases.Nothing ≡ nothing
 nothing_made = cased _ _ cases.outs-Nothing
@@ -120,9 +148,6 @@ nothing_made = cased _ _ cases.outs-Nothing
 pub labelled_made : (l : OneOrMore LabelRange) (b : Box StatementSequence Global) → case_piece (cases.Labelled l b)
     ≡ both (label_range_piece l.first) (both (each_after label_range_piece l.rest.items) (both token (block_piece b.value)))
 labelled_made l b = cased _ _ (cases.outs-Labelled l b)
-
-stated : (s : Stmt) (x : Stmt-F Case Stmt Branch For StatementSequence) → out-Stmt s ≡ x → stmt_piece s ≡ stmt_shown x
-stated s x e = stmt_out s ∙ ap (λ y. stmt_shown y) e
 
 pub empty_made : stmt_piece statements.Empty ≡ nothing
 empty_made = stated _ _ statements.outs-Empty

@@ -7,13 +7,14 @@ use Rattle.ob_tree.specs.declared.name.Identdef.{Identdef}
 use Rattle.ob_tree.specs.declared.name.Qualident.{Qualident}
 use Rattle.ob_tree.specs.declared.declaration.ParameterSection.{ParameterSection}
 use Rattle.ob_tree.specs.declared.declaration.Parameters.{Parameters}
-use Rattle.ob_tree.specs.declared.declaration.TypeForm.{TypeForm, TypeForm-F, fold_out-TypeForm, out-TypeForm, map-TypeForm}
+use Rattle.ob_tree.specs.declared.declaration.TypeForm.{TypeForm, fold_out-TypeForm, roll-TypeForm, out-TypeForm, out-roll-TypeForm, map-TypeForm}
 use Rattle.ob_tree.specs.declared.declaration.TypeForm.TheOpen as layers
 use Rattle.ob_tree.specs.declared.declaration.TypeForm.TheShapes as shapes
 use Rattle.ob_tree.specs.declared.declaration.TypeForm.TheVariants as forms
-use Rattle.ob_tree.specs.declared.declaration.Fields.{Fields, fold_out-Fields, out-Fields}
-use Rattle.ob_tree.specs.declared.declaration.Record.{Record, fold_out-Record, out-Record}
-use Rattle.ob_tree.specs.declared.declaration.VarDecl.{VarDecl, fold_out-VarDecl, out-VarDecl}
+use Rattle.ob_tree.specs.declared.declaration.Fields.{Fields, fold_out-Fields, roll-Fields, out-Fields, out-roll-Fields}
+use Rattle.ob_tree.specs.declared.declaration.Record.{Record, fold_out-Record, roll-Record, out-Record, out-roll-Record}
+use Rattle.ob_tree.specs.declared.declaration.VarDecl.{VarDecl, fold_out-VarDecl, roll-VarDecl, out-VarDecl, out-roll-VarDecl}
+use Rattle.ob_tree.proofs.TypeInduction.{TypeLayer, FieldsLayer, RecordLayer, VarLayer}
 use Rattle.ob_rows.specs.declared.rows.Sort.TheVariants as sorts
 use Rattle.ob_rows.specs.declared.rows.Part.TheVariants as parts
 use Rattle.ob_rows.specs.declared.draft.Context.{Context}
@@ -63,14 +64,25 @@ lengths_out l = refl
 
 -- each layer, with what each part tells in its place
 
-abbrev pub type_shown : TypeForm-F TypeForm Fields Record VarDecl → Piece
+abbrev pub type_shown : TypeLayer → Piece
 type_shown (layers.Named q) = type_name_piece q
 type_shown (layers.ArrayOf lengths of) = tells (part_here parts.Array) (both token (both (lengths_piece lengths.value) (both token (within untargeted (type_piece of.value)))))
 type_shown (layers.RecordOf r) = tells (part_here parts.Record) (record_piece r)
 type_shown (layers.PointerTo t) = tells (part_here parts.Pointer) (both token (both token (within targeted (type_piece t.value))))
 type_shown (layers.ProcOf p) = tells (part_here parts.Procedure) (opens_block (both token (if_there parameters_piece p)))
 
-type_seen : (x : TypeForm-F TypeForm Fields Record VarDecl) → type_step (map-TypeForm TypeForm Fields Record VarDecl Piece Piece Piece Piece type_piece fields_piece record_piece var_piece x) ≡ type_shown x
+abbrev pub fields_shown : FieldsLayer → Piece
+fields_shown f = both (declaring sorts.Field (var_piece f.first)) (both (each_after (λ v. declaring sorts.Field (var_piece v)) f.rest.items) (if_so f.closing_semicolon token))
+
+abbrev pub record_shown : RecordLayer → Piece
+record_shown r = tells (record_row r.base) (within in_record (
+    both token (both (if_there (λ q. both token (both (qualident_piece q) token)) r.base)
+    (both (if_there (λ x. fields_piece x.value) r.fields) token))))
+
+abbrev pub var_shown : VarLayer → Piece
+var_shown v = both (identdef_piece v.names.first) (both (each_after identdef_piece v.names.rest.items) (both token (type_piece v.form)))
+
+type_seen : (x : TypeLayer) → type_step (map-TypeForm TypeForm Fields Record VarDecl Piece Piece Piece Piece type_piece fields_piece record_piece var_piece x) ≡ type_shown x
 type_seen (layers.Named q) = refl
 type_seen (layers.ArrayOf lengths of) = refl
 type_seen (layers.RecordOf r) = refl
@@ -81,23 +93,20 @@ type_out : (t : TypeForm) → type_piece t ≡ type_shown (out-TypeForm t)
 unfolding type_piece fields_piece record_piece var_piece
 type_out t = fold_out-TypeForm Piece Piece Piece Piece type_step fields_step record_step var_step t ∙ type_seen (out-TypeForm t)
 
-pub fields_out : (f : Fields) → fields_piece f ≡ both (declaring sorts.Field (var_piece (out-Fields f).first))
-    (both (each_after (λ v. declaring sorts.Field (var_piece v)) (out-Fields f).rest.items) (if_so (out-Fields f).closing_semicolon token))
+pub fields_out : (f : Fields) → fields_piece f ≡ fields_shown (out-Fields f)
 unfolding fields_piece var_piece
 fields_out f =
     fold_out-Fields Piece Piece Piece Piece type_step fields_step record_step var_step f
     ∙ ap (λ (o : Piece). both (declaring sorts.Field (var_piece (out-Fields f).first)) (both o (if_so (out-Fields f).closing_semicolon token))) (each-map (λ (v : Piece). both token (declaring sorts.Field v)) _ (out-Fields f).rest.items)
 
-pub record_out : (r : Record) → record_piece r ≡ tells (record_row (out-Record r).base) (within in_record (
-    both token (both (if_there (λ q. both token (both (qualident_piece q) token)) (out-Record r).base)
-    (both (if_there (λ x. fields_piece x.value) (out-Record r).fields) token))))
+pub record_out : (r : Record) → record_piece r ≡ record_shown (out-Record r)
 unfolding record_piece fields_piece
 record_out r =
     fold_out-Record Piece Piece Piece Piece type_step fields_step record_step var_step r
     ∙ ap (λ (o : Piece). tells (record_row (out-Record r).base) (within in_record (
     both token (both (if_there (λ q. both token (both (qualident_piece q) token)) (out-Record r).base) (both o token))))) (fields_there fields_piece (out-Record r).fields)
 
-pub var_out : (v : VarDecl) → var_piece v ≡ both (identdef_piece (out-VarDecl v).names.first) (both (each_after identdef_piece (out-VarDecl v).names.rest.items) (both token (type_piece (out-VarDecl v).form)))
+pub var_out : (v : VarDecl) → var_piece v ≡ var_shown (out-VarDecl v)
 unfolding var_piece type_piece
 var_out v = fold_out-VarDecl Piece Piece Piece Piece type_step fields_step record_step var_step v
 
@@ -109,8 +118,20 @@ record_after r c s = simp (record_out r, after_tells, after_within, added_number
 
 -- the same at a value that is made
 
-formed : (t : TypeForm) (x : TypeForm-F TypeForm Fields Record VarDecl) → out-TypeForm t ≡ x → type_piece t ≡ type_shown x
+formed : (t : TypeForm) (x : TypeLayer) → out-TypeForm t ≡ x → type_piece t ≡ type_shown x
 formed t x e = type_out t ∙ ap (λ y. type_shown y) e
+
+pub type_rolled : (x : TypeLayer) → type_piece (roll-TypeForm x) ≡ type_shown x
+type_rolled x = formed (roll-TypeForm x) x (out-roll-TypeForm x)
+
+pub fields_rolled : (x : FieldsLayer) → fields_piece (roll-Fields x) ≡ fields_shown x
+fields_rolled x = fields_out (roll-Fields x) ∙ ap (λ y. fields_shown y) (out-roll-Fields x)
+
+pub record_rolled : (x : RecordLayer) → record_piece (roll-Record x) ≡ record_shown x
+record_rolled x = record_out (roll-Record x) ∙ ap (λ y. record_shown y) (out-roll-Record x)
+
+pub var_rolled : (x : VarLayer) → var_piece (roll-VarDecl x) ≡ var_shown x
+var_rolled x = var_out (roll-VarDecl x) ∙ ap (λ y. var_shown y) (out-roll-VarDecl x)
 
 pub named_made : (q : Qualident) → type_piece (forms.Named q) ≡ type_name_piece q
 named_made q = formed _ _ (forms.outs-Named q)

@@ -1,21 +1,19 @@
 -- The records in a module.
-use Rattle.std.proofs.Common.{◌≡◌, List, refl, sym, ap, ◌∙◌}
+use Rattle.std.proofs.Common.{◌≡◌, List, refl, ap, ◌∙◌}
 use Rattle.ob_tree.specs.declared.name.OneOrMore.{OneOrMore}
 use Rattle.ob_tree.specs.declared.declaration.ConstDecl.{ConstDecl}
 use Rattle.ob_tree.specs.declared.declaration.TypeDecl.{TypeDecl}
 use Rattle.ob_tree.specs.declared.declaration.VarDecl.{VarDecl}
 use Rattle.ob_tree.specs.declared.declaration.ImportItem.{ImportItem}
 use Rattle.ob_tree.specs.declared.declaration.Module.{Module}
-use Rattle.ob_tree.specs.declared.declaration.Declarations.{Declarations, Declarations-F, roll-Declarations, out-roll-Declarations, ind-Declarations, map-Declarations}
-use Rattle.ob_tree.specs.declared.declaration.ProcDecl.{ProcDecl, ProcDecl-F, roll-ProcDecl, out-roll-ProcDecl, map-ProcDecl}
-use Rattle.ob_tree.proofs.Closed.{With}
+use Rattle.ob_tree.specs.declared.declaration.Declarations.{Declarations}
+use Rattle.ob_tree.proofs.DeclarationInduction.{DeclarationPredicates, DeclarationSteps, WithDeclarations, WithProcedure, declarations_of, procedure_of, declarations_induction}
 use Rattle.ob_rows.specs.declared.rows.Sort.TheVariants as sorts
-use Rattle.ob_rows.specs.Parts.{Piece, token, both, tells, declaring, opens_block}
-use Rattle.ob_rows.specs.Parts.{if_there as there, each as pieces}
+use Rattle.ob_rows.specs.Parts.{Piece, token, both}
 use Rattle.ob_decls.specs.Expressions.{expr_piece}
 use Rattle.ob_decls.specs.Statements.{block_piece}
-use Rattle.ob_decls.specs.Types.{identdef_piece, parameters_piece}
-use Rattle.ob_decls.specs.Declaring.{const_piece, type_decl_piece, variable_piece, procedure_end, declarations_piece, procedure_piece, import_inner, import_piece, imports_piece, module_piece}
+use Rattle.ob_decls.specs.Types.{parameters_piece}
+use Rattle.ob_decls.specs.Declaring.{const_piece, type_decl_piece, variable_piece, declarations_piece, procedure_piece, import_inner, import_piece, imports_piece, module_piece}
 use Rattle.ob_decls.specs.Declaring.{part as told_part}
 use Rattle.ob_decls.proofs.DeclarationLayers as told
 use Rattle.std.proofs.Common.{◌<◌, ◌≡◌, ℕ, Some, arith}
@@ -52,58 +50,34 @@ b-import i = b-declaring sorts.Import (b-tells _ (λ c k. refl) (b-first _ (λ c
 f-part : {X : Type 0} (f : X → Piece) (xs : List X) → ((x : X) → Free (f x)) → Free (told_part f xs)
 f-part f xs w = f-both (f-bare b-token) (f-each (λ x. both (f x) token) xs (λ x. f-both (w x) (f-bare b-token)))
 
-abbrev HeldDeclarations : Declarations → Type 0
-HeldDeclarations t = Free (declarations_piece t)
+abbrev predicates : DeclarationPredicates
+predicates = record {
+  declarations = λ t. Free (declarations_piece t);
+  procedure = λ t. Free (procedure_piece t);
+}
 
-abbrev HeldProcDecl : ProcDecl → Type 0
-HeldProcDecl t = Free (procedure_piece t)
-
-abbrev WithDeclarations : Type 0
-WithDeclarations = Declarations-F (With HeldDeclarations) (With HeldProcDecl)
-
-abbrev declarations_of : WithDeclarations → Declarations-F Declarations ProcDecl
-declarations_of = map-Declarations (With HeldDeclarations) (With HeldProcDecl) Declarations ProcDecl (λ e. e.0) (λ e. e.0)
-
-abbrev WithProcDecl : Type 0
-WithProcDecl = ProcDecl-F (With HeldDeclarations) (With HeldProcDecl)
-
-abbrev procedure_of : WithProcDecl → ProcDecl-F Declarations ProcDecl
-procedure_of = map-ProcDecl (With HeldDeclarations) (With HeldProcDecl) Declarations ProcDecl (λ e. e.0) (λ e. e.0)
-
-abbrev declarations_told : Declarations-F Declarations ProcDecl → Piece
-declarations_told d =
-    both (there (λ v. told_part const_piece v.items) d.constants) (
-    both (there (λ v. told_part type_decl_piece v.items) d.types) (
-    both (there (λ v. told_part variable_piece v.items) d.variables) (pieces (λ p. both (procedure_piece p) token) d.procedures.items)))
-
-declarations_held : (y : WithDeclarations) → Free (declarations_told (declarations_of y))
+declarations_held : (y : WithDeclarations predicates) → Free (told.declarations_shown (declarations_of predicates y))
 declarations_held y =
     f-both (f-there (λ v. told_part const_piece v.items) y.constants (λ v. f-part const_piece v.items f-const))
     (f-both (f-there (λ v. told_part type_decl_piece v.items) y.types (λ v. f-part type_decl_piece v.items f-type_decl))
     (f-both (f-there (λ v. told_part variable_piece v.items) y.variables (λ v. f-part variable_piece v.items f-variables))
     (f-map (λ p. both (procedure_piece p) token) _ y.procedures.items (λ p. f-both p.1 (f-bare b-token)))))
 
-abbrev procedure_told : ProcDecl-F Declarations ProcDecl → Piece
-procedure_told p = declaring sorts.Procedure (opens_block (
-    both token (both (identdef_piece p.name) (both (there parameters_piece p.parameters) (both token
-    (both (declarations_piece p.declarations) (both (there (λ b. both token (block_piece b.value)) p.body)
-    (both (there (λ e. both token (expr_piece e.value)) p.returned) (both token (tells procedure_end token))))))))))
-
-procedure_held : (y : WithProcDecl) → Free (procedure_told (procedure_of y))
+procedure_held : (y : WithProcedure predicates) → Free (told.procedure_shown (procedure_of predicates y))
 procedure_held y = f-declaring sorts.Procedure (d-opens_block (
     d-free b-token token_some (f-both (f-bare (b-identdef y.name)) (f-both (f-bare (b-there parameters_piece y.parameters b-parameters)) (f-both (f-bare b-token)
     (f-both y.declarations.1 (f-both (f-bare (b-there (λ b. both token (block_piece b.value)) y.body (λ b. b-both b-token (b-block b.value))))
     (f-both (f-bare (b-there (λ e. both token (expr_piece e.value)) y.returned (λ e. b-both b-token (b-expr e.value))))
     (f-both (f-bare b-token) (f-bare (b-tells _ (λ c k. refl) b-token)))))))))))
 
-declarations_step : (x : Declarations-F Declarations ProcDecl) (y : WithDeclarations) → declarations_of y ≡ x → HeldDeclarations (roll-Declarations x)
-declarations_step x y is = f-is (told.declarations_out (roll-Declarations x) ∙ ap (λ (z : Declarations-F Declarations ProcDecl). declarations_told z) (out-roll-Declarations x ∙ sym is)) (declarations_held y)
-
-procedure_step : (x : ProcDecl-F Declarations ProcDecl) (y : WithProcDecl) → procedure_of y ≡ x → HeldProcDecl (roll-ProcDecl x)
-procedure_step x y is = f-is (told.procedure_told (roll-ProcDecl x) ∙ ap (λ (z : ProcDecl-F Declarations ProcDecl). procedure_told z) (out-roll-ProcDecl x ∙ sym is)) (procedure_held y)
+steps : DeclarationSteps predicates
+steps = record {
+  declarations = λ y. f-is (told.declarations_made _) (declarations_held y);
+  procedure = λ y. f-is (told.procedure_made _) (procedure_held y);
+}
 
 f-declarations : (d : Declarations) → Free (declarations_piece d)
-f-declarations = ind-Declarations HeldDeclarations HeldProcDecl declarations_step procedure_step
+f-declarations = declarations_induction predicates steps
 
 b-imports : (l : OneOrMore ImportItem) → Bare (imports_piece l)
 unfolding imports_piece

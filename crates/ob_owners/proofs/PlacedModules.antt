@@ -1,21 +1,18 @@
 -- What stands around each row of a module.
-use Rattle.std.proofs.Common.{◌≡◌, List, sym, ap, ◌∙◌}
+use Rattle.std.proofs.Common.{List}
 use Rattle.ob_tree.specs.declared.name.OneOrMore.{OneOrMore}
 use Rattle.ob_tree.specs.declared.declaration.ConstDecl.{ConstDecl}
 use Rattle.ob_tree.specs.declared.declaration.TypeDecl.{TypeDecl}
 use Rattle.ob_tree.specs.declared.declaration.VarDecl.{VarDecl}
 use Rattle.ob_tree.specs.declared.declaration.ImportItem.{ImportItem}
 use Rattle.ob_tree.specs.declared.declaration.Module.{Module}
-use Rattle.ob_tree.specs.declared.declaration.Declarations.{Declarations, Declarations-F, roll-Declarations, out-roll-Declarations, ind-Declarations, map-Declarations}
-use Rattle.ob_tree.specs.declared.declaration.ProcDecl.{ProcDecl, ProcDecl-F, roll-ProcDecl, out-roll-ProcDecl, map-ProcDecl}
-use Rattle.ob_tree.proofs.Closed.{With}
-use Rattle.ob_rows.specs.declared.rows.Sort.TheVariants as sorts
-use Rattle.ob_rows.specs.Parts.{Piece, token, both, tells, declaring, opens_block}
-use Rattle.ob_rows.specs.Parts.{if_there as there, each as pieces}
+use Rattle.ob_tree.specs.declared.declaration.Declarations.{Declarations}
+use Rattle.ob_tree.proofs.DeclarationInduction.{DeclarationPredicates, DeclarationSteps, WithDeclarations, WithProcedure, declarations_of, procedure_of, declarations_induction}
+use Rattle.ob_rows.specs.Parts.{Piece, token, both}
 use Rattle.ob_decls.specs.Expressions.{expr_piece}
 use Rattle.ob_decls.specs.Statements.{block_piece}
-use Rattle.ob_decls.specs.Types.{identdef_piece, parameters_piece}
-use Rattle.ob_decls.specs.Declaring.{const_piece, type_decl_piece, variable_piece, procedure_end, declarations_piece, procedure_piece, import_piece, imports_piece, module_piece}
+use Rattle.ob_decls.specs.Types.{parameters_piece}
+use Rattle.ob_decls.specs.Declaring.{const_piece, type_decl_piece, variable_piece, declarations_piece, procedure_piece, import_piece, imports_piece, module_piece}
 use Rattle.ob_decls.specs.Declaring.{part as told_part}
 use Rattle.ob_decls.proofs.DeclarationLayers as told
 use Rattle.ob_decls.specs.Declaring.{rows_of, outermost}
@@ -49,58 +46,34 @@ module _ (R : Rows) where
   g-part : {X : Type 0} (f : X → Piece) (xs : List X) → ((x : X) → Good R (Free R) (f x)) → Good R (Free R) (told_part f xs)
   g-part f xs w = g-both R (free_later R) g-token (g-each R (λ x. both (f x) token) xs (free_later R) (λ x. g-both R (free_later R) (w x) g-token))
 
-  abbrev HeldDeclarations : Declarations → Type 0
-  HeldDeclarations t = Good R (Free R) (declarations_piece t)
+  abbrev predicates : DeclarationPredicates
+  predicates = record {
+    declarations = λ t. Good R (Free R) (declarations_piece t);
+    procedure = λ t. Good R (Free R) (procedure_piece t);
+  }
 
-  abbrev HeldProcDecl : ProcDecl → Type 0
-  HeldProcDecl t = Good R (Free R) (procedure_piece t)
-
-  abbrev WithDeclarations : Type 0
-  WithDeclarations = Declarations-F (With HeldDeclarations) (With HeldProcDecl)
-
-  abbrev declarations_of : WithDeclarations → Declarations-F Declarations ProcDecl
-  declarations_of = map-Declarations (With HeldDeclarations) (With HeldProcDecl) Declarations ProcDecl (λ e. e.0) (λ e. e.0)
-
-  abbrev WithProcDecl : Type 0
-  WithProcDecl = ProcDecl-F (With HeldDeclarations) (With HeldProcDecl)
-
-  abbrev procedure_of : WithProcDecl → ProcDecl-F Declarations ProcDecl
-  procedure_of = map-ProcDecl (With HeldDeclarations) (With HeldProcDecl) Declarations ProcDecl (λ e. e.0) (λ e. e.0)
-
-  abbrev declarations_told : Declarations-F Declarations ProcDecl → Piece
-  declarations_told d =
-      both (there (λ v. told_part const_piece v.items) d.constants) (
-      both (there (λ v. told_part type_decl_piece v.items) d.types) (
-      both (there (λ v. told_part variable_piece v.items) d.variables) (pieces (λ p. both (procedure_piece p) token) d.procedures.items)))
-
-  declarations_held : (y : WithDeclarations) → Good R (Free R) (declarations_told (declarations_of y))
+  declarations_held : (y : WithDeclarations predicates) → Good R (Free R) (told.declarations_shown (declarations_of predicates y))
   declarations_held y =
       g-both R (free_later R) (g-there R (λ v. told_part const_piece v.items) y.constants (λ v. g-part const_piece v.items g-const))
       (g-both R (free_later R) (g-there R (λ v. told_part type_decl_piece v.items) y.types (λ v. g-part type_decl_piece v.items g-type_decl))
       (g-both R (free_later R) (g-there R (λ v. told_part variable_piece v.items) y.variables (λ v. g-part variable_piece v.items g-variable_decl))
       (g-map R (λ p. both (procedure_piece p) token) _ y.procedures.items (free_later R) (λ p. g-both R (free_later R) p.1 g-token))))
 
-  abbrev procedure_told : ProcDecl-F Declarations ProcDecl → Piece
-  procedure_told p = declaring sorts.Procedure (opens_block (
-      both token (both (identdef_piece p.name) (both (there parameters_piece p.parameters) (both token
-      (both (declarations_piece p.declarations) (both (there (λ b. both token (block_piece b.value)) p.body)
-      (both (there (λ e. both token (expr_piece e.value)) p.returned) (both token (tells procedure_end token))))))))))
-
-  procedure_held : (y : WithProcDecl) → Good R (Free R) (procedure_told (procedure_of y))
+  procedure_held : (y : WithProcedure predicates) → Good R (Free R) (told.procedure_shown (procedure_of predicates y))
   procedure_held y = g-procedure R y.name (
       g-both R (ended_later R) (g-free R (g-there R parameters_piece y.parameters (g-parameters R))) (g-both R (ended_later R) g-token
       (g-both R (ended_later R) (g-free R y.declarations.1) (g-both R (ended_later R) (g-quiet R (q-there (λ b. both token (block_piece b.value)) y.body (λ b. q-both q-token (q-block b.value))))
       (g-both R (ended_later R) (g-quiet R (q-there (λ e. both token (expr_piece e.value)) y.returned (λ e. q-both q-token (q-expr e.value))))
       (g-both R (ended_later R) g-token (g-ends R)))))))
 
-  declarations_step : (x : Declarations-F Declarations ProcDecl) (y : WithDeclarations) → declarations_of y ≡ x → HeldDeclarations (roll-Declarations x)
-  declarations_step x y is = g-is R (told.declarations_out (roll-Declarations x) ∙ ap (λ (z : Declarations-F Declarations ProcDecl). declarations_told z) (out-roll-Declarations x ∙ sym is)) (declarations_held y)
-
-  procedure_step : (x : ProcDecl-F Declarations ProcDecl) (y : WithProcDecl) → procedure_of y ≡ x → HeldProcDecl (roll-ProcDecl x)
-  procedure_step x y is = g-is R (told.procedure_told (roll-ProcDecl x) ∙ ap (λ (z : ProcDecl-F Declarations ProcDecl). procedure_told z) (out-roll-ProcDecl x ∙ sym is)) (procedure_held y)
+  steps : DeclarationSteps predicates
+  steps = record {
+    declarations = λ y. g-is R (told.declarations_made _) (declarations_held y);
+    procedure = λ y. g-is R (told.procedure_made _) (procedure_held y);
+  }
 
   g-declarations : (d : Declarations) → Good R (Free R) (declarations_piece d)
-  g-declarations = ind-Declarations HeldDeclarations HeldProcDecl declarations_step procedure_step
+  g-declarations = declarations_induction predicates steps
 
   g-imports : (l : OneOrMore ImportItem) → Good R (Free R) (imports_piece l)
   unfolding imports_piece

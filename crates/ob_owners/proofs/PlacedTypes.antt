@@ -1,25 +1,20 @@
 -- What stands around each row of a type.
-use Rattle.std.proofs.Common.{◌≡◌, ℕ, zero, suc, false, Option, Some, None, refl, sym, ap, ◌∙◌}
-use Rattle.std.specs.declared.boxed.Box.{Box}
-use Rattle.std.specs.declared.alloc.Global.{Global}
+use Rattle.std.proofs.Common.{ℕ, zero, suc, false, Option, refl}
 use Rattle.ob_tree.specs.declared.declaration.Parameters.{Parameters}
 use Rattle.ob_tree.specs.declared.declaration.TypeForm.TheOpen as layers
-use Rattle.ob_tree.specs.declared.declaration.TypeForm.TheShapes as shapes
-use Rattle.ob_tree.specs.declared.declaration.TypeForm.{TypeForm, TypeForm-F, roll-TypeForm, out-roll-TypeForm, ind-TypeForm, map-TypeForm}
-use Rattle.ob_tree.specs.declared.declaration.Fields.{Fields, Fields-F, roll-Fields, out-roll-Fields, map-Fields}
-use Rattle.ob_tree.specs.declared.declaration.Record.{Record, Record-F, roll-Record, out-roll-Record, map-Record}
-use Rattle.ob_tree.specs.declared.declaration.VarDecl.{VarDecl, VarDecl-F, roll-VarDecl, out-roll-VarDecl, ind-VarDecl, map-VarDecl}
-use Rattle.ob_tree.proofs.Closed.{With}
+use Rattle.ob_tree.specs.declared.declaration.TypeForm.{TypeForm}
+use Rattle.ob_tree.specs.declared.declaration.VarDecl.{VarDecl}
+use Rattle.ob_tree.proofs.TypeInduction.{TypePredicates, TypeSteps, WithType, WithFields, WithRecord, WithVar, type_of, fields_of, record_of, var_of, record_fields, type_induction, var_induction}
 use Rattle.ob_tree.specs.declared.name.Qualident.{Qualident}
 use Rattle.ob_tree.specs.declared.expression.ExprList.{ExprList, out-ExprList}
 use Rattle.ob_tree.specs.declared.declaration.ParameterSection.{ParameterSection}
 use Rattle.ob_rows.specs.declared.rows.Sort.TheVariants as sorts
 use Rattle.ob_rows.specs.declared.rows.Part.TheVariants as parts
-use Rattle.ob_rows.specs.Parts.{Piece, token, both, tells, within, if_so, declaring, in_block}
+use Rattle.ob_rows.specs.Parts.{token, both, tells, declaring, in_block}
 use Rattle.ob_rows.specs.Parts.{if_there as there}
 use Rattle.ob_decls.specs.Expressions.{each_after, expr_piece}
 use Rattle.ob_decls.specs.Statements.{qualident_piece}
-use Rattle.ob_decls.specs.Types.{part_here, record_row, in_record, open_arrays, section_inner, section_piece, identdef_piece, parameter_piece, parameters_piece, type_name_piece, lengths_piece, type_piece, fields_piece, record_piece, var_piece}
+use Rattle.ob_decls.specs.Types.{part_here, open_arrays, section_inner, section_piece, identdef_piece, parameter_piece, parameters_piece, type_name_piece, lengths_piece, type_piece, fields_piece, record_piece, var_piece}
 use Rattle.ob_decls.proofs.TypeLayers as told
 use Rattle.ob_rows.specs.Parts.{Rows}
 use Rattle.ob_owners.proofs.Bare.{Context}
@@ -71,47 +66,15 @@ module _ (R : Rows) where
 
   -- ---- types
 
-  abbrev HeldTypeForm : TypeForm → Type 0
-  HeldTypeForm t = Good R (Typed R) (type_piece t)
+  abbrev predicates : TypePredicates
+  predicates = record {
+    type = λ t. Good R (Typed R) (type_piece t);
+    fields = λ t. Good R (Recorded R) (fields_piece t);
+    record_type = λ t. Good R (Typed R) (record_piece t);
+    var = λ t. Good R (Begun R) (var_piece t);
+  }
 
-  abbrev HeldFields : Fields → Type 0
-  HeldFields t = Good R (Recorded R) (fields_piece t)
-
-  abbrev HeldRecord : Record → Type 0
-  HeldRecord t = Good R (Typed R) (record_piece t)
-
-  abbrev HeldVarDecl : VarDecl → Type 0
-  HeldVarDecl t = Good R (Begun R) (var_piece t)
-
-  abbrev WithTypeForm : Type 0
-  WithTypeForm = TypeForm-F (With HeldTypeForm) (With HeldFields) (With HeldRecord) (With HeldVarDecl)
-
-  abbrev type_of : WithTypeForm → TypeForm-F TypeForm Fields Record VarDecl
-  type_of = map-TypeForm (With HeldTypeForm) (With HeldFields) (With HeldRecord) (With HeldVarDecl) TypeForm Fields Record VarDecl (λ e. e.0) (λ e. e.0) (λ e. e.0) (λ e. e.0)
-
-  abbrev WithFields : Type 0
-  WithFields = Fields-F (With HeldTypeForm) (With HeldFields) (With HeldRecord) (With HeldVarDecl)
-
-  abbrev fields_of : WithFields → Fields-F TypeForm Fields Record VarDecl
-  fields_of = map-Fields (With HeldTypeForm) (With HeldFields) (With HeldRecord) (With HeldVarDecl) TypeForm Fields Record VarDecl (λ e. e.0) (λ e. e.0) (λ e. e.0) (λ e. e.0)
-
-  abbrev WithRecord : Type 0
-  WithRecord = Record-F (With HeldTypeForm) (With HeldFields) (With HeldRecord) (With HeldVarDecl)
-
-  abbrev record_of : WithRecord → Record-F TypeForm Fields Record VarDecl
-  record_of = map-Record (With HeldTypeForm) (With HeldFields) (With HeldRecord) (With HeldVarDecl) TypeForm Fields Record VarDecl (λ e. e.0) (λ e. e.0) (λ e. e.0) (λ e. e.0)
-
-  abbrev WithVarDecl : Type 0
-  WithVarDecl = VarDecl-F (With HeldTypeForm) (With HeldFields) (With HeldRecord) (With HeldVarDecl)
-
-  abbrev var_of : WithVarDecl → VarDecl-F TypeForm Fields Record VarDecl
-  var_of = map-VarDecl (With HeldTypeForm) (With HeldFields) (With HeldRecord) (With HeldVarDecl) TypeForm Fields Record VarDecl (λ e. e.0) (λ e. e.0) (λ e. e.0) (λ e. e.0)
-
-  fields_there : (o : Option (Box (With HeldFields) Global)) → Good R (Recorded R) (there (λ f. fields_piece f.value) ((shapes.former-Record-fields).map (With HeldFields) Fields (λ e. e.0) o))
-  fields_there None = g-quiet R q-nothing
-  fields_there (Some f) = f.value.1
-
-  type_held : (y : WithTypeForm) → Good R (Typed R) (told.type_shown (type_of y))
+  type_held : (y : WithType predicates) → Good R (Typed R) (told.type_shown (type_of predicates y))
   type_held (layers.Named q) = g-type_name q
   type_held (layers.ArrayOf lengths of) = g-silent R _ (λ c k. (refl, refl, refl)) (g-both R (typed_later R) g-token (g-both R (typed_later R) (g-lengths lengths.value)
       (g-both R (typed_later R) g-token (g-within R _ (λ c k s. record { owner = s.owner; owned = s.owned; before = s.before }) of.value.1))))
@@ -121,50 +84,35 @@ module _ (R : Rows) where
   type_held (layers.ProcOf p) = g-silent R _ (λ c k. (refl, refl, refl)) (g-silent R _ (λ c k. (refl, refl, refl))
       (g-within R {Other = Free R} in_block (λ c k s. free R (in_block c k) k) (g-both R (free_later R) g-token (g-there R parameters_piece p g-parameters))))
 
-  abbrev fields_told : Fields-F TypeForm Fields Record VarDecl → Piece
-  fields_told f = both (declaring sorts.Field (var_piece f.first)) (both (each_after (λ v. declaring sorts.Field (var_piece v)) f.rest.items) (if_so f.closing_semicolon token))
-
-  fields_held : (y : WithFields) → Good R (Recorded R) (fields_told (fields_of y))
+  fields_held : (y : WithFields predicates) → Good R (Recorded R) (told.fields_shown (fields_of predicates y))
   fields_held y =
       g-both R (recorded_later R) (g-field R y.first.1)
       (g-both R (recorded_later R) (g-map R (λ v. both token (declaring sorts.Field (var_piece v))) _ y.rest.items (recorded_later R) (λ v. g-both R (recorded_later R) g-token (g-field R v.1)))
       (g-quiet R (q-so y.closing_semicolon q-token)))
 
-  abbrev record_told : Record-F TypeForm Fields Record VarDecl → Piece
-  record_told r = tells (record_row r.base) (within in_record (
-      both token (both (there (λ q. both token (both (qualident_piece q) token)) r.base)
-      (both (there (λ x. fields_piece x.value) r.fields) token))))
-
-  record_held : (y : WithRecord) → Good R (Typed R) (record_told (record_of y))
+  record_held : (y : WithRecord predicates) → Good R (Typed R) (told.record_shown (record_of predicates y))
   record_held y = g-record R y.base
       (g-both R (recorded_later R) g-token
       (g-both R (recorded_later R) (g-there R (λ q. both token (both (qualident_piece q) token)) y.base (λ q. g-quiet R (q-both q-token (q-both (q-qualident q) q-token))))
-      (g-both R (recorded_later R) (fields_there y.fields) g-token)))
+      (g-both R (recorded_later R) (record_fields predicates (λ o. Good R (Recorded R) (there (λ f. fields_piece f.value) o)) (g-quiet R q-nothing) (λ f h. h) y) g-token)))
 
-  abbrev var_told : VarDecl-F TypeForm Fields Record VarDecl → Piece
-  var_told v = both (identdef_piece v.names.first) (both (each_after identdef_piece v.names.rest.items) (both token (type_piece v.form)))
-
-  var_held : (y : WithVarDecl) → Good R (Begun R) (var_told (var_of y))
+  var_held : (y : WithVar predicates) → Good R (Begun R) (told.var_shown (var_of predicates y))
   var_held y = g-owner R y.names.first (identdef_some y.names.first)
       (g-both R (typed_later R) (g-each R (λ i. both token (identdef_piece i)) y.names.rest.items (typed_later R) (λ i. g-both R (typed_later R) g-token (g-weak R (typed_named R) (g-identdef R i))))
       (g-both R (typed_later R) g-token y.form.1))
 
   -- ---- layer by layer
 
-  type_step : (x : TypeForm-F TypeForm Fields Record VarDecl) (y : WithTypeForm) → type_of y ≡ x → HeldTypeForm (roll-TypeForm x)
-  type_step x y is = g-is R (told.type_told (roll-TypeForm x) ∙ ap (λ (z : TypeForm-F TypeForm Fields Record VarDecl). told.type_shown z) (out-roll-TypeForm x ∙ sym is)) (type_held y)
-
-  fields_step : (x : Fields-F TypeForm Fields Record VarDecl) (y : WithFields) → fields_of y ≡ x → HeldFields (roll-Fields x)
-  fields_step x y is = g-is R (told.fields_out (roll-Fields x) ∙ ap (λ (z : Fields-F TypeForm Fields Record VarDecl). fields_told z) (out-roll-Fields x ∙ sym is)) (fields_held y)
-
-  record_step : (x : Record-F TypeForm Fields Record VarDecl) (y : WithRecord) → record_of y ≡ x → HeldRecord (roll-Record x)
-  record_step x y is = g-is R (told.record_out (roll-Record x) ∙ ap (λ (z : Record-F TypeForm Fields Record VarDecl). record_told z) (out-roll-Record x ∙ sym is)) (record_held y)
-
-  var_step : (x : VarDecl-F TypeForm Fields Record VarDecl) (y : WithVarDecl) → var_of y ≡ x → HeldVarDecl (roll-VarDecl x)
-  var_step x y is = g-is R (told.var_out (roll-VarDecl x) ∙ ap (λ (z : VarDecl-F TypeForm Fields Record VarDecl). var_told z) (out-roll-VarDecl x ∙ sym is)) (var_held y)
+  steps : TypeSteps predicates
+  steps = record {
+    type = λ y. g-is R (told.type_rolled _) (type_held y);
+    fields = λ y. g-is R (told.fields_rolled _) (fields_held y);
+    record_type = λ y. g-is R (told.record_rolled _) (record_held y);
+    var = λ y. g-is R (told.var_rolled _) (var_held y);
+  }
 
   pub g-form : (t : TypeForm) → Good R (Typed R) (type_piece t)
-  g-form = ind-TypeForm HeldTypeForm HeldFields HeldRecord HeldVarDecl type_step fields_step record_step var_step
+  g-form = type_induction predicates steps
 
   pub g-variables : (v : VarDecl) → Good R (Begun R) (var_piece v)
-  g-variables = ind-VarDecl HeldTypeForm HeldFields HeldRecord HeldVarDecl type_step fields_step record_step var_step
+  g-variables = var_induction predicates steps

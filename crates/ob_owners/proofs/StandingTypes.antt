@@ -1,25 +1,20 @@
 -- The records and the forms in types.
-use Rattle.std.proofs.Common.{◌≡◌, ◌<◌, ℕ, zero, suc, false, Option, Some, None, refl, sym, ap, ◌∙◌, arith}
-use Rattle.std.specs.declared.boxed.Box.{Box}
-use Rattle.std.specs.declared.alloc.Global.{Global}
+use Rattle.std.proofs.Common.{◌<◌, ℕ, zero, suc, false, refl, ap, arith}
 use Rattle.ob_tree.specs.declared.declaration.Parameters.{Parameters}
 use Rattle.ob_tree.specs.declared.declaration.TypeForm.TheOpen as layers
-use Rattle.ob_tree.specs.declared.declaration.TypeForm.TheShapes as shapes
-use Rattle.ob_tree.specs.declared.declaration.TypeForm.{TypeForm, TypeForm-F, roll-TypeForm, out-roll-TypeForm, ind-TypeForm, map-TypeForm}
-use Rattle.ob_tree.specs.declared.declaration.Fields.{Fields, Fields-F, roll-Fields, out-roll-Fields, map-Fields}
-use Rattle.ob_tree.specs.declared.declaration.Record.{Record, Record-F, roll-Record, out-roll-Record, map-Record}
-use Rattle.ob_tree.specs.declared.declaration.VarDecl.{VarDecl, VarDecl-F, roll-VarDecl, out-roll-VarDecl, ind-VarDecl, map-VarDecl}
-use Rattle.ob_tree.proofs.Closed.{With}
+use Rattle.ob_tree.specs.declared.declaration.TypeForm.{TypeForm}
+use Rattle.ob_tree.specs.declared.declaration.VarDecl.{VarDecl}
+use Rattle.ob_tree.proofs.TypeInduction.{TypePredicates, TypeSteps, WithType, WithFields, WithRecord, WithVar, type_of, fields_of, record_of, var_of, record_fields, type_induction, var_induction}
 use Rattle.ob_tree.specs.declared.name.Qualident.{Qualident}
 use Rattle.ob_tree.specs.declared.expression.ExprList.{ExprList, out-ExprList}
 use Rattle.ob_tree.specs.declared.declaration.ParameterSection.{ParameterSection}
 use Rattle.ob_rows.specs.declared.rows.Sort.TheVariants as sorts
 use Rattle.ob_rows.specs.declared.rows.Part.TheVariants as parts
-use Rattle.ob_rows.specs.Parts.{Piece, token, both, tells, within, if_so, declaring}
+use Rattle.ob_rows.specs.Parts.{Piece, token, both, tells, declaring}
 use Rattle.ob_rows.specs.Parts.{if_there as there}
 use Rattle.ob_decls.specs.Expressions.{behind_dot, each_after, expr_piece}
 use Rattle.ob_decls.specs.Statements.{qualident_piece}
-use Rattle.ob_decls.specs.Types.{name_part, part_here, record_row, in_record, open_arrays, section_inner, section_piece, identdef_piece, parameter_piece, parameters_piece, type_name_piece, lengths_piece, type_piece, fields_piece, record_piece, var_piece}
+use Rattle.ob_decls.specs.Types.{name_part, part_here, open_arrays, section_inner, section_piece, identdef_piece, parameter_piece, parameters_piece, type_name_piece, lengths_piece, type_piece, fields_piece, record_piece, var_piece}
 use Rattle.ob_decls.proofs.TypeLayers as told
 use Rattle.ob_owners.proofs.Plain.{b-both, b-nothing, b-so, b-tells, b-there, b-token}
 use Rattle.ob_owners.proofs.PlainExpressions.{b-expr}
@@ -80,100 +75,53 @@ l-lengths l = l-is (told.lengths_out l) (l-both (l-plain (b-expr (out-ExprList l
 
 -- ---- each part
 
-abbrev HeldTypeForm : TypeForm → Type 0
-HeldTypeForm t = Held (type_piece t)
+abbrev predicates : TypePredicates
+predicates = record {
+  type = λ t. Held (type_piece t);
+  fields = λ t. Stands ⊥ ⊥ Unit (fields_piece t);
+  record_type = λ t. Held (tells (part_here parts.Record) (record_piece t));
+  var = λ t. Types (var_piece t);
+}
 
-abbrev HeldFields : Fields → Type 0
-HeldFields t = Stands ⊥ ⊥ Unit (fields_piece t)
-
-abbrev HeldRecord : Record → Type 0
-HeldRecord t = Held (tells (part_here parts.Record) (record_piece t))
-
-abbrev HeldVarDecl : VarDecl → Type 0
-HeldVarDecl t = Types (var_piece t)
-
-abbrev WithTypeForm : Type 0
-WithTypeForm = TypeForm-F (With HeldTypeForm) (With HeldFields) (With HeldRecord) (With HeldVarDecl)
-
-abbrev type_of : WithTypeForm → TypeForm-F TypeForm Fields Record VarDecl
-type_of = map-TypeForm (With HeldTypeForm) (With HeldFields) (With HeldRecord) (With HeldVarDecl) TypeForm Fields Record VarDecl (λ e. e.0) (λ e. e.0) (λ e. e.0) (λ e. e.0)
-
-abbrev WithFields : Type 0
-WithFields = Fields-F (With HeldTypeForm) (With HeldFields) (With HeldRecord) (With HeldVarDecl)
-
-abbrev fields_of : WithFields → Fields-F TypeForm Fields Record VarDecl
-fields_of = map-Fields (With HeldTypeForm) (With HeldFields) (With HeldRecord) (With HeldVarDecl) TypeForm Fields Record VarDecl (λ e. e.0) (λ e. e.0) (λ e. e.0) (λ e. e.0)
-
-abbrev WithRecord : Type 0
-WithRecord = Record-F (With HeldTypeForm) (With HeldFields) (With HeldRecord) (With HeldVarDecl)
-
-abbrev record_of : WithRecord → Record-F TypeForm Fields Record VarDecl
-record_of = map-Record (With HeldTypeForm) (With HeldFields) (With HeldRecord) (With HeldVarDecl) TypeForm Fields Record VarDecl (λ e. e.0) (λ e. e.0) (λ e. e.0) (λ e. e.0)
-
-abbrev WithVarDecl : Type 0
-WithVarDecl = VarDecl-F (With HeldTypeForm) (With HeldFields) (With HeldRecord) (With HeldVarDecl)
-
-abbrev var_of : WithVarDecl → VarDecl-F TypeForm Fields Record VarDecl
-var_of = map-VarDecl (With HeldTypeForm) (With HeldFields) (With HeldRecord) (With HeldVarDecl) TypeForm Fields Record VarDecl (λ e. e.0) (λ e. e.0) (λ e. e.0) (λ e. e.0)
-
-fields_there : (o : Option (Box (With HeldFields) Global)) → Stands ⊥ ⊥ Unit (there (λ f. fields_piece f.value) ((shapes.former-Record-fields).map (With HeldFields) Fields (λ e. e.0) o))
-fields_there None = s-plain b-nothing
-fields_there (Some f) = f.value.1
-
-type_held : (y : WithTypeForm) → Held (told.type_shown (type_of y))
+type_held : (y : WithType predicates) → Held (told.type_shown (type_of predicates y))
 type_held (layers.Named q) = s-loose (l-type_name q)
 type_held (layers.ArrayOf lengths of) = s-part parts.Array (λ e. cc) (s-both (s-loose (l-lengths lengths.value)) (s-both (s-plain b-token) (s-untargeted of.value.1)))
 type_held (layers.RecordOf r) = r.1
 type_held (layers.PointerTo t) = s-part parts.Pointer (λ e. cc) (s-both (s-plain b-token) (s-targeted t.value.1))
 type_held (layers.ProcOf p) = s-procedure parts.Procedure (λ e. cc) (s-there parameters_piece p s-parameters)
 
-abbrev fields_told : Fields-F TypeForm Fields Record VarDecl → Piece
-fields_told f = both (declaring sorts.Field (var_piece f.first)) (both (each_after (λ v. declaring sorts.Field (var_piece v)) f.rest.items) (if_so f.closing_semicolon token))
-
-fields_held : (y : WithFields) → Stands ⊥ ⊥ Unit (fields_told (fields_of y))
+fields_held : (y : WithFields predicates) → Stands ⊥ ⊥ Unit (told.fields_shown (fields_of predicates y))
 fields_held y =
     s-both (s-field y.first.1)
     (s-both (s-map (λ v. both token (declaring sorts.Field (var_piece v))) _ y.rest.items (λ v. s-both (s-plain b-token) (s-field v.1)))
     (s-plain (b-so y.closing_semicolon b-token)))
 
-abbrev record_told : Record-F TypeForm Fields Record VarDecl → Piece
-record_told r = tells (record_row r.base) (within in_record (
-    both token (both (there (λ q. both token (both (qualident_piece q) token)) r.base)
-    (both (there (λ x. fields_piece x.value) r.fields) token))))
-
 behind_token : (p : Piece) → 0 < (both token p).width
 unfolding both token
 behind_token p = omega arith
 
-record_held : (y : WithRecord) → Held (tells (part_here parts.Record) (record_told (record_of y)))
+record_held : (y : WithRecord predicates) → Held (tells (part_here parts.Record) (told.record_shown (record_of predicates y)))
 record_held y = s-record y.base (behind_token _)
     (s-both (s-plain b-token)
     (s-both (s-plain (b-there (λ q. both token (both (qualident_piece q) token)) y.base (λ q. b-both b-token (b-both (b-qualident q) b-token))))
-    (s-both (fields_there y.fields) (s-plain b-token))))
+    (s-both (record_fields predicates (λ o. Stands ⊥ ⊥ Unit (there (λ f. fields_piece f.value) o)) (s-plain b-nothing) (λ f h. h) y) (s-plain b-token))))
 
-abbrev var_told : VarDecl-F TypeForm Fields Record VarDecl → Piece
-var_told v = both (identdef_piece v.names.first) (both (each_after identdef_piece v.names.rest.items) (both token (type_piece v.form)))
-
-var_held : (y : WithVarDecl) → Types (var_told (var_of y))
+var_held : (y : WithVar predicates) → Types (told.var_shown (var_of predicates y))
 var_held y = t-held y.names.first
     (s-both (s-each (λ i. both token (identdef_piece i)) y.names.rest.items (λ i. s-both (s-plain b-token) (s-mute (m-identdef i)))) (s-both (s-plain b-token) y.form.1))
 
 -- ---- layer by layer
 
-type_step : (x : TypeForm-F TypeForm Fields Record VarDecl) (y : WithTypeForm) → type_of y ≡ x → HeldTypeForm (roll-TypeForm x)
-type_step x y is = s-is (told.type_told (roll-TypeForm x) ∙ ap (λ (z : TypeForm-F TypeForm Fields Record VarDecl). told.type_shown z) (out-roll-TypeForm x ∙ sym is)) (type_held y)
-
-fields_step : (x : Fields-F TypeForm Fields Record VarDecl) (y : WithFields) → fields_of y ≡ x → HeldFields (roll-Fields x)
-fields_step x y is = s-is (told.fields_out (roll-Fields x) ∙ ap (λ (z : Fields-F TypeForm Fields Record VarDecl). fields_told z) (out-roll-Fields x ∙ sym is)) (fields_held y)
-
-record_step : (x : Record-F TypeForm Fields Record VarDecl) (y : WithRecord) → record_of y ≡ x → HeldRecord (roll-Record x)
-record_step x y is = s-is (ap (tells (part_here parts.Record)) (told.record_out (roll-Record x) ∙ ap (λ (z : Record-F TypeForm Fields Record VarDecl). record_told z) (out-roll-Record x ∙ sym is))) (record_held y)
-
-var_step : (x : VarDecl-F TypeForm Fields Record VarDecl) (y : WithVarDecl) → var_of y ≡ x → HeldVarDecl (roll-VarDecl x)
-var_step x y is = t-is (told.var_out (roll-VarDecl x) ∙ ap (λ (z : VarDecl-F TypeForm Fields Record VarDecl). var_told z) (out-roll-VarDecl x ∙ sym is)) (var_held y)
+steps : TypeSteps predicates
+steps = record {
+  type = λ y. s-is (told.type_rolled _) (type_held y);
+  fields = λ y. s-is (told.fields_rolled _) (fields_held y);
+  record_type = λ y. s-is (ap (tells (part_here parts.Record)) (told.record_rolled _)) (record_held y);
+  var = λ y. t-is (told.var_rolled _) (var_held y);
+}
 
 pub s-type_piece : (t : TypeForm) → Held (type_piece t)
-s-type_piece = ind-TypeForm HeldTypeForm HeldFields HeldRecord HeldVarDecl type_step fields_step record_step var_step
+s-type_piece = type_induction predicates steps
 
 pub t-var : (v : VarDecl) → Types (var_piece v)
-t-var = ind-VarDecl HeldTypeForm HeldFields HeldRecord HeldVarDecl type_step fields_step record_step var_step
+t-var = var_induction predicates steps

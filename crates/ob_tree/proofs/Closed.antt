@@ -1,5 +1,5 @@
 -- What holds of an outline, if it holds of its marks and of what is made of them.
-use Rattle.std.proofs.Common.{ℕ, zero, suc, Bool, true, false, List, [], ◌∷◌, ◌++◌, map, Option, Some, None}
+use Rattle.std.proofs.Common.{◌≡◌, ℕ, zero, suc, Bool, true, false, List, [], ◌∷◌, ◌++◌, map, Option, Some, None, sym, subst}
 use Rattle.ob_scan.specs.declared.kind.Kind.{Kind}
 use Rattle.ob_tree.specs.Constructs.{Construct}
 use Rattle.ob_tree.specs.declared.expression.Literal.{Literal}
@@ -17,13 +17,12 @@ pub record IsClosed (P : Out → Type 0) : Type 0 where
   pub a_selection : (n : ℕ) → P (selected n)
   pub held : (c : Construct) (o : Out) → P o → P (construct c o)
 
--- a part with the fact that it holds of it
-abbrev pub With : {X : Type 0} → (X → Type 0) → Type 0
-With {X} Q = (x : X) × Q x
-
 module _ (P : Out → Type 0) (closed : IsClosed P) where
   pub closed-both : {a b : Out} → P a → P b → P (a ++ b)
   closed-both {a} {b} p q = closed.one_after a b p q
+
+  pub closed-is : {o a : Out} → o ≡ a → P a → P o
+  closed-is e p = subst P (sym e) p
 
   pub closed-construct : (c : Construct) {o : Out} → P o → P (construct c o)
   closed-construct c {o} p = closed.held c o p

@@ -6,8 +6,8 @@ use Rattle.ob_tree.specs.declared.declaration.TypeDecl.{TypeDecl}
 use Rattle.ob_tree.specs.declared.declaration.VarDecl.{VarDecl}
 use Rattle.ob_tree.specs.declared.declaration.ImportItem.{ImportItem}
 use Rattle.ob_tree.specs.declared.declaration.Module.{Module}
-use Rattle.ob_tree.specs.declared.declaration.Declarations.{Declarations, Declarations-F, fold_out-Declarations, roll-Declarations, out-Declarations, out-roll-Declarations}
-use Rattle.ob_tree.specs.declared.declaration.ProcDecl.{ProcDecl, ProcDecl-F, fold_out-ProcDecl, roll-ProcDecl, out-ProcDecl, out-roll-ProcDecl}
+use Rattle.ob_tree.specs.declared.declaration.Declarations.{Declarations, fold_out-Declarations, roll-Declarations, out-Declarations, out-roll-Declarations}
+use Rattle.ob_tree.specs.declared.declaration.ProcDecl.{ProcDecl, fold_out-ProcDecl, roll-ProcDecl, out-ProcDecl, out-roll-ProcDecl}
 use Rattle.ob_tree.specs.Constructs as constructs
 use Rattle.ob_tree.specs.Marks.{Out, construct, word, aliased, imported, named, repeated, if_there, each, separated}
 use Rattle.ob_tree.specs.Names.{identdef_outline}
@@ -15,6 +15,7 @@ use Rattle.ob_tree.specs.Expressions.{expr_outline}
 use Rattle.ob_tree.specs.Statements.{block_outline}
 use Rattle.ob_tree.specs.Types.{parameters_outline, type_outline, var_outline}
 use Rattle.ob_tree.specs.Declaring.{const_outline, type_decl_outline, variable_outline, part, declarations_outline, procedure_outline, declarations_step, procedure_step, import_outline, module_outline}
+use Rattle.ob_tree.proofs.DeclarationInduction.{DeclarationsLayer, ProcedureLayer}
 use Rattle.ob_tree.proofs.Eaches.{each-map}
 
 pub const_out : (c : ConstDecl) →
@@ -45,12 +46,12 @@ module_out m = refl
 
 -- each layer, with the outline of each part in its place
 
-abbrev pub declarations_shown : Declarations-F Declarations ProcDecl → Out
+abbrev pub declarations_shown : DeclarationsLayer → Out
 declarations_shown d = if_there (λ v. part kinds.Const const_outline v.items) d.constants ++
     (if_there (λ v. part kinds.Type type_decl_outline v.items) d.types ++
     (if_there (λ v. part kinds.Var variable_outline v.items) d.variables ++ each (λ p. procedure_outline p ++ word kinds.Semicolon) d.procedures.items))
 
-abbrev pub procedure_shown : ProcDecl-F Declarations ProcDecl → Out
+abbrev pub procedure_shown : ProcedureLayer → Out
 procedure_shown p = word kinds.Procedure ++ (identdef_outline p.name ++ (if_there parameters_outline p.parameters ++ (word kinds.Semicolon ++
     (declarations_outline p.declarations ++ (if_there (λ b. word kinds.Begin ++ block_outline b.value) p.body ++
     (if_there (λ e. word kinds.Return ++ expr_outline e.value) p.returned ++ (word kinds.End ++ repeated p.name.name p.end_name)))))))
@@ -71,10 +72,10 @@ procedure_out p = fold_out-ProcDecl Out Out declarations_step procedure_step p
 
 -- the outline of a tree that is made of its parts
 
-pub declarations_made : (x : Declarations-F Declarations ProcDecl) → declarations_outline (roll-Declarations x) ≡ declarations_shown x
+pub declarations_made : (x : DeclarationsLayer) → declarations_outline (roll-Declarations x) ≡ declarations_shown x
 declarations_made x = declarations_out (roll-Declarations x) ∙ ap (λ y. declarations_shown y) (out-roll-Declarations x)
 
-pub procedure_made : (x : ProcDecl-F Declarations ProcDecl) →
+pub procedure_made : (x : ProcedureLayer) →
     procedure_outline (roll-ProcDecl x) ≡ construct constructs.ProcedureDeclaration (procedure_shown x)
 procedure_made x = procedure_out (roll-ProcDecl x) ∙ ap (λ y. construct constructs.ProcedureDeclaration (procedure_shown y)) (out-roll-ProcDecl x)
 

@@ -11,19 +11,20 @@ use Rattle.ob_tree.specs.declared.expression.Factor.TheShapes as shapes
 use Rattle.ob_tree.specs.declared.expression.Factor.TheOpen as layers
 use Rattle.ob_tree.specs.declared.expression.Factor.TheVariants as factors
 use Rattle.ob_tree.specs.declared.expression.Selector.TheVariants as selectors
-use Rattle.ob_tree.specs.declared.expression.Factor.{Factor, Factor-F, fold_out-Factor, out-Factor, map-Factor}
-use Rattle.ob_tree.specs.declared.expression.Selector.{Selector, Selector-F, fold_out-Selector, out-Selector, map-Selector}
-use Rattle.ob_tree.specs.declared.expression.Designator.{Designator, fold_out-Designator}
-use Rattle.ob_tree.specs.declared.expression.Element.{Element, Element-F, fold_out-Element, roll-Element, out-Element, out-roll-Element}
-use Rattle.ob_tree.specs.declared.expression.ElementList.{ElementList, ElementList-F, fold_out-ElementList, roll-ElementList, out-ElementList, out-roll-ElementList}
-use Rattle.ob_tree.specs.declared.expression.Expr.{Expr, Expr-F, fold_out-Expr, roll-Expr, out-Expr, out-roll-Expr}
-use Rattle.ob_tree.specs.declared.expression.ExprList.{ExprList, ExprList-F, fold_out-ExprList, roll-ExprList, out-ExprList, out-roll-ExprList}
-use Rattle.ob_tree.specs.declared.expression.SimpleExpression.{SimpleExpression, SimpleExpression-F, fold_out-SimpleExpression, roll-SimpleExpression, out-SimpleExpression, out-roll-SimpleExpression}
-use Rattle.ob_tree.specs.declared.expression.Term.{Term, fold_out-Term}
+use Rattle.ob_tree.specs.declared.expression.Factor.{Factor, fold_out-Factor, roll-Factor, out-Factor, out-roll-Factor, map-Factor}
+use Rattle.ob_tree.specs.declared.expression.Selector.{Selector, fold_out-Selector, roll-Selector, out-Selector, out-roll-Selector, map-Selector}
+use Rattle.ob_tree.specs.declared.expression.Designator.{Designator, fold_out-Designator, roll-Designator, out-roll-Designator}
+use Rattle.ob_tree.specs.declared.expression.Element.{Element, fold_out-Element, roll-Element, out-Element, out-roll-Element}
+use Rattle.ob_tree.specs.declared.expression.ElementList.{ElementList, fold_out-ElementList, roll-ElementList, out-ElementList, out-roll-ElementList}
+use Rattle.ob_tree.specs.declared.expression.Expr.{Expr, fold_out-Expr, roll-Expr, out-Expr, out-roll-Expr}
+use Rattle.ob_tree.specs.declared.expression.ExprList.{ExprList, fold_out-ExprList, roll-ExprList, out-ExprList, out-roll-ExprList}
+use Rattle.ob_tree.specs.declared.expression.SimpleExpression.{SimpleExpression, fold_out-SimpleExpression, roll-SimpleExpression, out-SimpleExpression, out-roll-SimpleExpression}
+use Rattle.ob_tree.specs.declared.expression.Term.{Term, fold_out-Term, roll-Term, out-roll-Term}
 use Rattle.ob_tree.specs.Constructs as constructs
 use Rattle.ob_tree.specs.Marks.{Out, Value, construct, word, used, selected, if_there, each, each_after}
 use Rattle.ob_tree.specs.Expressions.{relation_kind, sign_kind, add_kind, mul_kind, factor_outline, selector_outline, designator_outline, element_outline, element_list_outline, expr_outline, expr_list_outline, sum_outline, term_outline, factor_step, selector_step, designator_step, element_step, element_list_step, expr_step, expr_list_step, sum_step, term_step}
 use Rattle.ob_tree.proofs.Eaches.{each-map}
+use Rattle.ob_tree.proofs.ExpressionInduction.{FactorLayer, SelectorLayer, DesignatorLayer, ElementLayer, ElementListLayer, ExprLayer, ExprListLayer, SumLayer, TermLayer}
 
 -- parts that may be absent
 
@@ -39,7 +40,7 @@ high_there f (Some c) = refl
 
 -- each layer, with the outline of each part in its place
 
-abbrev pub factor_shown : Factor-F Factor Selector Designator Element ElementList Expr ExprList SimpleExpression Term → Out
+abbrev pub factor_shown : FactorLayer → Out
 factor_shown (layers.Value k n) = Value k n ∷ []
 factor_shown layers.Nil = word kinds.Nil
 factor_shown layers.True = word kinds.True
@@ -49,26 +50,32 @@ factor_shown (layers.Name d) = designator_outline d
 factor_shown (layers.Group e) = word kinds.LeftParen ++ (expr_outline e.value ++ word kinds.RightParen)
 factor_shown (layers.Not f) = word kinds.Tilde ++ construct constructs.Negated (factor_outline f.value)
 
-abbrev pub selector_shown : Selector-F Factor Selector Designator Element ElementList Expr ExprList SimpleExpression Term → Out
+abbrev pub selector_shown : SelectorLayer → Out
 selector_shown (layers.Field n) = word kinds.Dot ++ selected n
 selector_shown (layers.Index list) = word kinds.LeftBracket ++ (expr_list_outline list.value ++ word kinds.RightBracket)
 selector_shown layers.Target = word kinds.Caret
 selector_shown (layers.Arguments list) = word kinds.LeftParen ++ (if_there (λ l. expr_list_outline l.value) list ++ word kinds.RightParen)
 
-abbrev pub element_shown : Element-F Factor Selector Designator Element ElementList Expr ExprList SimpleExpression Term → Out
+abbrev pub element_shown : ElementLayer → Out
 element_shown e = expr_outline e.low ++ if_there (λ h. word kinds.DotDot ++ expr_outline h) e.high
 
-abbrev pub element_list_shown : ElementList-F Factor Selector Designator Element ElementList Expr ExprList SimpleExpression Term → Out
+abbrev pub element_list_shown : ElementListLayer → Out
 element_list_shown l = element_outline l.first ++ each_after kinds.Comma element_outline l.rest.items
 
-abbrev pub expr_list_shown : ExprList-F Factor Selector Designator Element ElementList Expr ExprList SimpleExpression Term → Out
+abbrev pub expr_list_shown : ExprListLayer → Out
 expr_list_shown l = expr_outline l.first ++ each_after kinds.Comma expr_outline l.rest.items
 
-abbrev pub expr_shown : Expr-F Factor Selector Designator Element ElementList Expr ExprList SimpleExpression Term → Out
+abbrev pub expr_shown : ExprLayer → Out
 expr_shown e = sum_outline e.left ++ if_there (λ c. word (relation_kind c.0) ++ sum_outline c.1.value) e.compared
 
-abbrev pub sum_shown : SimpleExpression-F Factor Selector Designator Element ElementList Expr ExprList SimpleExpression Term → Out
+abbrev pub sum_shown : SumLayer → Out
 sum_shown s = if_there (λ x. word (sign_kind x)) s.sign ++ (term_outline s.first ++ each (λ p. word (add_kind p.0) ++ term_outline p.1) s.rest.items)
+
+abbrev pub term_shown : TermLayer → Out
+term_shown t = factor_outline t.first ++ each (λ p. word (mul_kind p.0) ++ factor_outline p.1) t.rest.items
+
+abbrev pub designator_shown : DesignatorLayer → Out
+designator_shown d = used d.head ++ each selector_outline d.selectors.items
 
 -- the outline of a tree, by its layer
 
@@ -116,7 +123,7 @@ designator_out d =
     fold_out-Designator Out Out Out Out Out Out Out Out Out factor_step selector_step designator_step element_step element_list_step expr_step expr_list_step sum_step term_step d ∙
     ap (λ (o : Out). construct constructs.Designator (used d.head ++ o)) (each-map (λ (s : Out). s) _ d.selectors.items)
 
-factor_seen : (x : Factor-F Factor Selector Designator Element ElementList Expr ExprList SimpleExpression Term) →
+factor_seen : (x : FactorLayer) →
     factor_step (map-Factor Factor Selector Designator Element ElementList Expr ExprList SimpleExpression Term Out Out Out Out Out Out Out Out Out
     factor_outline selector_outline designator_outline element_outline element_list_outline expr_outline expr_list_outline sum_outline term_outline x) ≡ construct constructs.Factor (factor_shown x)
 factor_seen (layers.Value k n) = refl
@@ -135,7 +142,7 @@ factor_out f =
     fold_out-Factor Out Out Out Out Out Out Out Out Out factor_step selector_step designator_step element_step element_list_step expr_step expr_list_step sum_step term_step f ∙
     factor_seen (out-Factor f)
 
-selector_seen : (x : Selector-F Factor Selector Designator Element ElementList Expr ExprList SimpleExpression Term) →
+selector_seen : (x : SelectorLayer) →
     selector_step (map-Selector Factor Selector Designator Element ElementList Expr ExprList SimpleExpression Term Out Out Out Out Out Out Out Out Out
     factor_outline selector_outline designator_outline element_outline element_list_outline expr_outline expr_list_outline sum_outline term_outline x) ≡ construct constructs.Selector (selector_shown x)
 selector_seen (layers.Field n) = refl
@@ -152,27 +159,39 @@ selector_out s =
 
 -- the outline of a tree that is made of its parts
 
-pub expr_made : (x : Expr-F Factor Selector Designator Element ElementList Expr ExprList SimpleExpression Term) →
+pub factor_made : (x : FactorLayer) → factor_outline (roll-Factor x) ≡ construct constructs.Factor (factor_shown x)
+factor_made x = factor_out (roll-Factor x) ∙ ap (λ y. construct constructs.Factor (factor_shown y)) (out-roll-Factor x)
+
+pub selector_made : (x : SelectorLayer) → selector_outline (roll-Selector x) ≡ construct constructs.Selector (selector_shown x)
+selector_made x = selector_out (roll-Selector x) ∙ ap (λ y. construct constructs.Selector (selector_shown y)) (out-roll-Selector x)
+
+pub designator_made : (x : DesignatorLayer) → designator_outline (roll-Designator x) ≡ construct constructs.Designator (designator_shown x)
+designator_made x = designator_out (roll-Designator x) ∙ ap (λ y. construct constructs.Designator (designator_shown y)) (out-roll-Designator x)
+
+pub term_made : (x : TermLayer) → term_outline (roll-Term x) ≡ construct constructs.Term (term_shown x)
+term_made x = term_out (roll-Term x) ∙ ap (λ y. construct constructs.Term (term_shown y)) (out-roll-Term x)
+
+pub expr_made : (x : ExprLayer) →
     expr_outline (roll-Expr x) ≡ construct constructs.Expression (expr_shown x)
 expr_made x = expr_out (roll-Expr x) ∙ ap (λ y. construct constructs.Expression (expr_shown y)) (out-roll-Expr x)
 
-pub sum_made : (x : SimpleExpression-F Factor Selector Designator Element ElementList Expr ExprList SimpleExpression Term) →
+pub sum_made : (x : SumLayer) →
     sum_outline (roll-SimpleExpression x) ≡ construct constructs.SimpleExpression (sum_shown x)
 sum_made x = sum_out (roll-SimpleExpression x) ∙ ap (λ y. construct constructs.SimpleExpression (sum_shown y)) (out-roll-SimpleExpression x)
 
-pub element_made : (x : Element-F Factor Selector Designator Element ElementList Expr ExprList SimpleExpression Term) →
+pub element_made : (x : ElementLayer) →
     element_outline (roll-Element x) ≡ construct constructs.Element (element_shown x)
 element_made x = element_out (roll-Element x) ∙ ap (λ y. construct constructs.Element (element_shown y)) (out-roll-Element x)
 
-pub element_list_made : (x : ElementList-F Factor Selector Designator Element ElementList Expr ExprList SimpleExpression Term) →
+pub element_list_made : (x : ElementListLayer) →
     element_list_outline (roll-ElementList x) ≡ element_list_shown x
 element_list_made x = element_list_out (roll-ElementList x) ∙ ap (λ y. element_list_shown y) (out-roll-ElementList x)
 
-pub expr_list_made : (x : ExprList-F Factor Selector Designator Element ElementList Expr ExprList SimpleExpression Term) →
+pub expr_list_made : (x : ExprListLayer) →
     expr_list_outline (roll-ExprList x) ≡ expr_list_shown x
 expr_list_made x = expr_list_out (roll-ExprList x) ∙ ap (λ y. expr_list_shown y) (out-roll-ExprList x)
 
-factor_of : (f : Factor) (x : Factor-F Factor Selector Designator Element ElementList Expr ExprList SimpleExpression Term) → out-Factor f ≡ x →
+factor_of : (f : Factor) (x : FactorLayer) → out-Factor f ≡ x →
     factor_outline f ≡ construct constructs.Factor (factor_shown x)
 factor_of f x e = factor_out f ∙ ap (λ y. construct constructs.Factor (factor_shown y)) e
 
@@ -210,7 +229,7 @@ pub not_made : (b : Box Factor Global) →
     factor_outline (factors.Not b) ≡ construct constructs.Factor (word kinds.Tilde ++ construct constructs.Negated (factor_outline b.value))
 not_made b = factor_of _ _ (factors.outs-Not b)
 
-selector_of : (s : Selector) (x : Selector-F Factor Selector Designator Element ElementList Expr ExprList SimpleExpression Term) → out-Selector s ≡ x →
+selector_of : (s : Selector) (x : SelectorLayer) → out-Selector s ≡ x →
     selector_outline s ≡ construct constructs.Selector (selector_shown x)
 selector_of s x e = selector_out s ∙ ap (λ y. construct constructs.Selector (selector_shown y)) e
 

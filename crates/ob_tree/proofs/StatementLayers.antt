@@ -12,20 +12,21 @@ use Rattle.ob_tree.specs.declared.name.OneOrMore.{OneOrMore}
 use Rattle.ob_tree.specs.declared.name.Qualident.{Qualident}
 use Rattle.ob_tree.specs.declared.statement.Label.TheVariants as labels
 use Rattle.ob_tree.specs.declared.statement.LabelRange.{LabelRange}
-use Rattle.ob_tree.specs.declared.statement.Case.{Case, Case-F, fold_out-Case, out-Case, map-Case}
+use Rattle.ob_tree.specs.declared.statement.Case.{Case, fold_out-Case, roll-Case, out-Case, out-roll-Case, map-Case}
 use Rattle.ob_tree.specs.declared.statement.Case.TheOpen as layers
 use Rattle.ob_tree.specs.declared.statement.Case.TheShapes as shapes
 use Rattle.ob_tree.specs.declared.statement.Case.TheVariants as cases
-use Rattle.ob_tree.specs.declared.statement.Stmt.{Stmt, Stmt-F, fold_out-Stmt, out-Stmt, map-Stmt}
+use Rattle.ob_tree.specs.declared.statement.Stmt.{Stmt, fold_out-Stmt, roll-Stmt, out-Stmt, out-roll-Stmt, map-Stmt}
 use Rattle.ob_tree.specs.declared.statement.Stmt.TheVariants as statements
-use Rattle.ob_tree.specs.declared.statement.StatementSequence.{StatementSequence, StatementSequence-F, fold_out-StatementSequence, roll-StatementSequence, out-StatementSequence, out-roll-StatementSequence}
-use Rattle.ob_tree.specs.declared.statement.Branch.{Branch, Branch-F, fold_out-Branch, roll-Branch, out-Branch, out-roll-Branch}
-use Rattle.ob_tree.specs.declared.statement.For.{For, For-F, fold_out-For, roll-For, out-For, out-roll-For}
+use Rattle.ob_tree.specs.declared.statement.StatementSequence.{StatementSequence, fold_out-StatementSequence, roll-StatementSequence, out-StatementSequence, out-roll-StatementSequence}
+use Rattle.ob_tree.specs.declared.statement.Branch.{Branch, fold_out-Branch, roll-Branch, out-Branch, out-roll-Branch}
+use Rattle.ob_tree.specs.declared.statement.For.{For, fold_out-For, roll-For, out-For, out-roll-For}
 use Rattle.ob_tree.specs.Constructs as constructs
 use Rattle.ob_tree.specs.Marks.{Out, Value, construct, word, used, if_there, each_after, separated}
 use Rattle.ob_tree.specs.Names.{qualident_outline}
 use Rattle.ob_tree.specs.Expressions.{expr_outline, designator_outline}
 use Rattle.ob_tree.specs.Statements.{Waits, label_outline, label_range_outline, case_step, stmt_step, block_step, branch_step, for_step, case_outline, stmt_outline, block_outline, branch_outline, for_outline}
+use Rattle.ob_tree.proofs.StatementInduction.{CaseLayer, StmtLayer, BranchLayer, ForLayer, BlockLayer}
 use Rattle.ob_tree.proofs.Eaches.{each-map}
 
 else_there : (f : StatementSequence → Out) (o : Option (Box StatementSequence Global)) → if_there (λ b. word kinds.Else ++ b.value) ((shapes.former-Stmt-If-2).map StatementSequence Out f o)
@@ -53,7 +54,7 @@ label_range_out r = refl
 
 -- ---- the outline of a layer's parts
 
-abbrev pub case_shown : Case-F Case Stmt Branch For StatementSequence → Out
+abbrev pub case_shown : CaseLayer → Out
 case_shown layers.Nothing = []
 case_shown (layers.Labelled ranges body) = separated kinds.Comma label_range_outline ranges ++ (word kinds.Colon ++ block_outline body.value)
 
@@ -61,7 +62,7 @@ abbrev pub if_shown : Box Branch Global → Out → Out → Out
 if_shown first rest otherwise = word kinds.If ++ (branch_outline first.value kinds.Then ++ (rest ++ (otherwise ++ word kinds.End)))
 
 -- a statement with its construct, since the empty one has a construct of its own
-abbrev pub stmt_shown : Stmt-F Case Stmt Branch For StatementSequence → Out
+abbrev pub stmt_shown : StmtLayer → Out
 stmt_shown layers.Empty = construct constructs.EmptyStatement []
 stmt_shown (layers.Assign d e) = construct constructs.Statement (designator_outline d ++ (word kinds.Assign ++ expr_outline e))
 stmt_shown (layers.Call d) = construct constructs.Statement (designator_outline d)
@@ -71,16 +72,16 @@ stmt_shown (layers.While first rest) = construct constructs.Statement (word kind
 stmt_shown (layers.Repeat body e) = construct constructs.Statement (word kinds.Repeat ++ (block_outline body.value ++ (word kinds.Until ++ expr_outline e)))
 stmt_shown (layers.For f) = construct constructs.Statement (for_outline f.value)
 
-abbrev pub block_shown : StatementSequence-F Case Stmt Branch For StatementSequence → Out
+abbrev pub block_shown : BlockLayer → Out
 block_shown b = stmt_outline b.first ++ each_after kinds.Semicolon stmt_outline b.rest.items
 
-abbrev pub branch_shown : Branch-F Case Stmt Branch For StatementSequence → Kind → Out
+abbrev pub branch_shown : BranchLayer → Kind → Out
 branch_shown b k = expr_outline b.condition ++ (word k ++ block_outline b.body)
 
-abbrev pub for_shown : For-F Case Stmt Branch For StatementSequence → Out
+abbrev pub for_shown : ForLayer → Out
 for_shown f = word kinds.For ++ (used f.variable ++ (word kinds.Assign ++ (expr_outline f.from ++ (word kinds.To ++ (expr_outline f.to ++ (if_there (λ e. word kinds.By ++ expr_outline e) f.by ++ (word kinds.Do ++ (block_outline f.body ++ word kinds.End))))))))
 
-case_seen : (x : Case-F Case Stmt Branch For StatementSequence) → case_step (map-Case Case Stmt Branch For StatementSequence Out Out Waits Out Out case_outline stmt_outline branch_outline for_outline block_outline x)
+case_seen : (x : CaseLayer) → case_step (map-Case Case Stmt Branch For StatementSequence Out Out Waits Out Out case_outline stmt_outline branch_outline for_outline block_outline x)
     ≡ construct constructs.Case (case_shown x)
 case_seen layers.Nothing = refl
 case_seen (layers.Labelled ranges body) = refl
@@ -89,7 +90,7 @@ pub case_out : (c : Case) → case_outline c ≡ construct constructs.Case (case
 unfolding case_outline stmt_outline branch_outline for_outline block_outline
 case_out c = fold_out-Case Out Out Waits Out Out case_step stmt_step branch_step for_step block_step c ∙ case_seen (out-Case c)
 
-stmt_seen : (x : Stmt-F Case Stmt Branch For StatementSequence) → stmt_step (map-Stmt Case Stmt Branch For StatementSequence Out Out Waits Out Out case_outline stmt_outline branch_outline for_outline block_outline x)
+stmt_seen : (x : StmtLayer) → stmt_step (map-Stmt Case Stmt Branch For StatementSequence Out Out Waits Out Out case_outline stmt_outline branch_outline for_outline block_outline x)
     ≡ stmt_shown x
 stmt_seen layers.Empty = refl
 stmt_seen (layers.Assign d e) = refl
@@ -122,13 +123,25 @@ for_out f = fold_out-For Out Out Waits Out Out case_step stmt_step branch_step f
 
 -- ---- the same at a value that is made
 
-pub block_rolled : (x : StatementSequence-F Case Stmt Branch For StatementSequence) → block_outline (roll-StatementSequence x) ≡ block_shown x
+cased : (c : Case) (x : CaseLayer) → out-Case c ≡ x → case_outline c ≡ construct constructs.Case (case_shown x)
+cased c x e = case_out c ∙ ap (λ y. construct constructs.Case (case_shown y)) e
+
+stated : (s : Stmt) (x : StmtLayer) → out-Stmt s ≡ x → stmt_outline s ≡ stmt_shown x
+stated s x e = stmt_out s ∙ ap (λ y. stmt_shown y) e
+
+pub case_rolled : (x : CaseLayer) → case_outline (roll-Case x) ≡ construct constructs.Case (case_shown x)
+case_rolled x = cased (roll-Case x) x (out-roll-Case x)
+
+pub stmt_rolled : (x : StmtLayer) → stmt_outline (roll-Stmt x) ≡ stmt_shown x
+stmt_rolled x = stated (roll-Stmt x) x (out-roll-Stmt x)
+
+pub block_rolled : (x : BlockLayer) → block_outline (roll-StatementSequence x) ≡ block_shown x
 block_rolled x = block_out (roll-StatementSequence x) ∙ ap (λ y. block_shown y) (out-roll-StatementSequence x)
 
-pub branch_rolled : (x : Branch-F Case Stmt Branch For StatementSequence) (k : Kind) → branch_outline (roll-Branch x) k ≡ branch_shown x k
+pub branch_rolled : (x : BranchLayer) (k : Kind) → branch_outline (roll-Branch x) k ≡ branch_shown x k
 branch_rolled x k = branch_out (roll-Branch x) k ∙ ap (λ y. branch_shown y k) (out-roll-Branch x)
 
-pub for_rolled : (x : For-F Case Stmt Branch For StatementSequence) → for_outline (roll-For x) ≡ for_shown x
+pub for_rolled : (x : ForLayer) → for_outline (roll-For x) ≡ for_shown x
 for_rolled x = for_out (roll-For x) ∙ ap (λ y. for_shown y) (out-roll-For x)
 
 pub block_made : (s : Stmt) (v : Vec Stmt Global) → block_outline (roll-StatementSequence (record { first = s; rest = v }))
@@ -143,18 +156,12 @@ pub for_made : (n : ℕ) (low high : Expr) (step : Option Expr) (b : StatementSe
     ≡ word kinds.For ++ (used n ++ (word kinds.Assign ++ (expr_outline low ++ (word kinds.To ++ (expr_outline high ++ (if_there (λ e. word kinds.By ++ expr_outline e) step ++ (word kinds.Do ++ (block_outline b ++ word kinds.End))))))))
 for_made n low high step b = for_rolled _
 
-cased : (c : Case) (x : Case-F Case Stmt Branch For StatementSequence) → out-Case c ≡ x → case_outline c ≡ construct constructs.Case (case_shown x)
-cased c x e = case_out c ∙ ap (λ y. construct constructs.Case (case_shown y)) e
-
 pub nothing_made : case_outline cases.Nothing ≡ construct constructs.Case []
 nothing_made = cased _ _ cases.outs-Nothing
 
 pub labelled_made : (l : OneOrMore LabelRange) (b : Box StatementSequence Global) → case_outline (cases.Labelled l b)
     ≡ construct constructs.Case (separated kinds.Comma label_range_outline l ++ (word kinds.Colon ++ block_outline b.value))
 labelled_made l b = cased _ _ (cases.outs-Labelled l b)
-
-stated : (s : Stmt) (x : Stmt-F Case Stmt Branch For StatementSequence) → out-Stmt s ≡ x → stmt_outline s ≡ stmt_shown x
-stated s x e = stmt_out s ∙ ap (λ y. stmt_shown y) e
 
 pub empty_made : stmt_outline statements.Empty ≡ construct constructs.EmptyStatement []
 empty_made = stated _ _ statements.outs-Empty

@@ -10,18 +10,19 @@ use Rattle.ob_tree.specs.declared.name.OneOrMore.{OneOrMore}
 use Rattle.ob_tree.specs.declared.name.Qualident.{Qualident}
 use Rattle.ob_tree.specs.declared.declaration.ParameterSection.{ParameterSection}
 use Rattle.ob_tree.specs.declared.declaration.Parameters.{Parameters}
-use Rattle.ob_tree.specs.declared.declaration.TypeForm.{TypeForm, TypeForm-F, fold_out-TypeForm, out-TypeForm, map-TypeForm}
+use Rattle.ob_tree.specs.declared.declaration.TypeForm.{TypeForm, fold_out-TypeForm, roll-TypeForm, out-TypeForm, out-roll-TypeForm, map-TypeForm}
 use Rattle.ob_tree.specs.declared.declaration.TypeForm.TheOpen as layers
 use Rattle.ob_tree.specs.declared.declaration.TypeForm.TheShapes as shapes
 use Rattle.ob_tree.specs.declared.declaration.TypeForm.TheVariants as forms
-use Rattle.ob_tree.specs.declared.declaration.Fields.{Fields, Fields-F, fold_out-Fields, roll-Fields, out-Fields, out-roll-Fields}
-use Rattle.ob_tree.specs.declared.declaration.Record.{Record, Record-F, fold_out-Record, roll-Record, out-Record, out-roll-Record}
-use Rattle.ob_tree.specs.declared.declaration.VarDecl.{VarDecl, VarDecl-F, fold_out-VarDecl, roll-VarDecl, out-VarDecl, out-roll-VarDecl}
+use Rattle.ob_tree.specs.declared.declaration.Fields.{Fields, fold_out-Fields, roll-Fields, out-Fields, out-roll-Fields}
+use Rattle.ob_tree.specs.declared.declaration.Record.{Record, fold_out-Record, roll-Record, out-Record, out-roll-Record}
+use Rattle.ob_tree.specs.declared.declaration.VarDecl.{VarDecl, fold_out-VarDecl, roll-VarDecl, out-VarDecl, out-roll-VarDecl}
 use Rattle.ob_tree.specs.Constructs as constructs
 use Rattle.ob_tree.specs.Marks.{Out, construct, word, declared, if_there, if_so, each_after, separated, times}
 use Rattle.ob_tree.specs.Names.{qualident_outline, identdef_outline}
 use Rattle.ob_tree.specs.Expressions.{expr_list_outline}
 use Rattle.ob_tree.specs.Types.{section_outline, parameters_outline, type_step, fields_step, record_step, var_step, type_outline, fields_outline, record_outline, var_outline}
+use Rattle.ob_tree.proofs.TypeInduction.{TypeLayer, FieldsLayer, RecordLayer, VarLayer}
 use Rattle.ob_tree.proofs.Eaches.{each-map}
 
 fields_there : (f : Fields → Out) (o : Option (Box Fields Global)) → if_there (λ x. x.value) ((shapes.former-Record-fields).map Fields Out f o)
@@ -43,23 +44,23 @@ parameters_out p = refl
 
 -- ---- the outline of a layer's parts
 
-abbrev pub type_shown : TypeForm-F TypeForm Fields Record VarDecl → Out
+abbrev pub type_shown : TypeLayer → Out
 type_shown (layers.Named q) = construct constructs.NamedType (qualident_outline q)
 type_shown (layers.ArrayOf lengths of) = construct constructs.ArrayType (word kinds.Array ++ (expr_list_outline lengths.value ++ (word kinds.Of ++ type_outline of.value)))
 type_shown (layers.RecordOf r) = construct constructs.RecordType (record_outline r)
 type_shown (layers.PointerTo t) = construct constructs.PointerType (word kinds.Pointer ++ (word kinds.To ++ type_outline t.value))
 type_shown (layers.ProcOf p) = construct constructs.ProcedureType (word kinds.Procedure ++ if_there parameters_outline p)
 
-abbrev pub fields_shown : Fields-F TypeForm Fields Record VarDecl → Out
+abbrev pub fields_shown : FieldsLayer → Out
 fields_shown f = construct constructs.FieldList (var_outline f.first) ++ (each_after kinds.Semicolon (λ v. construct constructs.FieldList (var_outline v)) f.rest.items ++ if_so f.closing_semicolon (word kinds.Semicolon))
 
-abbrev pub record_shown : Record-F TypeForm Fields Record VarDecl → Out
+abbrev pub record_shown : RecordLayer → Out
 record_shown r = word kinds.Record ++ (if_there (λ q. word kinds.LeftParen ++ (qualident_outline q ++ word kinds.RightParen)) r.base ++ (if_there (λ f. fields_outline f.value) r.fields ++ word kinds.End))
 
-abbrev pub var_shown : VarDecl-F TypeForm Fields Record VarDecl → Out
+abbrev pub var_shown : VarLayer → Out
 var_shown v = separated kinds.Comma identdef_outline v.names ++ (word kinds.Colon ++ type_outline v.form)
 
-type_seen : (x : TypeForm-F TypeForm Fields Record VarDecl) → type_step (map-TypeForm TypeForm Fields Record VarDecl Out Out Out Out type_outline fields_outline record_outline var_outline x)
+type_seen : (x : TypeLayer) → type_step (map-TypeForm TypeForm Fields Record VarDecl Out Out Out Out type_outline fields_outline record_outline var_outline x)
     ≡ type_shown x
 type_seen (layers.Named q) = refl
 type_seen (layers.ArrayOf lengths of) = refl
@@ -89,13 +90,19 @@ var_out v = fold_out-VarDecl Out Out Out Out type_step fields_step record_step v
 
 -- ---- the same at a value that is made
 
-pub fields_rolled : (x : Fields-F TypeForm Fields Record VarDecl) → fields_outline (roll-Fields x) ≡ fields_shown x
+formed : (t : TypeForm) (x : TypeLayer) → out-TypeForm t ≡ x → type_outline t ≡ type_shown x
+formed t x e = type_out t ∙ ap (λ y. type_shown y) e
+
+pub type_rolled : (x : TypeLayer) → type_outline (roll-TypeForm x) ≡ type_shown x
+type_rolled x = formed (roll-TypeForm x) x (out-roll-TypeForm x)
+
+pub fields_rolled : (x : FieldsLayer) → fields_outline (roll-Fields x) ≡ fields_shown x
 fields_rolled x = fields_out (roll-Fields x) ∙ ap (λ y. fields_shown y) (out-roll-Fields x)
 
-pub record_rolled : (x : Record-F TypeForm Fields Record VarDecl) → record_outline (roll-Record x) ≡ record_shown x
+pub record_rolled : (x : RecordLayer) → record_outline (roll-Record x) ≡ record_shown x
 record_rolled x = record_out (roll-Record x) ∙ ap (λ y. record_shown y) (out-roll-Record x)
 
-pub var_rolled : (x : VarDecl-F TypeForm Fields Record VarDecl) → var_outline (roll-VarDecl x) ≡ var_shown x
+pub var_rolled : (x : VarLayer) → var_outline (roll-VarDecl x) ≡ var_shown x
 var_rolled x = var_out (roll-VarDecl x) ∙ ap (λ y. var_shown y) (out-roll-VarDecl x)
 
 pub fields_made : (d : VarDecl) (v : Vec VarDecl Global) (b : Bool) → fields_outline (roll-Fields (record { first = d; rest = v; closing_semicolon = b }))
@@ -109,10 +116,6 @@ record_made o f = record_rolled _
 pub var_made : (l : OneOrMore Identdef) (t : TypeForm) → var_outline (roll-VarDecl (record { names = l; form = t }))
     ≡ separated kinds.Comma identdef_outline l ++ (word kinds.Colon ++ type_outline t)
 var_made l t = var_rolled _
-
-formed : (t : TypeForm) (x : TypeForm-F TypeForm Fields Record VarDecl) → out-TypeForm t ≡ x → type_outline t
-    ≡ type_shown x
-formed t x e = type_out t ∙ ap (λ y. type_shown y) e
 
 pub named_made : (q : Qualident) → type_outline (forms.Named q) ≡ construct constructs.NamedType (qualident_outline q)
 named_made q = formed _ _ (forms.outs-Named q)

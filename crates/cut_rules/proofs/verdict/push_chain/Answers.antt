@@ -13,7 +13,7 @@ returns-in_default-found-clause-told g c = λ ends are.
 
 pub push_broken-requires : goal.push_broken-requires
 push_broken-requires g c =
-    let (ends, are) = c.requires.levels in
+    let (ends, are) = c.requires.ways in
     let found = rw c.in-Some.is at c.in-Ok.ensures.found in
     let least = found ends are in
     let low : c.args.node < length c.args.graph.now.before.items = (let l = c.requires.node in let n = c.requires.nodes in omega arith) in

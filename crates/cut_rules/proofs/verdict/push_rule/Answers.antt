@@ -1,15 +1,16 @@
-use Rattle.std.proofs.Common.{◌<◌, ℕ, List, Option, length, get_or, sym, subst, arith}
+use Rattle.std.proofs.Common.{◌<◌, ℕ, List, [], length, get_or, refl, sym, subst, arith}
 use Rattle.std.specs.Prelude.{All, vec_len}
+use Rattle.std.specs.String.{string_bytes}
 use Rattle.std.proofs.lemmas.List.Elements.{Contains-get_or}
 use Rattle.std.proofs.lemmas.Result.{err_from_is_err_and}
 use Rattle.digraph.specs.Edges.{Leads}
-use Rattle.digraph.specs.Levels.{AreLevels}
-use Rattle.cut_rules.specs.Judged.{AreNamed, AreSome, AreTold}
-use Rattle.cut_rules.proofs.Telling.{some_of_rule, told_of_rule}
+use Rattle.digraph.specs.Ways.{AreWays}
+use Rattle.cut_rules.specs.Judged.{AreSome, AreTold}
+use Rattle.cut_rules.proofs.Telling.{named_as, puts_none, some_of_rule, told_nowhere, told_of_rule}
 use Rattle.cut_rules.proofs.verdict.push_rule.Goals as goal
 
-pub levels_into-requires-clause-ends : goal.levels_into-requires-clause-ends
-levels_into-requires-clause-ends g c =
+pub ways_into-requires-clause-ends : goal.ways_into-requires-clause-ends
+ways_into-requires-clause-ends g c =
     subst (λ (l : List ℕ). All (λ v. v < vec_len c.args.graph.now.before) l) (sym c.as_slice.ensures.value) (λ k d lt.
     let low = c.in-Ok.ensures.within (get_or c.in-Ok.ends.items k d) (Contains-get_or c.in-Ok.ends.items k d lt) in
     let names = c.nodes-nodes.ensures in let nodes = c.requires.nodes in let ok = c.args.graph.now.before.ok in
@@ -28,18 +29,11 @@ returns-in_err-any-clause-broken g c =
     let files = c.args.rules.now.files.items in
     let spans = c.args.rules.now.draft.spans.items in
     let nodes = length c.args.net.now.names in
-    let are_ends : AreNamed files spans nodes c.args.rule.second c.in-Ok.ends.items = record {
-      within = rw c.nodes-nodes.ensures at c.in-Ok.ensures.within;
-      are = rw (c.as_slice-files.ensures.value, c.as_slice-spans.ensures.value, c.nodes-nodes.ensures) at c.in-Ok.ensures.are;
-    } in
-    let are_members : AreNamed files spans nodes c.args.rule.first c.in-Ok-members_of.members.items = record {
-      within = rw c.nodes-nodes.ensures at c.in-Ok-members_of.ensures.within;
-      are = rw (c.as_slice-files.ensures.value, c.as_slice-spans.ensures.value, c.nodes-nodes.ensures) at c.in-Ok-members_of.ensures.are;
-    } in
+    let are_ends = named_as files _ spans _ nodes _ c.args.rule.second c.in-Ok.ends.items c.as_slice-files.ensures.value c.as_slice-spans.ensures.value c.nodes-nodes.ensures c.in-Ok.ensures.within c.in-Ok.ensures.are in
+    let are_members = named_as files _ spans _ nodes _ c.args.rule.first c.in-Ok-members_of.members.items c.as_slice-files.ensures.value c.as_slice-spans.ensures.value c.nodes-nodes.ensures c.in-Ok-members_of.ensures.within c.in-Ok-members_of.ensures.are in
     let leads = Leads c.args.graph.now.edges.now in
-    let levels = subst (λ (ls : List (Option ℕ)). AreLevels c.args.graph.now.edges.now c.in-Ok.ends.items ls) (sym c.as_slice-2.ensures.value)
-    (subst (λ (es : List ℕ). AreLevels c.args.graph.now.edges.now es c.in-Ok-levels_into.levels.items) c.as_slice.ensures.value c.in-Ok-levels_into.ensures) in
-    let (told, are, front) = c.in_err-any.ensures.broken c.in-Ok.ends.items levels in
+    let ways = subst (λ (es : List ℕ). AreWays c.args.graph.now.edges.now es c.in-Some.ways) c.as_slice.ensures.value (rw c.in-Some.is at c.in-Ok-ways_into.ensures.ways) in
+    let (told, are, front) = c.in_err-any.ensures.broken c.in-Ok.ends.items ways in
     rw p.1 (
       told,
       some_of_rule leads files spans nodes c.args.rule c.in-Ok.ends.items c.in-Ok-members_of.members.items are_ends are_members told
@@ -52,21 +46,31 @@ returns-clause-told g c =
     let files = c.args.rules.now.files.items in
     let spans = c.args.rules.now.draft.spans.items in
     let nodes = length c.args.net.now.names in
-    let are_ends : AreNamed files spans nodes c.args.rule.second c.in-Ok.ends.items = record {
-      within = rw c.nodes-nodes.ensures at c.in-Ok.ensures.within;
-      are = rw (c.as_slice-files.ensures.value, c.as_slice-spans.ensures.value, c.nodes-nodes.ensures) at c.in-Ok.ensures.are;
-    } in
-    let are_members : AreNamed files spans nodes c.args.rule.first c.in-Ok-members_of.members.items = record {
-      within = rw c.nodes-nodes.ensures at c.in-Ok-members_of.ensures.within;
-      are = rw (c.as_slice-files.ensures.value, c.as_slice-spans.ensures.value, c.nodes-nodes.ensures) at c.in-Ok-members_of.ensures.are;
-    } in
+    let are_ends = named_as files _ spans _ nodes _ c.args.rule.second c.in-Ok.ends.items c.as_slice-files.ensures.value c.as_slice-spans.ensures.value c.nodes-nodes.ensures c.in-Ok.ensures.within c.in-Ok.ensures.are in
+    let are_members = named_as files _ spans _ nodes _ c.args.rule.first c.in-Ok-members_of.members.items c.as_slice-files.ensures.value c.as_slice-spans.ensures.value c.nodes-nodes.ensures c.in-Ok-members_of.ensures.within c.in-Ok-members_of.ensures.are in
     let leads = Leads c.args.graph.now.edges.now in
-    let levels = subst (λ (ls : List (Option ℕ)). AreLevels c.args.graph.now.edges.now c.in-Ok.ends.items ls) (sym c.as_slice-2.ensures.value)
-    (subst (λ (es : List ℕ). AreLevels c.args.graph.now.edges.now es c.in-Ok-levels_into.levels.items) c.as_slice.ensures.value c.in-Ok-levels_into.ensures) in
-    let (told, are, any, puts) = c.in_ok-any.ensures.told c.in-Ok.ends.items levels in (
+    let ways = subst (λ (es : List ℕ). AreWays c.args.graph.now.edges.now es c.in-Some.ways) c.as_slice.ensures.value (rw c.in-Some.is at c.in-Ok-ways_into.ensures.ways) in
+    let (told, are, any, puts) = c.in_ok-any.ensures.told c.in-Ok.ends.items ways in (
       told,
       told_of_rule leads files spans nodes c.args.rule c.in-Ok.ends.items c.in-Ok-members_of.members.items are_ends are_members told
           (subst (λ (l : List ℕ). AreTold leads c.in-Ok.ends.items c.args.rule.line l told) c.as_slice-3.ensures.value are),
       any,
       puts,
+    )
+
+pub returns-in_default-found-clause-told : goal.returns-in_default-found-clause-told
+returns-in_default-found-clause-told g c =
+    let files = c.args.rules.now.files.items in
+    let spans = c.args.rules.now.draft.spans.items in
+    let nodes = length c.args.net.now.names in
+    let are_ends = named_as files _ spans _ nodes _ c.args.rule.second c.in-Ok.ends.items c.as_slice-files.ensures.value c.as_slice-spans.ensures.value c.nodes-nodes.ensures c.in-Ok.ensures.within c.in-Ok.ensures.are in
+    let are_members = named_as files _ spans _ nodes _ c.args.rule.first c.in-Ok-members_of.members.items c.as_slice-files.ensures.value c.as_slice-spans.ensures.value c.nodes-nodes.ensures c.in-Ok-members_of.ensures.within c.in-Ok-members_of.ensures.are in
+    let edges = c.args.graph.now.edges.now in
+    let ends = c.in-Ok.ends.items in
+    let members = c.in-Ok-members_of.members.items in
+    let none = rw (c.as_slice.ensures.value, c.as_slice-2.ensures.value) at (rw c.in_default-found.is at c.in-Ok-ways_into.ensures.none) in (
+      [],
+      told_of_rule (Leads edges) files spans nodes c.args.rule ends members are_ends are_members [] (told_nowhere edges ends c.args.rule.line members none),
+      refl,
+      puts_none c.args.net.now (string_bytes c.args.text.now) (g.S.Sink.taken c.args.sink.now),
     )

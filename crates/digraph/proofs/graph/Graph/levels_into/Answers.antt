@@ -52,8 +52,8 @@ rounds-preserved c =
     let put = subst (λ (ns : List ℕ). ArePutOn ns (c.rounds.level + 1) c.rounds.levels.items c.put_on-in-rounds.new.levels.items c.in_ok-front-2.front.items) c.as_slice-in-rounds-2.ensures.value c.in_ok-front-2.ensures in
     next_round edges (length c.args.self.now.before.items) c.args.ends.now c.rounds.levels.items c.rounds.front.items c.rounds.level c.rounds.invariant before leads c.put_on-in-rounds.new.levels.items c.in_ok-front-2.front.items put
 
-pub returns : goal.returns
-returns c =
+pub returns-clause-levels : goal.returns-clause-levels
+returns-clause-levels c =
     let none : vec_len c.rounds.front ≡ 0 = eqb-true (vec_len c.rounds.front) 0 (sym c.is_empty.ensures ∙ c.rounds-test.false) in
     let ok = c.rounds.front.ok in
     all_rounds c.args.self.now.edges.now (length c.args.self.now.before.items) c.args.ends.now c.rounds.levels.items c.rounds.front.items c.rounds.level c.rounds.invariant (omega arith)

@@ -1,6 +1,6 @@
 use Rattle.std.proofs.Common.{arith}
 use Rattle.std.proofs.lemmas.Grind.{elements}
-use Rattle.digraph.proofs.least.least_on.Goals as goal
+use Rattle.digraph.proofs.ways.least_on.Goals as goal
 
 pub returns-then-eq-clause-found : goal.returns-then-eq-clause-found
 returns-then-eq-clause-found c = grind (arith, elements)

@@ -1,0 +1,52 @@
+-- Relations of pieces to outlines that hold of what is made of related parts.
+use Rattle.std.proofs.Common.{◌≡◌, ℕ, Bool, List, [], ◌∷◌, ◌++◌, map, Option, Some, None, sym, append_assoc, subst}
+use Rattle.ob_scan.specs.declared.kind.Kind.{Kind}
+use Rattle.ob_tree.specs.Constructs.{Construct}
+use Rattle.ob_tree.specs.Constructs as constructs
+use Rattle.ob_tree.specs.declared.expression.Factor.TheOpen as layers
+use Rattle.ob_tree.specs.declared.expression.Literal.{Literal}
+use Rattle.ob_tree.specs.declared.expression.Selector.{Selector}
+use Rattle.ob_tree.specs.Marks.{Out, Value, construct, word, used}
+use Rattle.ob_tree.specs.Marks.{if_there as outline_there, each as outline_each}
+use Rattle.ob_tree.specs.Expressions.{selector_outline}
+use Rattle.ob_tree.proofs.ExpressionInduction.{With}
+use Rattle.ob_tree.proofs.ExpressionLayers.{selector_shown}
+use Rattle.ob_rows.specs.Parts.{Piece, nothing, token, both, if_there, each}
+use Rattle.ob_decls.specs.Expressions.{Selected, selected}
+use Rattle.ob_decls.proofs.ExpressionLayers as told
+
+-- a selector whose outline is related to what it tells
+abbrev pub IsSelector : (Selected → Out → Type 0) → Selector → Type 0
+IsSelector S s = S (selected s) (selector_outline s)
+
+-- R relates the piece of a part to its outline, S what a selector tells to its outline
+pub record IsCompatible (R : Piece → Out → Type 0) (S : Selected → Out → Type 0) : Type 0 where
+  pub nothing : R nothing []
+  pub a_word : (k : Kind) → R token (word k)
+  pub a_value : (l : Literal) (n : ℕ) → R token (Value l n ∷ [])
+  pub one_after : {p q : Piece} {a b : Out} → R p a → R q b → R (both p q) (a ++ b)
+  pub held : (c : Construct) {p : Piece} {o : Out} → R p o → R p (construct c o)
+  pub a_field : (n : ℕ) → S (told.selector_shown (layers.Field n)) (construct constructs.Selector (selector_shown (layers.Field n)))
+  pub a_selector : (s : Selected) {o : Out} → R s.piece o → S s o
+  pub a_designator : (w : Bool) (n : ℕ) (ss : List (With (IsSelector S))) →
+      R (told.selectors_shown w (map selected (map (λ s. s.0) ss))) (used n ++ outline_each selector_outline (map (λ s. s.0) ss))
+
+module _ {R : Piece → Out → Type 0} {S : Selected → Out → Type 0} (c : IsCompatible R S) where
+  pub c-there : {X : Type 0} (f : X → Piece) (g : X → Out) (o : Option X) → ((x : X) → R (f x) (g x)) → R (if_there f o) (outline_there g o)
+  c-there f g None w = c.nothing
+  c-there f g (Some x) w = w x
+
+  pub c-each : {X : Type 0} (f : X → Piece) (g : X → Out) (xs : List X) → ((x : X) → R (f x) (g x)) → R (each f xs) (outline_each g xs)
+  c-each f g [] w = c.nothing
+  c-each f g (x ∷ xs) w = c.one_after (w x) (c-each f g xs w)
+
+  pub c-map : {X Y : Type 0} (f : Y → Piece) (g : Y → Out) (h : X → Y) (xs : List X) → ((x : X) → R (f (h x)) (g (h x))) → R (each f (map h xs)) (outline_each g (map h xs))
+  c-map f g h [] w = c.nothing
+  c-map f g h (x ∷ xs) w = c.one_after (w x) (c-map f g h xs w)
+
+  pub c-three : {p q r : Piece} {a b o : Out} → R p a → R q b → R r o → R (both p (both q r)) ((a ++ b) ++ o)
+  c-three {p} {q} {r} {a} {b} {o} f g h = subst (R (both p (both q r))) (sym (append_assoc a b o)) (c.one_after f (c.one_after g h))
+
+-- a relation at what is equal to related parts
+pub related-is : {X : Type 0} (Q : X → Out → Type 0) {x y : X} {a b : Out} → x ≡ y → a ≡ b → Q y b → Q x a
+related-is {X} Q {x} {y} {a} {b} e f q = subst (λ (z : X). Q z a) (sym e) (subst (λ (o : Out). Q y o) (sym f) q)
