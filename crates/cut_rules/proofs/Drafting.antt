@@ -58,8 +58,8 @@ number_once net sets x y k a b = by (index_of net x) (index_of net y) (index_of 
     by None None (Some i) None em en ep eq a b = absurd cc
 
 -- the first so many lines have no fault
-abbrev pub IsSound : Network → List File → List (List ℕ) → ℕ → Type 0
-IsSound net files pieces n = (line : ℕ) (fault : LineFault) → line ≤ n → HasFault net files pieces line fault → ⊥
+abbrev pub HasNoFaultUpTo : Network → List File → List (List ℕ) → ℕ → Type 0
+HasNoFaultUpTo net files pieces n = (line : ℕ) (fault : LineFault) → line ≤ n → HasFault net files pieces line fault → ⊥
 
 module _ (net : Network) (files : List File) (sets pieces : List (List ℕ)) (count : ℕ) (piece : List ℕ) (there : slice_get pieces count ≡ Some piece) where
   abbrev next : ℕ
@@ -67,7 +67,7 @@ module _ (net : Network) (files : List File) (sets pieces : List (List ℕ)) (co
 
   -- ---- faults
 
-  sound_more : IsSound net files pieces count → ((fault : LineFault) → HasFault net files pieces next fault → ⊥) → IsSound net files pieces next
+  sound_more : HasNoFaultUpTo net files pieces count → ((fault : LineFault) → HasFault net files pieces next fault → ⊥) → HasNoFaultUpTo net files pieces next
   sound_more sound here line fault le has = elim (cases_eq line next) [
     | inl e ↦ here fault (subst (λ (n : ℕ). HasFault net files pieces n fault) e has)
     | inr ne ↦ sound line fault (omega (arith, ne)) has
@@ -187,7 +187,7 @@ module _ (net : Network) (files : List File) (sets pieces : List (List ℕ)) (co
   -- one module
   pub member_added : IsNetwork net → (draft : Draft) (new : List Span) (s name : List ℕ) (span : Span) → Says pieces next (Member s name) → IsRight net files pieces next (Member s name) → IsMemberSpan net (length files) sets s name span
       → new ≡ draft.spans.items ++ span ∷ [] → IsDraft net files sets pieces count draft
-      → AreSpans net files sets pieces next new × AreForbids net sets pieces next draft.rules.items × AreAllowed net pieces next draft.allowed.items × IsSound net files pieces next
+      → AreSpans net files sets pieces next new × AreForbids net sets pieces next draft.rules.items × AreAllowed net pieces next draft.allowed.items × HasNoFaultUpTo net files pieces next
   member_added network draft new s name span says right own is drafted =
       let p = index_takes net name own.number own.is in
       let low = p.0 in let from = own.from in let to = own.to in
@@ -223,7 +223,7 @@ module _ (net : Network) (files : List File) (sets pieces : List (List ℕ)) (co
   -- the modules of a folder
   pub folder_added : (draft : Draft) (new : List Span) (s folder : List ℕ) (span : Span) → Says pieces next (Folder s folder) → IsRight net files pieces next (Folder s folder) → IsFolderSpan net files sets s folder span
       → new ≡ draft.spans.items ++ span ∷ [] → IsDraft net files sets pieces count draft
-      → AreSpans net files sets pieces next new × AreForbids net sets pieces next draft.rules.items × AreAllowed net pieces next draft.allowed.items × IsSound net files pieces next
+      → AreSpans net files sets pieces next new × AreForbids net sets pieces next draft.rules.items × AreAllowed net pieces next draft.allowed.items × HasNoFaultUpTo net files pieces next
   folder_added draft new s folder span says right own is drafted =
       let one : (l : RuleLine) → Says pieces next l → l ≡ Folder s folder = λ l also. says_one pieces next l (Folder s folder) also says in
       let within = own.within in (
@@ -265,7 +265,7 @@ module _ (net : Network) (files : List File) (sets pieces : List (List ℕ)) (co
   -- a rule
   pub forbid_added : (draft : Draft) (new : List Rule) (x y : List ℕ) (rule : Rule) → Says pieces next (Forbid x y) → IsRight net files pieces next (Forbid x y) → rule.line ≡ next → number_of net sets x ≡ Some rule.first
       → number_of net sets y ≡ Some rule.second → length draft.rules.items < 4096 → new ≡ draft.rules.items ++ rule ∷ [] → IsDraft net files sets pieces count draft
-      → AreSpans net files sets pieces next draft.spans.items × AreForbids net sets pieces next new × AreAllowed net pieces next draft.allowed.items × IsSound net files pieces next
+      → AreSpans net files sets pieces next draft.spans.items × AreForbids net sets pieces next new × AreAllowed net pieces next draft.allowed.items × HasNoFaultUpTo net files pieces next
   forbid_added draft new x y rule says right line first second few is drafted =
       let one : (l : RuleLine) → Says pieces next l → l ≡ Forbid x y = λ l also. says_one pieces next l (Forbid x y) also says in
       let rules = draft.rules.items in
@@ -290,7 +290,7 @@ module _ (net : Network) (files : List File) (sets pieces : List (List ℕ)) (co
   -- an import that is allowed
   pub allow_added : IsNetwork net → (draft : Draft) (new : List Bool) (m n : List ℕ) (number : ℕ) → Says pieces next (Allow m n) → IsRight net files pieces next (Allow m n) → number < length draft.allowed.items
       → is_named net m n (get_or net.imports number none_there) ≡ true → new ≡ set draft.allowed.items number true → IsDraft net files sets pieces count draft
-      → AreSpans net files sets pieces next draft.spans.items × AreForbids net sets pieces next draft.rules.items × AreAllowed net pieces next new × IsSound net files pieces next
+      → AreSpans net files sets pieces next draft.spans.items × AreForbids net sets pieces next draft.rules.items × AreAllowed net pieces next new × HasNoFaultUpTo net files pieces next
   allow_added network draft new m n number says right low named is drafted =
       let one : (l : RuleLine) → Says pieces next l → l ≡ Allow m n = λ l also. says_one pieces next l (Allow m n) also says in
       let are = drafted.allowed in
@@ -334,7 +334,7 @@ module _ (net : Network) (files : List File) (sets pieces : List (List ℕ)) (co
 
 -- the draft, by the number of the line
 pub drafted_at : (net : Network) (files : List File) (sets pieces : List (List ℕ)) (line n : ℕ) → line ≡ n → (draft : Draft)
-    → AreSpans net files sets pieces n draft.spans.items × AreForbids net sets pieces n draft.rules.items × AreAllowed net pieces n draft.allowed.items × IsSound net files pieces n
+    → AreSpans net files sets pieces n draft.spans.items × AreForbids net sets pieces n draft.rules.items × AreAllowed net pieces n draft.allowed.items × HasNoFaultUpTo net files pieces n
     → IsDraft net files sets pieces line draft
 drafted_at net files sets pieces line n e draft (spans, rules, allowed, sound) = record {
   sound = λ at fault le. sound at fault (omega arith);

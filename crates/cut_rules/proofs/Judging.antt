@@ -4,7 +4,7 @@ use Rattle.std.specs.Prelude.{◌↔◌, AllPairs, Contains, String, is_some, na
 use Rattle.std.specs.List.{position, position_or_len}
 use Rattle.std.specs.Str.{bytes_eq}
 use Rattle.std.specs.String.{string_bytes}
-use Rattle.std.proofs.lemmas.Bool.{cases_lt, eqb-true, false_from_ne_true, lt-ltb}
+use Rattle.std.proofs.lemmas.Bool.{cases_eq, cases_lt, eqb-true, false_from_ne_true, lt-ltb}
 use Rattle.std.proofs.lemmas.Bool.Decides.{Decides-eqb}
 use Rattle.std.proofs.lemmas.Cmp.{nat_eq_equiv}
 use Rattle.std.proofs.lemmas.Map.Keys.{IsDistinct-from_apart}
@@ -25,9 +25,10 @@ use Rattle.cut_rules.specs.declared.draft.Rule.{Rule}
 use Rattle.cut_rules.specs.declared.fault.LineFault.{LineFault}
 use Rattle.cut_rules.specs.declared.fault.LineFault.TheVariants.{BadLine, SetIsModule, NoSuchModule, NoSuchImport, TwiceAllowed, EmptySet, TooMany, Memory}
 use Rattle.cut_rules.specs.declared.file.File.{File}
-use Rattle.cut_rules.specs.RuleLines.{Member, Folder, Forbid, Allow, Says}
+use Rattle.cut_rules.specs.RuleLines.{RuleLine, Member, Folder, Forbid, Allow, Says}
 use Rattle.cut_rules.specs.Drafts.{number_by, number_of, AreAllowed, AreForbids, AreSets, IsFirstWrong, IsRight}
 use Rattle.cut_rules.specs.Rules.{rank, AreManyBefore, IsSet, IsUnder, IsWrong, LiesIn}
+use Rattle.cut_rules.proofs.Ranks.{one_rank, rank_low}
 
 -- ---- names
 
@@ -107,162 +108,86 @@ module _ {Z : Type 0} (net : Network) (sets : List (String Z)) (name : List ℕ)
 -- ---- lines
 
 module _ (net : Network) (files : List File) (pieces : List (List ℕ)) (line : ℕ) where
-  pub member_right : (s m : List ℕ) → (IsWrong net files pieces line SetIsModule (Member s m) → ⊥) → (IsWrong net files pieces line NoSuchModule (Member s m) → ⊥) → IsRight net files pieces line (Member s m)
-  member_right s m _ _ BadLine wrong = absurd wrong
-  member_right s m h _ SetIsModule wrong = h wrong
-  member_right s m _ h NoSuchModule wrong = h wrong
-  member_right s m _ _ NoSuchImport wrong = absurd wrong
-  member_right s m _ _ TwiceAllowed wrong = absurd wrong
-  member_right s m _ _ EmptySet wrong = absurd wrong
-  member_right s m _ _ TooMany wrong = absurd wrong
-  member_right s m _ _ Memory wrong = absurd wrong
+  module _ (said : RuleLine) where
+    -- a fault isn't one of what the line says
+    abbrev pub Lacks : LineFault → Type 0
+    Lacks fault = IsWrong net files pieces line fault said → ⊥
+
+    -- nor is any that is looked for before this rank
+    abbrev pub LacksBefore : ℕ → Type 0
+    LacksBefore n = (other : LineFault) → rank other < n → Lacks other
+
+    lacks_more : (fault : LineFault) → LacksBefore (rank fault) → Lacks fault → LacksBefore (rank fault + 1)
+    lacks_more fault none here other lt wrong = elim (cases_eq (rank other) (rank fault)) [
+      | inl same ↦ here (subst (λ (f : LineFault). IsWrong net files pieces line f said) (one_rank other fault same) wrong)
+      | inr differs ↦ none other (omega (arith, differs)) wrong
+    ]
+
+    before_SetIsModule : LacksBefore 1
+    before_SetIsModule = lacks_more BadLine (λ other lt wrong. omega arith) (λ wrong. wrong)
+
+    before_NoSuchModule : Lacks SetIsModule → LacksBefore 2
+    before_NoSuchModule h = lacks_more SetIsModule before_SetIsModule h
+
+    before_NoSuchImport : Lacks SetIsModule → Lacks NoSuchModule → LacksBefore 3
+    before_NoSuchImport h i = lacks_more NoSuchModule (before_NoSuchModule h) i
+
+    before_TwiceAllowed : Lacks SetIsModule → Lacks NoSuchModule → Lacks NoSuchImport → LacksBefore 4
+    before_TwiceAllowed h i j = lacks_more NoSuchImport (before_NoSuchImport h i) j
+
+    before_EmptySet : Lacks SetIsModule → Lacks NoSuchModule → Lacks NoSuchImport → Lacks TwiceAllowed → LacksBefore 5
+    before_EmptySet h i j k = lacks_more TwiceAllowed (before_TwiceAllowed h i j) k
+
+    before_TooMany : Lacks SetIsModule → Lacks NoSuchModule → Lacks NoSuchImport → Lacks TwiceAllowed → Lacks EmptySet → LacksBefore 6
+    before_TooMany h i j k l = lacks_more EmptySet (before_EmptySet h i j k) l
+
+    first_wrong : (fault : LineFault) → IsWrong net files pieces line fault said → LacksBefore (rank fault) → IsFirstWrong net files pieces line fault said
+    first_wrong fault wrong none = record {
+      wrong = wrong;
+      first = λ other is. elim (cases_lt (rank other) (rank fault)) [ inl less ↦ absurd (none other less is) | inr le ↦ le ];
+    }
+
+    right : Lacks SetIsModule → Lacks NoSuchModule → Lacks NoSuchImport → Lacks TwiceAllowed → Lacks EmptySet → Lacks TooMany → IsRight net files pieces line said
+    right h i j k l m fault wrong = lacks_more Memory (lacks_more TooMany (before_TooMany h i j k l) m) (λ none. none) fault (rank_low fault) wrong
+
+  pub member_right : (s m : List ℕ) → Lacks (Member s m) SetIsModule → Lacks (Member s m) NoSuchModule → IsRight net files pieces line (Member s m)
+  member_right s m h i = right (Member s m) h i (λ none. none) (λ none. none) (λ none. none) (λ none. none)
 
   pub member_SetIsModule : (s m : List ℕ) → IsWrong net files pieces line SetIsModule (Member s m) → IsFirstWrong net files pieces line SetIsModule (Member s m)
-  member_SetIsModule s m is = record { wrong = is; first = first }
-    where
-      first : (other : LineFault) → IsWrong net files pieces line other (Member s m) → rank SetIsModule ≤ rank other
-      first BadLine wrong = absurd wrong
-      first SetIsModule wrong = omega arith
-      first NoSuchModule wrong = omega arith
-      first NoSuchImport wrong = absurd wrong
-      first TwiceAllowed wrong = absurd wrong
-      first EmptySet wrong = absurd wrong
-      first TooMany wrong = absurd wrong
-      first Memory wrong = absurd wrong
+  member_SetIsModule s m is = first_wrong (Member s m) SetIsModule is (before_SetIsModule (Member s m))
 
-  pub member_NoSuchModule : (s m : List ℕ) → IsWrong net files pieces line NoSuchModule (Member s m) → (IsWrong net files pieces line SetIsModule (Member s m) → ⊥) → IsFirstWrong net files pieces line NoSuchModule (Member s m)
-  member_NoSuchModule s m is h0 = record { wrong = is; first = first }
-    where
-      first : (other : LineFault) → IsWrong net files pieces line other (Member s m) → rank NoSuchModule ≤ rank other
-      first BadLine wrong = absurd wrong
-      first SetIsModule wrong = absurd (h0 wrong)
-      first NoSuchModule wrong = omega arith
-      first NoSuchImport wrong = absurd wrong
-      first TwiceAllowed wrong = absurd wrong
-      first EmptySet wrong = absurd wrong
-      first TooMany wrong = absurd wrong
-      first Memory wrong = absurd wrong
+  pub member_NoSuchModule : (s m : List ℕ) → IsWrong net files pieces line NoSuchModule (Member s m) → Lacks (Member s m) SetIsModule → IsFirstWrong net files pieces line NoSuchModule (Member s m)
+  member_NoSuchModule s m is h = first_wrong (Member s m) NoSuchModule is (before_NoSuchModule (Member s m) h)
 
-  pub folder_right : (s path : List ℕ) → (IsWrong net files pieces line SetIsModule (Folder s path) → ⊥) → (IsWrong net files pieces line EmptySet (Folder s path) → ⊥) → IsRight net files pieces line (Folder s path)
-  folder_right s path _ _ BadLine wrong = absurd wrong
-  folder_right s path h _ SetIsModule wrong = h wrong
-  folder_right s path _ _ NoSuchModule wrong = absurd wrong
-  folder_right s path _ _ NoSuchImport wrong = absurd wrong
-  folder_right s path _ _ TwiceAllowed wrong = absurd wrong
-  folder_right s path _ h EmptySet wrong = h wrong
-  folder_right s path _ _ TooMany wrong = absurd wrong
-  folder_right s path _ _ Memory wrong = absurd wrong
+  pub folder_right : (s path : List ℕ) → Lacks (Folder s path) SetIsModule → Lacks (Folder s path) EmptySet → IsRight net files pieces line (Folder s path)
+  folder_right s path h l = right (Folder s path) h (λ none. none) (λ none. none) (λ none. none) l (λ none. none)
 
   pub folder_SetIsModule : (s path : List ℕ) → IsWrong net files pieces line SetIsModule (Folder s path) → IsFirstWrong net files pieces line SetIsModule (Folder s path)
-  folder_SetIsModule s path is = record { wrong = is; first = first }
-    where
-      first : (other : LineFault) → IsWrong net files pieces line other (Folder s path) → rank SetIsModule ≤ rank other
-      first BadLine wrong = absurd wrong
-      first SetIsModule wrong = omega arith
-      first NoSuchModule wrong = absurd wrong
-      first NoSuchImport wrong = absurd wrong
-      first TwiceAllowed wrong = absurd wrong
-      first EmptySet wrong = omega arith
-      first TooMany wrong = absurd wrong
-      first Memory wrong = absurd wrong
+  folder_SetIsModule s path is = first_wrong (Folder s path) SetIsModule is (before_SetIsModule (Folder s path))
 
-  pub folder_EmptySet : (s path : List ℕ) → IsWrong net files pieces line EmptySet (Folder s path) → (IsWrong net files pieces line SetIsModule (Folder s path) → ⊥) → IsFirstWrong net files pieces line EmptySet (Folder s path)
-  folder_EmptySet s path is h0 = record { wrong = is; first = first }
-    where
-      first : (other : LineFault) → IsWrong net files pieces line other (Folder s path) → rank EmptySet ≤ rank other
-      first BadLine wrong = absurd wrong
-      first SetIsModule wrong = absurd (h0 wrong)
-      first NoSuchModule wrong = absurd wrong
-      first NoSuchImport wrong = absurd wrong
-      first TwiceAllowed wrong = absurd wrong
-      first EmptySet wrong = omega arith
-      first TooMany wrong = absurd wrong
-      first Memory wrong = absurd wrong
+  pub folder_EmptySet : (s path : List ℕ) → IsWrong net files pieces line EmptySet (Folder s path) → Lacks (Folder s path) SetIsModule → IsFirstWrong net files pieces line EmptySet (Folder s path)
+  folder_EmptySet s path is h = first_wrong (Folder s path) EmptySet is (before_EmptySet (Folder s path) h (λ none. none) (λ none. none) (λ none. none))
 
-  pub forbid_right : (x y : List ℕ) → (IsWrong net files pieces line NoSuchModule (Forbid x y) → ⊥) → (IsWrong net files pieces line TooMany (Forbid x y) → ⊥) → IsRight net files pieces line (Forbid x y)
-  forbid_right x y _ _ BadLine wrong = absurd wrong
-  forbid_right x y _ _ SetIsModule wrong = absurd wrong
-  forbid_right x y h _ NoSuchModule wrong = h wrong
-  forbid_right x y _ _ NoSuchImport wrong = absurd wrong
-  forbid_right x y _ _ TwiceAllowed wrong = absurd wrong
-  forbid_right x y _ _ EmptySet wrong = absurd wrong
-  forbid_right x y _ h TooMany wrong = h wrong
-  forbid_right x y _ _ Memory wrong = absurd wrong
+  pub forbid_right : (x y : List ℕ) → Lacks (Forbid x y) NoSuchModule → Lacks (Forbid x y) TooMany → IsRight net files pieces line (Forbid x y)
+  forbid_right x y i m = right (Forbid x y) (λ none. none) i (λ none. none) (λ none. none) (λ none. none) m
 
   pub forbid_NoSuchModule : (x y : List ℕ) → IsWrong net files pieces line NoSuchModule (Forbid x y) → IsFirstWrong net files pieces line NoSuchModule (Forbid x y)
-  forbid_NoSuchModule x y is = record { wrong = is; first = first }
-    where
-      first : (other : LineFault) → IsWrong net files pieces line other (Forbid x y) → rank NoSuchModule ≤ rank other
-      first BadLine wrong = absurd wrong
-      first SetIsModule wrong = absurd wrong
-      first NoSuchModule wrong = omega arith
-      first NoSuchImport wrong = absurd wrong
-      first TwiceAllowed wrong = absurd wrong
-      first EmptySet wrong = absurd wrong
-      first TooMany wrong = omega arith
-      first Memory wrong = absurd wrong
+  forbid_NoSuchModule x y is = first_wrong (Forbid x y) NoSuchModule is (before_NoSuchModule (Forbid x y) (λ none. none))
 
-  pub forbid_TooMany : (x y : List ℕ) → IsWrong net files pieces line TooMany (Forbid x y) → (IsWrong net files pieces line NoSuchModule (Forbid x y) → ⊥) → IsFirstWrong net files pieces line TooMany (Forbid x y)
-  forbid_TooMany x y is h0 = record { wrong = is; first = first }
-    where
-      first : (other : LineFault) → IsWrong net files pieces line other (Forbid x y) → rank TooMany ≤ rank other
-      first BadLine wrong = absurd wrong
-      first SetIsModule wrong = absurd wrong
-      first NoSuchModule wrong = absurd (h0 wrong)
-      first NoSuchImport wrong = absurd wrong
-      first TwiceAllowed wrong = absurd wrong
-      first EmptySet wrong = absurd wrong
-      first TooMany wrong = omega arith
-      first Memory wrong = absurd wrong
+  pub forbid_TooMany : (x y : List ℕ) → IsWrong net files pieces line TooMany (Forbid x y) → Lacks (Forbid x y) NoSuchModule → IsFirstWrong net files pieces line TooMany (Forbid x y)
+  forbid_TooMany x y is i = first_wrong (Forbid x y) TooMany is (before_TooMany (Forbid x y) (λ none. none) i (λ none. none) (λ none. none) (λ none. none))
 
-  pub allow_right : (m n : List ℕ) → (IsWrong net files pieces line NoSuchModule (Allow m n) → ⊥) → (IsWrong net files pieces line NoSuchImport (Allow m n) → ⊥) → (IsWrong net files pieces line TwiceAllowed (Allow m n) → ⊥) → IsRight net files pieces line (Allow m n)
-  allow_right m n _ _ _ BadLine wrong = absurd wrong
-  allow_right m n _ _ _ SetIsModule wrong = absurd wrong
-  allow_right m n h _ _ NoSuchModule wrong = h wrong
-  allow_right m n _ h _ NoSuchImport wrong = h wrong
-  allow_right m n _ _ h TwiceAllowed wrong = h wrong
-  allow_right m n _ _ _ EmptySet wrong = absurd wrong
-  allow_right m n _ _ _ TooMany wrong = absurd wrong
-  allow_right m n _ _ _ Memory wrong = absurd wrong
+  pub allow_right : (m n : List ℕ) → Lacks (Allow m n) NoSuchModule → Lacks (Allow m n) NoSuchImport → Lacks (Allow m n) TwiceAllowed → IsRight net files pieces line (Allow m n)
+  allow_right m n i j k = right (Allow m n) (λ none. none) i j k (λ none. none) (λ none. none)
 
   pub allow_NoSuchModule : (m n : List ℕ) → IsWrong net files pieces line NoSuchModule (Allow m n) → IsFirstWrong net files pieces line NoSuchModule (Allow m n)
-  allow_NoSuchModule m n is = record { wrong = is; first = first }
-    where
-      first : (other : LineFault) → IsWrong net files pieces line other (Allow m n) → rank NoSuchModule ≤ rank other
-      first BadLine wrong = absurd wrong
-      first SetIsModule wrong = absurd wrong
-      first NoSuchModule wrong = omega arith
-      first NoSuchImport wrong = omega arith
-      first TwiceAllowed wrong = omega arith
-      first EmptySet wrong = absurd wrong
-      first TooMany wrong = absurd wrong
-      first Memory wrong = absurd wrong
+  allow_NoSuchModule m n is = first_wrong (Allow m n) NoSuchModule is (before_NoSuchModule (Allow m n) (λ none. none))
 
-  pub allow_NoSuchImport : (m n : List ℕ) → IsWrong net files pieces line NoSuchImport (Allow m n) → (IsWrong net files pieces line NoSuchModule (Allow m n) → ⊥) → IsFirstWrong net files pieces line NoSuchImport (Allow m n)
-  allow_NoSuchImport m n is h0 = record { wrong = is; first = first }
-    where
-      first : (other : LineFault) → IsWrong net files pieces line other (Allow m n) → rank NoSuchImport ≤ rank other
-      first BadLine wrong = absurd wrong
-      first SetIsModule wrong = absurd wrong
-      first NoSuchModule wrong = absurd (h0 wrong)
-      first NoSuchImport wrong = omega arith
-      first TwiceAllowed wrong = omega arith
-      first EmptySet wrong = absurd wrong
-      first TooMany wrong = absurd wrong
-      first Memory wrong = absurd wrong
+  pub allow_NoSuchImport : (m n : List ℕ) → IsWrong net files pieces line NoSuchImport (Allow m n) → Lacks (Allow m n) NoSuchModule → IsFirstWrong net files pieces line NoSuchImport (Allow m n)
+  allow_NoSuchImport m n is i = first_wrong (Allow m n) NoSuchImport is (before_NoSuchImport (Allow m n) (λ none. none) i)
 
-  pub allow_TwiceAllowed : (m n : List ℕ) → IsWrong net files pieces line TwiceAllowed (Allow m n) → (IsWrong net files pieces line NoSuchModule (Allow m n) → ⊥) → (IsWrong net files pieces line NoSuchImport (Allow m n) → ⊥) → IsFirstWrong net files pieces line TwiceAllowed (Allow m n)
-  allow_TwiceAllowed m n is h0 h1 = record { wrong = is; first = first }
-    where
-      first : (other : LineFault) → IsWrong net files pieces line other (Allow m n) → rank TwiceAllowed ≤ rank other
-      first BadLine wrong = absurd wrong
-      first SetIsModule wrong = absurd wrong
-      first NoSuchModule wrong = absurd (h0 wrong)
-      first NoSuchImport wrong = absurd (h1 wrong)
-      first TwiceAllowed wrong = omega arith
-      first EmptySet wrong = absurd wrong
-      first TooMany wrong = absurd wrong
-      first Memory wrong = absurd wrong
+  pub allow_TwiceAllowed : (m n : List ℕ) → IsWrong net files pieces line TwiceAllowed (Allow m n) → Lacks (Allow m n) NoSuchModule → Lacks (Allow m n) NoSuchImport → IsFirstWrong net files pieces line TwiceAllowed (Allow m n)
+  allow_TwiceAllowed m n is i j = first_wrong (Allow m n) TwiceAllowed is (before_TwiceAllowed (Allow m n) (λ none. none) i j)
 
 -- a folder with no place has no module
 pub none_under : (files : List File) (folder : List ℕ) (from to : ℕ) → ((k : ℕ) (f : File) → slice_get files k ≡ Some f → ((from ≤ k) × (k < to)) ↔ LiesIn folder f.path.now) → to ≤ from → (m : ℕ) → IsUnder files folder m → ⊥

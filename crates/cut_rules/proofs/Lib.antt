@@ -1,3 +1,4 @@
+pub mod Ranks
 pub mod LineLaws
 pub mod Pieces
 pub mod FolderLaws

@@ -1,34 +1,12 @@
 -- A text has one first fault at most.
-use Rattle.std.proofs.Common.{◌≡◌, ℕ, zero, suc, inl, inr, List, refl, sym, ap, ap₂, ◌∙◌, subst, arith}
+use Rattle.std.proofs.Common.{◌≡◌, ℕ, inl, inr, List, sym, ap₂, ◌∙◌, subst, arith}
 use Rattle.std.proofs.lemmas.Bool.{cases_order}
 use Rattle.cut_net.specs.Network.{Network}
-use Rattle.cut_rules.specs.declared.fault.LineFault.{LineFault}
-use Rattle.cut_rules.specs.declared.fault.LineFault.TheVariants as faults
 use Rattle.cut_rules.specs.declared.fault.RulesFault.{RulesFault}
 use Rattle.cut_rules.specs.declared.file.File.{File}
 use Rattle.cut_rules.specs.Outcomes.{fault_at, IsRefusal}
-use Rattle.cut_rules.specs.Rules.{rank, HasFault}
-
-by_rank : ℕ → LineFault
-by_rank zero = faults.BadLine
-by_rank (suc zero) = faults.SetIsModule
-by_rank (suc (suc zero)) = faults.NoSuchModule
-by_rank (suc (suc (suc zero))) = faults.NoSuchImport
-by_rank (suc (suc (suc (suc zero)))) = faults.TwiceAllowed
-by_rank (suc (suc (suc (suc (suc zero))))) = faults.EmptySet
-by_rank (suc (suc (suc (suc (suc (suc zero)))))) = faults.TooMany
-by_rank (suc (suc (suc (suc (suc (suc (suc n))))))) = faults.Memory
-
-ranked : (fault : LineFault) → by_rank (rank fault) ≡ fault
-unfolding by_rank
-ranked faults.BadLine = refl
-ranked faults.SetIsModule = refl
-ranked faults.NoSuchModule = refl
-ranked faults.NoSuchImport = refl
-ranked faults.TwiceAllowed = refl
-ranked faults.EmptySet = refl
-ranked faults.TooMany = refl
-ranked faults.Memory = refl
+use Rattle.cut_rules.specs.Rules.{HasFault}
+use Rattle.cut_rules.proofs.Ranks.{one_rank}
 
 pub one_refusal : (net : Network) (files : List File) (pieces : List (List ℕ)) (a b : RulesFault) → IsRefusal net files pieces a → IsRefusal net files pieces b → a ≡ b
 one_refusal net files pieces a b (l, f, first, a_is) (m, g, second, b_is) = elim (cases_order l m) [
@@ -37,7 +15,7 @@ one_refusal net files pieces a b (l, f, first, a_is) (m, g, second, b_is) = elim
       let there : HasFault net files pieces m f = subst (λ (n : ℕ). HasFault net files pieces n f) e first.has in
       let low = first.first g here in
       let high = second.first f there in
-      let same : f ≡ g = sym (ranked f) ∙ ap by_rank (omega arith) ∙ ranked g in
+      let same = one_rank f g (omega arith) in
       a_is ∙ ap₂ fault_at e same ∙ sym b_is
   | inr differs ↦ elim differs [
     | inl less ↦ absurd (second.first_line l f less first.has)

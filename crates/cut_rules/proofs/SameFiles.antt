@@ -5,7 +5,7 @@ use Rattle.std.proofs.lemmas.List.Sorted.{Contains-permutation, IsPermutation-sy
 use Rattle.cut_rules.specs.declared.draft.Span.{Span}
 use Rattle.cut_rules.specs.declared.reading.Rules.{Rules}
 use Rattle.cut_rules.specs.Drafts.{AreAllowed, AreForbids, AreSpans}
-use Rattle.cut_rules.proofs.Drafting.{IsSound}
+use Rattle.cut_rules.proofs.Drafting.{HasNoFaultUpTo}
 use Rattle.cut_rules.proofs.Pieces.{get_low, says_low}
 use Rattle.cut_net.specs.Network.{Network, texts}
 use Rattle.cut_rules.specs.declared.fault.LineFault.{LineFault}
@@ -92,11 +92,11 @@ high_fault net files pieces line fault (inr (said, says, wrong)) = (says_low pie
 
 -- a draft of all lines, with its spans in order, makes the rules
 pub rules_made : (net : Network) (files : List File) (pieces : List (List ℕ)) (rules : Rules) (spans : List Span) (sorted : List File) → sorted ≡ rules.files.items → ((f : File) → Contains sorted f ↔ Contains files f)
-    → IsSound net sorted pieces (length pieces) → AreSpans net sorted (texts rules.sets.items) pieces (length pieces) spans → AreForbids net (texts rules.sets.items) pieces (length pieces) rules.draft.rules.items
+    → HasNoFaultUpTo net sorted pieces (length pieces) → AreSpans net sorted (texts rules.sets.items) pieces (length pieces) spans → AreForbids net (texts rules.sets.items) pieces (length pieces) rules.draft.rules.items
     → AreAllowed net pieces (length pieces) rules.draft.allowed.items → ((s : Span) → Contains rules.draft.spans.items s ↔ Contains spans s) → AreByName rules.draft.spans.items → AreRulesOf net files pieces rules
 rules_made net files pieces rules spans sorted is same sound are forbids allowed spans_are by_name =
     let same_here : (f : File) → Contains rules.files.items f ↔ Contains files f = subst (λ (fs : List File). (f : File) → Contains fs f ↔ Contains files f) is same in
-    let sound_here : IsSound net rules.files.items pieces (length pieces) = subst (λ (fs : List File). IsSound net fs pieces (length pieces)) is sound in
+    let sound_here : HasNoFaultUpTo net rules.files.items pieces (length pieces) = subst (λ (fs : List File). HasNoFaultUpTo net fs pieces (length pieces)) is sound in
     let are_here : AreSpans net rules.files.items (texts rules.sets.items) pieces (length pieces) spans = subst (λ (fs : List File). AreSpans net fs (texts rules.sets.items) pieces (length pieces) spans) is are in
     record {
       sound = λ line fault has. sound_here line fault (high_fault net files pieces line fault has) (fault_same net pieces files rules.files.items (λ f. ((same_here f).1, (same_here f).0)) line fault has);

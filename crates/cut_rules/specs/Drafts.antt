@@ -109,11 +109,11 @@ Takes net files sets pieces count (Err fault) draft = UnlessMemory fault (IsFirs
 -- ---- what a line gives
 
 -- the span of one module
-pub record IsMemberSpan (net : Network) (files : ℕ) (sets : List (List ℕ)) (set module_name : List ℕ) (span : Span) : Type 0 where
+pub record IsMemberSpan (net : Network) (files : ℕ) (sets : List (List ℕ)) (set member : List ℕ) (span : Span) : Type 0 where
   pub no_module : index_of net set ≡ None
   pub name : number_of net sets set ≡ Some span.name
   pub number : ℕ
-  pub is : index_of net module_name ≡ Some number
+  pub is : index_of net member ≡ Some number
   pub from : span.from ≡ files + number
   pub to : span.to ≡ span.from + 1
 

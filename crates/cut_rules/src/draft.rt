@@ -87,18 +87,18 @@ fn set_number(known: &Known<'_>, set: &str) -> Result<usize, LineFault>
 }
 
 /// The span of the module that a line puts into a set.
-fn member_span(known: &Known<'_>, set: &str, module: &str) -> Result<Span, LineFault>
+fn member_span(known: &Known<'_>, set: &str, member: &str) -> Result<Span, LineFault>
     requires ascending { AreNamesInOrder (texts known.now.sets.now) }
     requires known { Contains (texts known.now.sets.now) set.now }
-    ensures right { IfOk result (λ span. (pieces : List (List ℕ)) (line : ℕ) → IsRight known.now.net.now known.now.files.now pieces line (Member set.now module.now)) }
-    ensures span { IfOk result (IsMemberSpan known.now.net.now (length known.now.files.now) (texts known.now.sets.now) set.now module.now) }
-    ensures wrong { IfErr result (λ fault. (pieces : List (List ℕ)) (line : ℕ) → IsFirstWrong known.now.net.now known.now.files.now pieces line fault (Member set.now module.now)) }
+    ensures right { IfOk result (λ span. (pieces : List (List ℕ)) (line : ℕ) → IsRight known.now.net.now known.now.files.now pieces line (Member set.now member.now)) }
+    ensures span { IfOk result (IsMemberSpan known.now.net.now (length known.now.files.now) (texts known.now.sets.now) set.now member.now) }
+    ensures wrong { IfErr result (λ fault. (pieces : List (List ℕ)) (line : ℕ) → IsFirstWrong known.now.net.now known.now.files.now pieces line fault (Member set.now member.now)) }
 {
     let name = set_number(known, set)?;
-    let Some(module) = known.net.index_of(module) else {
+    let Some(number) = known.net.index_of(member) else {
         return Err(LineFault::NoSuchModule);
     };
-    let from = known.files.len() + module as usize;
+    let from = known.files.len() + number as usize;
     Ok(Span {
         name,
         from,

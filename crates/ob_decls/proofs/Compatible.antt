@@ -6,13 +6,14 @@ use Rattle.ob_tree.specs.Constructs as constructs
 use Rattle.ob_tree.specs.declared.expression.Factor.TheOpen as layers
 use Rattle.ob_tree.specs.declared.expression.Literal.{Literal}
 use Rattle.ob_tree.specs.declared.expression.Selector.{Selector}
-use Rattle.ob_tree.specs.Marks.{Out, Value, construct, word, used}
+use Rattle.ob_tree.specs.declared.name.OneOrMore.{OneOrMore}
+use Rattle.ob_tree.specs.Marks.{Out, Value, construct, word, used, separated}
 use Rattle.ob_tree.specs.Marks.{if_there as outline_there, each as outline_each}
 use Rattle.ob_tree.specs.Expressions.{selector_outline}
 use Rattle.ob_tree.proofs.ExpressionInduction.{With}
 use Rattle.ob_tree.proofs.ExpressionLayers.{selector_shown}
 use Rattle.ob_rows.specs.Parts.{Piece, nothing, token, both, if_there, each}
-use Rattle.ob_decls.specs.Expressions.{Selected, selected}
+use Rattle.ob_decls.specs.Expressions.{Selected, each_after, selected}
 use Rattle.ob_decls.proofs.ExpressionLayers as told
 
 -- a selector whose outline is related to what it tells
@@ -43,6 +44,9 @@ module _ {R : Piece → Out → Type 0} {S : Selected → Out → Type 0} (c : I
   pub c-map : {X Y : Type 0} (f : Y → Piece) (g : Y → Out) (h : X → Y) (xs : List X) → ((x : X) → R (f (h x)) (g (h x))) → R (each f (map h xs)) (outline_each g (map h xs))
   c-map f g h [] w = c.nothing
   c-map f g h (x ∷ xs) w = c.one_after (w x) (c-map f g h xs w)
+
+  pub c-separated : {X : Type 0} (k : Kind) (f : X → Piece) (g : X → Out) (l : OneOrMore X) → ((x : X) → R (f x) (g x)) → R (both (f l.first) (each_after f l.rest.items)) (separated k g l)
+  c-separated k f g l w = c.one_after (w l.first) (c-each (λ x. both token (f x)) (λ x. word k ++ g x) l.rest.items (λ x. c.one_after (c.a_word k) (w x)))
 
   pub c-three : {p q r : Piece} {a b o : Out} → R p a → R q b → R r o → R (both p (both q r)) ((a ++ b) ++ o)
   c-three {p} {q} {r} {a} {b} {o} f g h = subst (R (both p (both q r))) (sym (append_assoc a b o)) (c.one_after f (c.one_after g h))

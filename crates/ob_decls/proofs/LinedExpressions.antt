@@ -2,8 +2,6 @@
 use Rattle.std.proofs.Common.{ℕ, ◌+◌, List, [], ◌∷◌, map, refl}
 use Rattle.ob_tree.specs.declared.expression.Expr.{Expr}
 use Rattle.ob_tree.specs.declared.expression.Selector.{Selector}
-use Rattle.ob_tree.specs.Marks.{Out}
-use Rattle.ob_rows.specs.Parts.{Piece}
 use Rattle.ob_rows.specs.Parts.{each as pieces}
 use Rattle.ob_decls.specs.Expressions.{Selected, selected, selector_rows, expr_piece}
 use Rattle.ob_decls.proofs.Compatible.{IsCompatible}
@@ -12,13 +10,6 @@ use Rattle.ob_decls.proofs.LinedKinds.{AllOf, Kind}
 use Rattle.ob_decls.proofs.LinedPieces.{Ordered, o-nothing, o-token, o-both, h-both, h-before, h-tells, l-token, o-headed}
 
 module _ {X : Type 0} (K : Kind X) where
-  -- whatever the outline
-  abbrev IsOrdered : Piece → Out → Type 0
-  IsOrdered p o = Ordered K p
-
-  abbrev IsOrderedSelector : Selected → Out → Type 0
-  IsOrderedSelector s o = Ordered K s.piece
-
   o-selectors : {Y : Type 0} (h : Y → Selector) (ys : List Y) → ((y : Y) → Ordered K (selected (h y)).piece) → Ordered K (pieces (λ s. s.piece) (map selected (map h ys)))
   o-selectors h [] w = o-nothing K
   o-selectors h (y ∷ ys) w = o-both K (w y) (o-selectors h ys w)
@@ -28,7 +19,8 @@ module _ {X : Type 0} (K : Kind X) where
   all_of k [] m = tt
   all_of k (s ∷ ss) m = (refl, all_of k ss (m + s.piece.width))
 
-  pub ordered : IsCompatible IsOrdered IsOrderedSelector
+  -- whatever the outline
+  pub ordered : IsCompatible (λ p o. Ordered K p) (λ s o. Ordered K s.piece)
   ordered = record {
     nothing = o-nothing K;
     a_word = λ k. o-token K;

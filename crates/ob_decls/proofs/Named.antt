@@ -1,5 +1,5 @@
 -- Parts of a tree whose rows name each of their identifiers: a piece that mirrors its outline, with a row for each place of an identifier.
-use Rattle.std.proofs.Common.{◌≡◌, ℕ, zero, suc, ◌+◌, inl, inr, Bool, true, false, List, [], ◌∷◌, ◌++◌, map, Option, Some, None, refl, sym, ap, append_assoc, subst, arith}
+use Rattle.std.proofs.Common.{◌≡◌, ℕ, zero, suc, ◌+◌, inl, inr, Bool, true, false, List, [], ◌∷◌, ◌++◌, map, Option, Some, None, refl, ap, subst, arith}
 use Rattle.std.specs.Prelude.{Contains}
 use Rattle.std.proofs.lemmas.List.Elements.{Contains-append_left, Contains-append_right, Contains-append_cases}
 use Rattle.ob_scan.specs.declared.kind.Kind.{Kind}
@@ -7,11 +7,10 @@ use Rattle.ob_scan.specs.declared.kind.Kind.TheVariants as kinds
 use Rattle.ob_tree.specs.Constructs.{Construct}
 use Rattle.ob_tree.specs.Constructs as constructs
 use Rattle.ob_tree.specs.declared.expression.Literal.{Literal}
-use Rattle.ob_tree.specs.declared.name.OneOrMore.{OneOrMore}
 use Rattle.ob_tree.specs.declared.role.Role.{Role}
 use Rattle.ob_tree.specs.declared.role.Role.TheVariants.{Declares, Aliases, Imports, Uses, Completes, Selects, Names, Repeats}
-use Rattle.ob_tree.specs.Marks.{Out, Begins, Ends, Identifier, Value, Word, construct, word, completed, imported, separated}
-use Rattle.ob_tree.specs.Marks.{if_there as outline_there, if_so as outline_so, each as outline_each}
+use Rattle.ob_tree.specs.Marks.{Out, Begins, Ends, Identifier, Value, Word, construct, word, completed, imported}
+use Rattle.ob_tree.specs.Marks.{if_there as outline_there, if_so as outline_so}
 use Rattle.ob_rows.specs.declared.rows.Declared.{Declared}
 use Rattle.ob_rows.specs.declared.rows.End.{End}
 use Rattle.ob_rows.specs.declared.rows.Import.{Import}
@@ -21,7 +20,7 @@ use Rattle.ob_rows.specs.declared.rows.Step.TheVariants as steps
 use Rattle.ob_rows.specs.declared.rows.Used.{Used}
 use Rattle.ob_rows.specs.declared.draft.Context.{Context}
 use Rattle.ob_decls.specs.Declaring.{named_by, outermost}
-use Rattle.ob_decls.specs.Expressions.{Selected, behind_dot, each_after, selector_rows, used}
+use Rattle.ob_decls.specs.Expressions.{Selected, behind_dot, selector_rows, used}
 use Rattle.ob_decls.specs.Naming.{IsNamed}
 use Rattle.ob_decls.specs.Naming as names
 use Rattle.ob_rows.specs.Parts.{Piece, Rows, no_rows, joined, nothing, token, both, tells, within, if_there, if_so, each, declaring, opens_block, one_declarer, one_end, one_import, one_used, these_selectors, declarer, declaring_at}
@@ -175,31 +174,9 @@ n-declaring sort {p} {o} f = record {
 pub n-opens_block : {p : Piece} {o : Out} → Named p o → Named (opens_block p) o
 n-opens_block f = n-tells _ (λ c k. refl) (λ c k. refl) (n-within _ f)
 
-pub n-there : {X : Type 0} (f : X → Piece) (g : X → Out) (o : Option X) → ((x : X) → Named (f x) (g x)) → Named (if_there f o) (outline_there g o)
-n-there f g None w = n-nothing
-n-there f g (Some x) w = w x
-
 pub n-so : (b : Bool) {p : Piece} {o : Out} → Named p o → Named (if_so b p) (outline_so b o)
 n-so true w = w
 n-so false w = n-nothing
-
-pub n-each : {X : Type 0} (f : X → Piece) (g : X → Out) (xs : List X) → ((x : X) → Named (f x) (g x)) → Named (each f xs) (outline_each g xs)
-n-each f g [] w = n-nothing
-n-each f g (x ∷ xs) w = n-both (w x) (n-each f g xs w)
-
-pub n-map : {X Y : Type 0} (f : Y → Piece) (g : Y → Out) (h : X → Y) (xs : List X) → ((x : X) → Named (f (h x)) (g (h x))) → Named (each f (map h xs)) (outline_each g (map h xs))
-n-map f g h [] w = n-nothing
-n-map f g h (x ∷ xs) w = n-both (w x) (n-map f g h xs w)
-
-pub n-separated : {X : Type 0} (k : Kind) (f : X → Piece) (g : X → Out) (l : OneOrMore X) → ((x : X) → Named (f x) (g x)) →
-    Named (both (f l.first) (each_after f l.rest.items)) (separated k g l)
-n-separated k f g l w = n-both (w l.first) (n-each (λ x. both token (f x)) (λ x. word k ++ g x) l.rest.items (λ x. n-both (n-word k) (w x)))
-
-pub named_as : {p q : Piece} {a b : Out} → p ≡ q → a ≡ b → Named q b → Named p a
-named_as {p} {q} {a} {b} e f m = subst (λ (x : Piece). Named x a) (sym e) (subst (λ (x : Out). Named q x) (sym f) m)
-
-pub n-three : {p q r : Piece} {a b c : Out} → Named p a → Named q b → Named r c → Named (both p (both q r)) ((a ++ b) ++ c)
-n-three {p} {q} {r} {a} {b} {c} f g h = named_as {p = both p (both q r)} refl (append_assoc a b c) (n-both f (n-both g h))
 
 -- ---- identifiers
 

@@ -25,8 +25,10 @@ use Rattle.ob_decls.specs.Statements.{block_piece}
 use Rattle.ob_decls.specs.Types.{declared_row}
 use Rattle.ob_decls.proofs.FormedModules.{f-declarations, n-end}
 use Rattle.ob_decls.proofs.Mirrored.{Mirrors, m-name, m-nothing, m-word, width_of, width_both}
-use Rattle.ob_decls.proofs.Named.{n-both, n-ends, n-item, n-there, n-word}
+use Rattle.ob_decls.proofs.Compatible.{c-there}
+use Rattle.ob_decls.proofs.Named.{n-both, n-ends, n-item, n-word}
 use Rattle.ob_decls.proofs.NamedModules.{n-declarations}
+use Rattle.ob_decls.proofs.NamedExpressions.{named}
 use Rattle.ob_decls.proofs.NamedStatements.{n-block}
 
 -- the places of its identifiers, where its first token has this one
@@ -140,5 +142,5 @@ i-module m = i-held constructs.Module (
     i-both (i-word kinds.Module) (i-both (i-name m.name) (i-both (i-word kinds.Semicolon)
     (i-both (i-there imports_piece (λ l. word kinds.Import ++ (separated kinds.Comma import_outline l ++ word kinds.Semicolon)) m.imports i-imports)
     (i-both (i-none (n-declarations m.declarations).mirrors (f-declarations m.declarations).domestic)
-    (i-none (n-both (n-there (λ b. both token (block_piece b)) (λ b. word kinds.Begin ++ block_outline b) m.body (λ b. n-both (n-word kinds.Begin) (n-block b)))
+    (i-none (n-both (c-there named (λ b. both token (block_piece b)) (λ b. word kinds.Begin ++ block_outline b) m.body (λ b. n-both (n-word kinds.Begin) (n-block b)))
     (n-both (n-word kinds.End) (n-both (n-ends (λ c k. None) m.name m.end_name) (n-word kinds.Dot)))).mirrors (n-end m).domestic))))))

@@ -29,8 +29,9 @@ use Rattle.ob_decls.specs.Declaring.{part as told_part}
 use Rattle.ob_decls.proofs.DeclarationLayers as told
 use Rattle.ob_decls.specs.Naming.{IsNamed}
 use Rattle.ob_decls.proofs.Mirrored.{Mirrors, m-both, m-held, m-name, m-word}
-use Rattle.ob_decls.proofs.Named.{AtNames, Named, named_module, named_as, n-word, n-ends, n-both, n-three, n-item, n-held, n-declaring, n-opens_block, n-there, n-each, n-map}
-use Rattle.ob_decls.proofs.NamedExpressions.{n-expr}
+use Rattle.ob_decls.proofs.Compatible.{c-each, c-map, c-there, c-three, related-is}
+use Rattle.ob_decls.proofs.Named.{AtNames, Named, named_module, n-word, n-ends, n-both, n-item, n-held, n-declaring, n-opens_block}
+use Rattle.ob_decls.proofs.NamedExpressions.{named, n-expr}
 use Rattle.ob_decls.proofs.NamedStatements.{n-block}
 use Rattle.ob_decls.proofs.NamedTypes.{n-identdef, n-parameters, n-type, n-var}
 
@@ -53,7 +54,7 @@ unfolding import_piece import_inner import_outline
 n-import i = n-held constructs.Import (n-declaring sorts.Import (n-item i.of i.name))
 
 n-part : {X : Type 0} (k : Kind) (f : X → Piece) (g : X → Out) (xs : List X) → ((x : X) → Named (f x) (g x)) → Named (told_part f xs) (part k g xs)
-n-part k f g xs w = n-both (n-word k) (n-each (λ x. both (f x) token) (λ x. g x ++ word kinds.Semicolon) xs (λ x. n-both (w x) (n-word kinds.Semicolon)))
+n-part k f g xs w = n-both (n-word k) (c-each named (λ x. both (f x) token) (λ x. g x ++ word kinds.Semicolon) xs (λ x. n-both (w x) (n-word kinds.Semicolon)))
 
 -- each part mirrors its outline
 
@@ -65,24 +66,24 @@ predicates = record {
 
 declarations_held : (y : WithDeclarations predicates) → Named (told.declarations_shown (declarations_of predicates y)) (declarations_shown (declarations_of predicates y))
 declarations_held y =
-    n-both (n-there (λ v. told_part const_piece v.items) (λ v. part kinds.Const const_outline v.items) y.constants (λ v. n-part kinds.Const const_piece const_outline v.items n-const))
-    (n-both (n-there (λ v. told_part type_decl_piece v.items) (λ v. part kinds.Type type_decl_outline v.items) y.types (λ v. n-part kinds.Type type_decl_piece type_decl_outline v.items n-type_decl))
-    (n-both (n-there (λ v. told_part variable_piece v.items) (λ v. part kinds.Var variable_outline v.items) y.variables (λ v. n-part kinds.Var variable_piece variable_outline v.items n-variables))
-    (n-map (λ p. both (procedure_piece p) token) (λ p. procedure_outline p ++ word kinds.Semicolon) _ y.procedures.items (λ p. n-both p.1 (n-word kinds.Semicolon)))))
+    n-both (c-there named (λ v. told_part const_piece v.items) (λ v. part kinds.Const const_outline v.items) y.constants (λ v. n-part kinds.Const const_piece const_outline v.items n-const))
+    (n-both (c-there named (λ v. told_part type_decl_piece v.items) (λ v. part kinds.Type type_decl_outline v.items) y.types (λ v. n-part kinds.Type type_decl_piece type_decl_outline v.items n-type_decl))
+    (n-both (c-there named (λ v. told_part variable_piece v.items) (λ v. part kinds.Var variable_outline v.items) y.variables (λ v. n-part kinds.Var variable_piece variable_outline v.items n-variables))
+    (c-map named (λ p. both (procedure_piece p) token) (λ p. procedure_outline p ++ word kinds.Semicolon) _ y.procedures.items (λ p. n-both p.1 (n-word kinds.Semicolon)))))
 
 procedure_held : (y : WithProcedure predicates) → Named (told.procedure_shown (procedure_of predicates y)) (procedure_shown (procedure_of predicates y))
 procedure_held y = n-declaring sorts.Procedure (n-opens_block (
-    n-both (n-word kinds.Procedure) (n-both (n-identdef y.name) (n-both (n-there parameters_piece parameters_outline y.parameters n-parameters) (n-both (n-word kinds.Semicolon)
-    (n-both y.declarations.1 (n-both (n-there (λ b. both token (block_piece b.value)) (λ b. word kinds.Begin ++ block_outline b.value) y.body (λ b. n-both (n-word kinds.Begin) (n-block b.value)))
-    (n-both (n-there (λ e. both token (expr_piece e.value)) (λ e. word kinds.Return ++ expr_outline e.value) y.returned (λ e. n-both (n-word kinds.Return) (n-expr e.value)))
+    n-both (n-word kinds.Procedure) (n-both (n-identdef y.name) (n-both (c-there named parameters_piece parameters_outline y.parameters n-parameters) (n-both (n-word kinds.Semicolon)
+    (n-both y.declarations.1 (n-both (c-there named (λ b. both token (block_piece b.value)) (λ b. word kinds.Begin ++ block_outline b.value) y.body (λ b. n-both (n-word kinds.Begin) (n-block b.value)))
+    (n-both (c-there named (λ e. both token (expr_piece e.value)) (λ e. word kinds.Return ++ expr_outline e.value) y.returned (λ e. n-both (n-word kinds.Return) (n-expr e.value)))
     (n-both (n-word kinds.End) (n-ends (λ c k. Some (c.declarer + 1)) y.name.name y.end_name))))))))))
 
 -- ---- layer by layer
 
 steps : DeclarationSteps predicates
 steps = record {
-  declarations = λ y. named_as (told.declarations_made _) (declarations_made _) (declarations_held y);
-  procedure = λ y. named_as (told.procedure_made _) (procedure_made _) (n-held constructs.ProcedureDeclaration (procedure_held y));
+  declarations = λ y. related-is Named (told.declarations_made _) (declarations_made _) (declarations_held y);
+  procedure = λ y. related-is Named (told.procedure_made _) (procedure_made _) (n-held constructs.ProcedureDeclaration (procedure_held y));
 }
 
 pub n-declarations : (d : Declarations) → Named (declarations_piece d) (declarations_outline d)
@@ -90,8 +91,8 @@ n-declarations = declarations_induction predicates steps
 
 n-imports : (l : OneOrMore ImportItem) → Named (imports_piece l) (word kinds.Import ++ (separated kinds.Comma import_outline l ++ word kinds.Semicolon))
 unfolding imports_piece
-n-imports l = n-both (n-word kinds.Import) (n-three (n-import l.first)
-    (n-each (λ i. both token (import_piece i)) (λ i. word kinds.Comma ++ import_outline i) l.rest.items (λ i. n-both (n-word kinds.Comma) (n-import i))) (n-word kinds.Semicolon))
+n-imports l = n-both (n-word kinds.Import) (c-three named (n-import l.first)
+    (c-each named (λ i. both token (import_piece i)) (λ i. word kinds.Comma ++ import_outline i) l.rest.items (λ i. n-both (n-word kinds.Comma) (n-import i))) (n-word kinds.Semicolon))
 
 -- what stands behind a module's own name
 behind_name : Module → Piece
@@ -105,8 +106,8 @@ behind_outline m = word kinds.Semicolon ++ (if_there (λ l. word kinds.Import ++
 n-behind : (m : Module) → Named (behind_name m) (behind_outline m)
 unfolding behind_name behind_outline
 n-behind m = n-both (n-word kinds.Semicolon)
-    (n-both (n-there imports_piece (λ l. word kinds.Import ++ (separated kinds.Comma import_outline l ++ word kinds.Semicolon)) m.imports n-imports)
-    (n-both (n-declarations m.declarations) (n-both (n-there (λ b. both token (block_piece b)) (λ b. word kinds.Begin ++ block_outline b) m.body (λ b. n-both (n-word kinds.Begin) (n-block b)))
+    (n-both (c-there named imports_piece (λ l. word kinds.Import ++ (separated kinds.Comma import_outline l ++ word kinds.Semicolon)) m.imports n-imports)
+    (n-both (n-declarations m.declarations) (n-both (c-there named (λ b. both token (block_piece b)) (λ b. word kinds.Begin ++ block_outline b) m.body (λ b. n-both (n-word kinds.Begin) (n-block b)))
     (n-both (n-word kinds.End) (n-both (n-ends (λ c k. None) m.name m.end_name) (n-word kinds.Dot))))))
 
 pub m-module : (m : Module) → Mirrors (module_piece m) (module_outline m)

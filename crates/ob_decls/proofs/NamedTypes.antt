@@ -26,8 +26,9 @@ use Rattle.ob_decls.specs.Statements.{qualident_piece}
 use Rattle.ob_decls.specs.Types.{is_lone, part_here, open_arrays, section_inner, section_piece, identdef_piece, parameter_piece, parameters_piece, type_name_piece, lengths_piece, type_piece, fields_piece, record_piece, var_piece}
 use Rattle.ob_decls.proofs.TypeLayers as told
 use Rattle.ob_decls.proofs.Mirrored.{declares_it}
-use Rattle.ob_decls.proofs.Named.{Named, named_as, n-nothing, n-word, n-declared, n-both, n-three, n-first_declares, n-type_use, n-held, n-tells, n-within, n-declaring, n-opens_block, n-there, n-so, n-each, n-map, n-separated}
-use Rattle.ob_decls.proofs.NamedExpressions.{n-expr}
+use Rattle.ob_decls.proofs.Compatible.{c-each, c-map, c-separated, c-there, c-three, related-is}
+use Rattle.ob_decls.proofs.Named.{Named, n-nothing, n-word, n-declared, n-both, n-first_declares, n-type_use, n-held, n-tells, n-within, n-declaring, n-opens_block, n-so}
+use Rattle.ob_decls.proofs.NamedExpressions.{named, n-expr}
 use Rattle.ob_decls.proofs.NamedStatements.{n-qualident}
 
 -- ---- names and parameters
@@ -50,19 +51,19 @@ n-arrays (suc n) = n-both (n-tells _ (λ c k. refl) (λ c k. refl) (n-both (n-wo
 
 n-section : (s : ParameterSection) → Named (section_piece s) (section_outline s)
 unfolding section_piece section_inner section_outline
-n-section s = n-held constructs.FPSection (n-declaring sorts.Parameter (n-both (n-so s.variable (n-word kinds.Var)) (n-three (n-parameter s.names.first)
-    (n-each (λ n. both token parameter_piece) (λ n. word kinds.Comma ++ declared false n) s.names.rest.items (λ n. n-both (n-word kinds.Comma) (n-parameter n)))
+n-section s = n-held constructs.FPSection (n-declaring sorts.Parameter (n-both (n-so s.variable (n-word kinds.Var)) (c-three named (n-parameter s.names.first)
+    (c-each named (λ n. both token parameter_piece) (λ n. word kinds.Comma ++ declared false n) s.names.rest.items (λ n. n-both (n-word kinds.Comma) (n-parameter n)))
     (n-both (n-word kinds.Colon) (n-both (n-arrays s.open_arrays) (n-tells _ (λ c k. refl) (λ c k. refl) (n-qualident s.of)))))))
 
 pub n-parameters : (p : Parameters) → Named (parameters_piece p) (parameters_outline p)
 unfolding parameters_piece parameters_outline
 n-parameters p =
-    n-both (n-word kinds.LeftParen) (n-both (n-there (λ l. both (section_piece l.first) (each_after section_piece l.rest.items)) (separated kinds.Semicolon section_outline) p.sections (λ l. n-separated kinds.Semicolon section_piece section_outline l n-section))
-    (n-both (n-word kinds.RightParen) (n-there (λ q. both token (qualident_piece q)) (λ q. word kinds.Colon ++ qualident_outline q) p.result (λ q. n-both (n-word kinds.Colon) (n-qualident q)))))
+    n-both (n-word kinds.LeftParen) (n-both (c-there named (λ l. both (section_piece l.first) (each_after section_piece l.rest.items)) (separated kinds.Semicolon section_outline) p.sections (λ l. c-separated named kinds.Semicolon section_piece section_outline l n-section))
+    (n-both (n-word kinds.RightParen) (c-there named (λ q. both token (qualident_piece q)) (λ q. word kinds.Colon ++ qualident_outline q) p.result (λ q. n-both (n-word kinds.Colon) (n-qualident q)))))
 
 n-lengths : (l : ExprList) → Named (lengths_piece l) (expr_list_outline l)
-n-lengths l = named_as (told.lengths_out l) (expr_list_out l)
-    (n-both (n-expr (out-ExprList l).first) (n-each (λ e. both (tells (part_here parts.Array) token) (expr_piece e)) (λ e. word kinds.Comma ++ expr_outline e) (out-ExprList l).rest.items
+n-lengths l = related-is Named (told.lengths_out l) (expr_list_out l)
+    (n-both (n-expr (out-ExprList l).first) (c-each named (λ e. both (tells (part_here parts.Array) token) (expr_piece e)) (λ e. word kinds.Comma ++ expr_outline e) (out-ExprList l).rest.items
     (λ e. n-both (n-tells _ (λ c k. refl) (λ c k. refl) (n-word kinds.Comma)) (n-expr e))))
 
 -- each part mirrors its outline
@@ -81,33 +82,33 @@ type_held (layers.ArrayOf lengths of) = n-held constructs.ArrayType (n-tells _ (
     (n-both (n-word kinds.Array) (n-both (n-lengths lengths.value) (n-both (n-word kinds.Of) (n-within _ of.value.1)))))
 type_held (layers.RecordOf r) = n-held constructs.RecordType (n-tells _ (λ c k. refl) (λ c k. refl) r.1)
 type_held (layers.PointerTo t) = n-held constructs.PointerType (n-tells _ (λ c k. refl) (λ c k. refl) (n-both (n-word kinds.Pointer) (n-both (n-word kinds.To) (n-within _ t.value.1))))
-type_held (layers.ProcOf p) = n-held constructs.ProcedureType (n-tells _ (λ c k. refl) (λ c k. refl) (n-opens_block (n-both (n-word kinds.Procedure) (n-there parameters_piece parameters_outline p n-parameters))))
+type_held (layers.ProcOf p) = n-held constructs.ProcedureType (n-tells _ (λ c k. refl) (λ c k. refl) (n-opens_block (n-both (n-word kinds.Procedure) (c-there named parameters_piece parameters_outline p n-parameters))))
 
 fields_held : (y : WithFields predicates) → Named (told.fields_shown (fields_of predicates y)) (fields_shown (fields_of predicates y))
 fields_held y =
     n-both (n-held constructs.FieldList (n-declaring sorts.Field y.first.1))
-    (n-both (n-map (λ v. both token (declaring sorts.Field (var_piece v))) (λ v. word kinds.Semicolon ++ construct constructs.FieldList (var_outline v)) _ y.rest.items (λ v. n-both (n-word kinds.Semicolon) (n-held constructs.FieldList (n-declaring sorts.Field v.1))))
+    (n-both (c-map named (λ v. both token (declaring sorts.Field (var_piece v))) (λ v. word kinds.Semicolon ++ construct constructs.FieldList (var_outline v)) _ y.rest.items (λ v. n-both (n-word kinds.Semicolon) (n-held constructs.FieldList (n-declaring sorts.Field v.1))))
     (n-so y.closing_semicolon (n-word kinds.Semicolon)))
 
 record_held : (y : WithRecord predicates) → Named (told.record_shown (record_of predicates y)) (record_shown (record_of predicates y))
 record_held y = n-tells _ (λ c k. refl) (λ c k. refl) (n-within _
     (n-both (n-word kinds.Record)
-    (n-both (n-there (λ q. both token (both (qualident_piece q) token)) (λ q. word kinds.LeftParen ++ (qualident_outline q ++ word kinds.RightParen)) y.base (λ q. n-both (n-word kinds.LeftParen) (n-both (n-qualident q) (n-word kinds.RightParen))))
+    (n-both (c-there named (λ q. both token (both (qualident_piece q) token)) (λ q. word kinds.LeftParen ++ (qualident_outline q ++ word kinds.RightParen)) y.base (λ q. n-both (n-word kinds.LeftParen) (n-both (n-qualident q) (n-word kinds.RightParen))))
     (n-both (record_fields predicates (λ o. Named (there (λ f. fields_piece f.value) o) (if_there (λ f. fields_outline f.value) o)) n-nothing (λ f h. h) y) (n-word kinds.End)))))
 
 var_held : (y : WithVar predicates) → Named (told.var_shown (var_of predicates y)) (var_shown (var_of predicates y))
-var_held y = n-three (n-identdef y.names.first)
-    (n-each (λ i. both token (identdef_piece i)) (λ i. word kinds.Comma ++ identdef_outline i) y.names.rest.items (λ i. n-both (n-word kinds.Comma) (n-identdef i)))
+var_held y = c-three named (n-identdef y.names.first)
+    (c-each named (λ i. both token (identdef_piece i)) (λ i. word kinds.Comma ++ identdef_outline i) y.names.rest.items (λ i. n-both (n-word kinds.Comma) (n-identdef i)))
     (n-both (n-word kinds.Colon) y.form.1)
 
 -- ---- layer by layer
 
 steps : TypeSteps predicates
 steps = record {
-  type = λ y. named_as (told.type_rolled _) (type_rolled _) (type_held y);
-  fields = λ y. named_as (told.fields_rolled _) (fields_rolled _) (fields_held y);
-  record_type = λ y. named_as (told.record_rolled _) (record_rolled _) (record_held y);
-  var = λ y. named_as (told.var_rolled _) (var_rolled _) (var_held y);
+  type = λ y. related-is Named (told.type_rolled _) (type_rolled _) (type_held y);
+  fields = λ y. related-is Named (told.fields_rolled _) (fields_rolled _) (fields_held y);
+  record_type = λ y. related-is Named (told.record_rolled _) (record_rolled _) (record_held y);
+  var = λ y. related-is Named (told.var_rolled _) (var_rolled _) (var_held y);
 }
 
 pub n-type : (t : TypeForm) → Named (type_piece t) (type_outline t)

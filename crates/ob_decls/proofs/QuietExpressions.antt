@@ -2,26 +2,18 @@
 use Rattle.std.proofs.Common.{List, [], ◌∷◌, map, refl}
 use Rattle.ob_tree.specs.declared.expression.Expr.{Expr}
 use Rattle.ob_tree.specs.declared.expression.Selector.{Selector}
-use Rattle.ob_tree.specs.Marks.{Out}
-use Rattle.ob_rows.specs.Parts.{Piece}
 use Rattle.ob_rows.specs.Parts.{each as pieces}
-use Rattle.ob_decls.specs.Expressions.{Selected, selected, expr_piece}
+use Rattle.ob_decls.specs.Expressions.{selected, expr_piece}
 use Rattle.ob_decls.proofs.Compatible.{IsCompatible}
 use Rattle.ob_decls.proofs.CompatibleExpressions.{c-expr}
 use Rattle.ob_decls.proofs.Quiet.{Quiet, q-nothing, q-token, q-use, q-both, q-tells}
-
--- whatever the outline
-abbrev IsQuiet : Piece → Out → Type 0
-IsQuiet p o = Quiet p
-
-abbrev IsQuietSelector : Selected → Out → Type 0
-IsQuietSelector s o = Quiet s.piece
 
 q-selectors : {X : Type 0} (h : X → Selector) (xs : List X) → ((x : X) → Quiet (selected (h x)).piece) → Quiet (pieces (λ s. s.piece) (map selected (map h xs)))
 q-selectors h [] w = q-nothing
 q-selectors h (x ∷ xs) w = q-both (w x) (q-selectors h xs w)
 
-pub quiet : IsCompatible IsQuiet IsQuietSelector
+-- whatever the outline
+pub quiet : IsCompatible (λ p o. Quiet p) (λ s o. Quiet s.piece)
 quiet = record {
   nothing = q-nothing;
   a_word = λ k. q-token;
