@@ -6,10 +6,11 @@ use Rattle.std.proofs.KnownBytes.{Appends-trans}
 use Rattle.byte_sink.specs.declared.sink.SinkFault.TheVariants as sink_faults
 use Rattle.byte_sink.specs.Sinks.{AppendsFront}
 use Rattle.text_pieces.specs.Pieces.{PutsAllBut}
-use Rattle.text_pieces.proofs.Joining.{puts_then}
+use Rattle.text_pieces.proofs.Joining.{front_more, puts_then}
 use Rattle.cut_net.specs.Network.{Network}
 use Rattle.cut_rules.specs.Judged.{told_text}
-use Rattle.cut_rules.specs.Verdicts.{is_none, verdict_text, Broken}
+use Rattle.cut_rules.specs.Verdicts.{broken_line, is_none, verdict_text, Broken}
+use Rattle.std.proofs.lemmas.Grind.{flat_map-append}
 
 -- of nothing nothing is put
 no_parts : (front rest : List ℕ) → [] ≡ front ++ rest → front ≡ []
@@ -41,3 +42,15 @@ module _ (net : Network) (old now new : Option (List ℕ)) where
   pub all_begun : (told : List Broken) (rest : List ℕ) → false ≡ is_none told → PutsAllBut old now ([] ++ told_text net told) rest → AppendsFront now new rest → AppendsFront old new (told_text net told)
   all_begun [] rest e p q = absurd cc
   all_begun (b ∷ told) rest e p q = puts_then {T = ℕ} old now new (told_text net (b ∷ told)) rest (Err sink_faults.Memory) p q
+
+-- where one is told the text is that of the chains
+pub verdict_is : (net : Network) (told : List Broken) → false ≡ is_none told → verdict_text net told ≡ told_text net told
+verdict_is net [] e = absurd cc
+verdict_is net (b ∷ told) e = refl
+
+-- a front of the text of the first chains is one of the text of all
+pub front_of_all : (net : Network) (old new : Option (List ℕ)) (told rest broken : List Broken) → broken ≡ told ++ rest → AppendsFront old new ([] ++ told_text net told) → AppendsFront old new (verdict_text net broken)
+front_of_all net old new [] rest broken e p = front_more old new [] [] (verdict_text net broken) (verdict_text net broken) refl p
+front_of_all net old new (b ∷ told) rest broken e p =
+    let whole : verdict_text net broken ≡ told_text net (b ∷ told) ++ told_text net rest = ap (verdict_text net) e ∙ flat_map-append (broken_line net) (b ∷ told) rest in
+    front_more old new [] (told_text net (b ∷ told)) (told_text net rest) (verdict_text net broken) whole p

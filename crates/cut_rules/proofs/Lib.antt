@@ -11,4 +11,7 @@ pub mod Marking
 pub mod Telling
 pub mod Verdicts
 pub mod Ending
+pub mod Fronts
+pub mod Firsts
+pub mod OneVerdict
 pub mod OneRefusal

@@ -110,7 +110,7 @@ told_nowhere edges ends line members none = record {
     nowhere m (n ∷ more) has (b, there, (e, chain), some) = none m more has (b, there, subst (λ (k : ℕ). IsChain (Leads edges) k more b) e chain)
 
 -- pairs of two lists put together
-all_pairs_append : {X : Type 0} (R : X → X → Type 0) (xs ys : List X) → AllPairs R xs → AllPairs R ys → ((x y : X) → Contains xs x → Contains ys y → R x y) → AllPairs R (xs ++ ys)
+pub all_pairs_append : {X : Type 0} (R : X → X → Type 0) (xs ys : List X) → AllPairs R xs → AllPairs R ys → ((x y : X) → Contains xs x → Contains ys y → R x y) → AllPairs R (xs ++ ys)
 all_pairs_append {X} R xs ys first second both i j d lt l =
     let long = length-append xs ys in
     elim (cases_lt j (length xs)) [
@@ -213,6 +213,10 @@ pub named_as : (files fs : List File) (spans ss : List Span) (nodes count name :
     ((m : ℕ) → m < count → Contains members m ↔ ((name ≡ m) ⊎ InSpans fs ss name m)) → AreNamed files spans nodes name members
 named_as files fs spans ss nodes count name members file span size within are = record { within = rw size at within; are = rw (file, span, size) at are }
 
+-- of one line they ascend by their first modules
+pub told_ascend : (leads : ℕ → ℕ → Type 0) (ends : List ℕ) (line : ℕ) (members : List ℕ) (told : List Broken) → AreSome leads ends line members told → AllPairs (λ (b c : Broken). first_of b < first_of c) told → AllPairs ComesBefore told
+told_ascend leads ends line members told each up i j d lt l = inr ((each (get_or told i d) (Contains-get_or told i d (omega arith))).0 ∙ sym (each (get_or told j d) (Contains-get_or told j d l)).0, up i j d lt l)
+
 -- what is told of the modules of a rule's first name is told of the rule
 module _ (leads : ℕ → ℕ → Type 0) (files : List File) (spans : List Span) (nodes : ℕ) (r : Rule) (ends members : List ℕ) (are_ends : AreNamed files spans nodes r.second ends) (are_members : AreNamed files spans nodes r.first members) where
   pub some_of_rule : (told : List Broken) → AreSome leads ends r.line members told → AreSomeOf leads files spans nodes (r ∷ []) told
@@ -223,10 +227,7 @@ module _ (leads : ℕ → ℕ → Type 0) (files : List File) (spans : List Span
   pub told_of_rule : (told : List Broken) → AreTold leads ends r.line members told → AreToldOf leads files spans nodes (r ∷ []) told
   told_of_rule told are = record {
     each = some_of_rule told are.each;
-    ascending = λ i j d lt l. inr (
-      (are.each (get_or told i d) (Contains-get_or told i d (omega arith))).0 ∙ sym (are.each (get_or told j d) (Contains-get_or told j d l)).0,
-      are.ascending i j d lt l,
-    );
+    ascending = told_ascend leads ends r.line members told are.each are.ascending;
     all = λ rule m others chain has low named others_are chain_is.
         let same : r ≡ rule = one_member r rule has in
         let own : (r.first ≡ m) ⊎ InSpans files spans r.first m = subst (λ (s : Rule). (s.first ≡ m) ⊎ InSpans files spans s.first m) (sym same) named in
@@ -243,6 +244,16 @@ told_of_none leads files spans nodes = record {
   ascending = λ i j d lt l. absurd (omega arith);
   all = λ r m ends chain has low named are is. no_member r has;
 }
+
+-- the lines of the first so many rules come before that of the next
+pub line_before : (rules : List Rule) (k : ℕ) (d : Rule) → k < length rules → AllPairs (λ (r s : Rule). r.line < s.line) rules → (r : Rule) → Contains (take k rules) r → r.line < (get_or rules k d).line
+line_before rules k d lt up r (j, low, is) =
+    let few : j < k = (let long = length-take k rules in omega arith) in
+    let at : get_or rules j r ≡ r = sym (get_or-take k rules j r few) ∙ is in
+    let less = up j k r few lt in
+    let here : get_or rules k r ≡ get_or rules k d = get_or_default rules k r d lt in
+    let e = ap (λ (x : Rule). x.line) at in let f = ap (λ (x : Rule). x.line) here in
+    omega arith
 
 module _ (leads : ℕ → ℕ → Type 0) (files : List File) (spans : List Span) (nodes : ℕ) where
   pub some_of_more : (some others all_of : List Rule) → ((r : Rule) → Contains some r → Contains all_of r) → ((r : Rule) → Contains others r → Contains all_of r) → (told more : List Broken) → AreSomeOf leads files spans nodes some told
@@ -263,7 +274,7 @@ module _ (leads : ℕ → ℕ → Type 0) (files : List File) (spans : List Span
             let (r, there, is) = first.each b old in
             let (s, here, own) = second.each c new in
             let same = one_member (get_or rules k d) s here in
-            let less = earlier r there in
+            let less = line_before rules k d lt up r there in
             let e = is.line in let f = own.line in
             let g : s.line ≡ (get_or rules k d).line = ap (λ (x : Rule). x.line) (sym same) in
             inl (omega arith));
@@ -272,15 +283,6 @@ module _ (leads : ℕ → ℕ → Type 0) (files : List File) (spans : List Span
           | inr there ↦ let (b, new, line, start) = second.all r m ends chain there low named are is in (b, Contains-append_right told more b new, line, start)
         ];
       }
-    where
-      earlier : (r : Rule) → Contains (take k rules) r → r.line < (get_or rules k d).line
-      earlier r (j, low, is) =
-          let few : j < k = (let long = length-take k rules in omega arith) in
-          let at : get_or rules j r ≡ r = sym (get_or-take k rules j r few) ∙ is in
-          let less = up j k r few lt in
-          let here : get_or rules k r ≡ get_or rules k d = get_or_default rules k r d lt in
-          let e = ap (λ (x : Rule). x.line) at in let f = ap (λ (x : Rule). x.line) here in
-          omega arith
 
 -- what is read past the end of rules
 abbrev pub first_rule : Rule

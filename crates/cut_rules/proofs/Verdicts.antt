@@ -1,5 +1,5 @@
 -- What is told of rules is told of their text.
-use Rattle.std.proofs.Common.{◌≡◌, ℕ, ◌+◌, ◌<◌, ◌⊎◌, inl, inr, true, false, List, [], ◌∷◌, length, get_or, Option, Some, None, refl, sym, ap, ap₂, ◌∙◌, subst, arith}
+use Rattle.std.proofs.Common.{◌≡◌, ℕ, ◌+◌, ◌<◌, ◌⊎◌, inl, inr, true, false, List, [], ◌∷◌, ◌++◌, length, get_or, Option, Some, None, refl, sym, ap, ap₂, ◌∙◌, subst, arith}
 use Rattle.std.specs.Prelude.{◌↔◌, Contains}
 use Rattle.std.proofs.lemmas.Bool.{cases_Bool}
 use Rattle.std.proofs.lemmas.List.{get_or_default}
@@ -23,10 +23,12 @@ use Rattle.cut_rules.specs.declared.reading.Rules.{Rules}
 use Rattle.cut_rules.specs.RuleLines.{Allow, Forbid, Says}
 use Rattle.cut_rules.specs.Rules.{Counts, IsIn, Itself, Lies, Listed}
 use Rattle.cut_rules.specs.Drafts.{number_by, number_of, InSpans, IsListedWithin}
-use Rattle.cut_rules.specs.Judged.{AreNamed, AreSomeOf, AreToldOf, IsCounted, IsTold}
+use Rattle.cut_rules.specs.Judged.{AreFirstOf, AreNamed, AreSomeOf, AreToldOf, IsCounted, IsEarlier, IsTold}
 use Rattle.cut_rules.specs.Outcomes.{AreRulesOf}
-use Rattle.cut_rules.specs.Verdicts.{first_of, AreBroken, AreMembers, Breaks, Broken}
+use Rattle.cut_rules.specs.Verdicts.{first_of, AreBroken, AreMembers, Breaks, Broken, ComesBefore, IsForbidden}
+use Rattle.cut_rules.proofs.Fronts.{front_of}
 use Rattle.cut_rules.proofs.LineLaws.{says_one}
+use Rattle.cut_rules.proofs.OneVerdict.{before_apart, in_broken, one_broken}
 use Rattle.cut_rules.proofs.Pieces.{says_low}
 use Rattle.cut_rules.proofs.SameFiles.{under_same}
 
@@ -179,18 +181,40 @@ module _ (net : Network) (network : IsNetwork net) (files : List File) (pieces :
     pub each_breaks : (told : List Broken) → AreSomeOf (Leads edges) rules.files.items spans nodes rules.draft.rules.items told → (b : Broken) → Contains told b → Breaks net files pieces b
     each_breaks told some b has = let (r, there, is) = some b has in breaks r b there is
 
+    -- the rule of a line that forbids a chain, with the module and the ends by the rule's numbers
+    rule_of : (line m : ℕ) (ends chain : List ℕ) → IsForbidden net files pieces line m ends → AreChainInto (Counts net pieces) m ends chain →
+        (r : Rule) × Contains rules.draft.rules.items r × (r.line ≡ line) × ((r.first ≡ m) ⊎ InSpans rules.files.items spans r.first m) × AreNamed rules.files.items spans nodes r.second ends × AreChainInto (Leads edges) m ends chain
+    rule_of line m ends chain forbidden chain_is =
+        let (r, there, same) = are.drafted.rules.all line forbidden.first forbidden.second (says_low pieces line _ forbidden.says).1 forbidden.says in
+        let (le, (x, y, says, first, second)) = are.drafted.rules.each r there in
+        let one = says_one pieces line (Forbid x y) (Forbid forbidden.first forbidden.second) (subst (λ (n : ℕ). Says pieces n (Forbid x y)) same says) forbidden.says in
+        let x_is : x ≡ forbidden.first = cc in
+        let y_is : y ≡ forbidden.second = cc in (
+          r,
+          there,
+          same,
+          (is_in x r.first m forbidden.low first).1 (subst (λ (t : List ℕ). IsIn net files pieces t m) (sym x_is) forbidden.is_in),
+          named_are y r.second ends second (subst (λ (t : List ℕ). AreMembers net files pieces t ends) (sym y_is) forbidden.are_ends),
+          into_from (Leads edges) (Counts net pieces) (same_leads edges counted) m ends chain chain_is,
+        )
+
     pub all_broken : (told : List Broken) → AreToldOf (Leads edges) rules.files.items spans nodes rules.draft.rules.items told → AreBroken net files pieces told
     all_broken told is = record {
       each = each_breaks told is.each;
       ascending = is.ascending;
       all = λ line m ends chain forbidden chain_is.
-          let (r, there, same) = are.drafted.rules.all line forbidden.first forbidden.second (says_low pieces line _ forbidden.says).1 forbidden.says in
-          let (le, (x, y, says, first, second)) = are.drafted.rules.each r there in
-          let one = says_one pieces line (Forbid x y) (Forbid forbidden.first forbidden.second) (subst (λ (n : ℕ). Says pieces n (Forbid x y)) same says) forbidden.says in
-          let x_is : x ≡ forbidden.first = cc in
-          let y_is : y ≡ forbidden.second = cc in
-          let named = (is_in x r.first m forbidden.low first).1 (subst (λ (t : List ℕ). IsIn net files pieces t m) (sym x_is) forbidden.is_in) in
-          let ends_named = named_are y r.second ends second (subst (λ (t : List ℕ). AreMembers net files pieces t ends) (sym y_is) forbidden.are_ends) in
-          let (b, has, line_is, start) = is.all r m ends chain there forbidden.low named ends_named (into_from (Leads edges) (Counts net pieces) (same_leads edges counted) m ends chain chain_is) in
+          let (r, there, same, named, ends_named, into) = rule_of line m ends chain forbidden chain_is in
+          let (b, has, line_is, start) = is.all r m ends chain there forbidden.low named ends_named into in
           (b, has, line_is ∙ same, start);
     }
+
+    -- the first that are told are a front of all
+    pub first_broken : (told broken : List Broken) → AreFirstOf (Leads edges) rules.files.items spans nodes rules.draft.rules.items told → AreBroken net files pieces broken → (rest : List Broken) × (broken ≡ told ++ rest)
+    first_broken told broken first all = front_of ComesBefore before_apart told broken first.ascending all.ascending
+        (λ b has. in_broken net files pieces broken all b (each_breaks told first.each b has))
+        (λ b c has there less.
+        let breaks = all.each c there in
+        let (r, in_rules, same, named, ends_named, into) = rule_of c.line (first_of c) breaks.ends c.chain breaks.forbidden breaks.least.is_chain in
+        let earlier = subst (λ (n : ℕ). IsEarlier n (first_of c) b) (sym same) less in
+        let (d, told_there, line, start) = first.before b r (first_of c) breaks.ends c.chain has earlier in_rules breaks.forbidden.low named ends_named into in
+        subst (Contains told) (one_broken net files pieces d c (each_breaks told first.each d told_there) breaks (line ∙ same) start) told_there)

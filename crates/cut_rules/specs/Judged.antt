@@ -30,6 +30,12 @@ pub record AreTold (leads : ℕ → ℕ → Type 0) (ends : List ℕ) (line : �
 abbrev pub AreSome : (ℕ → ℕ → Type 0) → List ℕ → ℕ → List ℕ → List Broken → Type 0
 AreSome leads ends line members told = (b : Broken) → Contains told b → (b.line ≡ line) × Contains members (first_of b) × IsLeastChainInto leads (first_of b) ends b.chain
 
+-- these are the first of such chains: in order, and none that comes before one of them is left out
+pub record AreFirst (leads : ℕ → ℕ → Type 0) (ends : List ℕ) (line : ℕ) (members : List ℕ) (told : List Broken) : Type 0 where
+  pub each : AreSome leads ends line members told
+  pub ascending : AllPairs (λ b c. first_of b < first_of c) told
+  pub before : (b : Broken) (m : ℕ) (chain : List ℕ) → Contains told b → m < first_of b → Contains members m → AreChainInto leads m ends chain → (c : Broken) × Contains told c × (first_of c ≡ m)
+
 -- the lines of chains
 abbrev pub told_text : Network → List Broken → List ℕ
 told_text net told = flat_map (broken_line net) told
@@ -59,3 +65,14 @@ pub record AreToldOf (leads : ℕ → ℕ → Type 0) (files : List File) (spans
   pub ascending : AllPairs ComesBefore told
   pub all : (r : Rule) (m : ℕ) (ends chain : List ℕ) → Contains rules r → m < nodes → (r.first ≡ m) ⊎ InSpans files spans r.first m → AreNamed files spans nodes r.second ends → AreChainInto leads m ends chain →
       (b : Broken) × Contains told b × (b.line ≡ r.line) × (first_of b ≡ m)
+
+-- a chain from the module for the rule of the line comes before this one
+abbrev pub IsEarlier : ℕ → ℕ → Broken → Type 0
+IsEarlier line m b = (line < b.line) ⊎ ((line ≡ b.line) × (m < first_of b))
+
+-- these are the first that are told of the rules: in order, and none that comes before one of them is left out
+pub record AreFirstOf (leads : ℕ → ℕ → Type 0) (files : List File) (spans : List Span) (nodes : ℕ) (rules : List Rule) (told : List Broken) : Type 0 where
+  pub each : AreSomeOf leads files spans nodes rules told
+  pub ascending : AllPairs ComesBefore told
+  pub before : (b : Broken) (r : Rule) (m : ℕ) (ends chain : List ℕ) → Contains told b → IsEarlier r.line m b → Contains rules r → m < nodes → (r.first ≡ m) ⊎ InSpans files spans r.first m → AreNamed files spans nodes r.second ends
+      → AreChainInto leads m ends chain → (c : Broken) × Contains told c × (c.line ≡ r.line) × (first_of c ≡ m)

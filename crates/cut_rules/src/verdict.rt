@@ -13,7 +13,7 @@ ghost use Rattle.digraph.specs.Ways.{AreWays};
 ghost use Rattle.cut_net.specs.Network.{name_of};
 ghost use Rattle.cut_rules.specs.Verdicts.{broken_line, is_none, spaced, verdict_text, AreBroken, Broken, PutsSome};
 ghost use Rattle.cut_rules.specs.Outcomes.{AreByName, AreRulesOf};
-ghost use Rattle.cut_rules.specs.Judged.{told_text, AreSome, AreSomeOf, AreTold, AreToldOf, IsCounted};
+ghost use Rattle.cut_rules.specs.Judged.{told_text, AreFirst, AreFirstOf, AreTold, AreToldOf, IsCounted};
 
 use crate::Rules;
 use crate::draft::Rule;
@@ -128,7 +128,7 @@ fn push_chain<S: Sink>(
     requires node { node < length net.now.names }
     ensures told { IfOk result (λ any. (ends : List ℕ) → AreWays graph.now.edges.now ends ways.now → (told : List Broken) × AreTold (Leads graph.now.edges.now) ends line (node ∷ []) told
         × (any ≡ not (is_none told)) × PutsAllBut (S.taken sink.old) (S.taken sink.new) (string_bytes text.old ++ told_text net.now told) (string_bytes text.new)) }
-    ensures broken { IfErr result (λ _. (ends : List ℕ) → AreWays graph.now.edges.now ends ways.now → (told : List Broken) × AreSome (Leads graph.now.edges.now) ends line (node ∷ []) told
+    ensures broken { IfErr result (λ _. (ends : List ℕ) → AreWays graph.now.edges.now ends ways.now → (told : List Broken) × AreFirst (Leads graph.now.edges.now) ends line (node ∷ []) told
         × AppendsFront (S.taken sink.old) (S.taken sink.new) (string_bytes text.old ++ told_text net.now told)) }
     ensures failures { S.failures sink.new ≡ failures_after result (S.failures sink.old) }
 {
@@ -160,7 +160,7 @@ fn push_chains<S: Sink>(
     requires ascending { AllPairs (λ v w. v < w) members.now }
     ensures told { IfOk result (λ any. (ends : List ℕ) → AreWays graph.now.edges.now ends ways.now → (told : List Broken) × AreTold (Leads graph.now.edges.now) ends line members.now told
         × (any ≡ not (is_none told)) × PutsAllBut (S.taken sink.old) (S.taken sink.new) (string_bytes text.old ++ told_text net.now told) (string_bytes text.new)) }
-    ensures broken { IfErr result (λ _. (ends : List ℕ) → AreWays graph.now.edges.now ends ways.now → (told : List Broken) × AreSome (Leads graph.now.edges.now) ends line members.now told
+    ensures broken { IfErr result (λ _. (ends : List ℕ) → AreWays graph.now.edges.now ends ways.now → (told : List Broken) × AreFirst (Leads graph.now.edges.now) ends line members.now told
         × AppendsFront (S.taken sink.old) (S.taken sink.new) (string_bytes text.old ++ told_text net.now told)) }
     ensures failures { S.failures sink.new ≡ failures_after result (S.failures sink.old) }
 {
@@ -185,7 +185,7 @@ fn push_rule<S: Sink>(
     requires by_name { AreByName rules.now.draft.spans.items }
     ensures told { IfOk result (λ any. (told : List Broken) × AreToldOf (Leads graph.now.edges.now) rules.now.files.items rules.now.draft.spans.items (length net.now.names) (rule ∷ []) told
         × (any ≡ not (is_none told)) × PutsAllBut (S.taken sink.old) (S.taken sink.new) (string_bytes text.old ++ told_text net.now told) (string_bytes text.new)) }
-    ensures broken { IfErr result (λ _. (told : List Broken) × AreSomeOf (Leads graph.now.edges.now) rules.now.files.items rules.now.draft.spans.items (length net.now.names) (rule ∷ []) told
+    ensures broken { IfErr result (λ _. (told : List Broken) × AreFirstOf (Leads graph.now.edges.now) rules.now.files.items rules.now.draft.spans.items (length net.now.names) (rule ∷ []) told
         × AppendsFront (S.taken sink.old) (S.taken sink.new) (string_bytes text.old ++ told_text net.now told)) }
     ensures failures { S.failures sink.new ≡ failures_after result (S.failures sink.old) }
 {
@@ -224,7 +224,7 @@ fn push_rules<S: Sink>(
     requires ascending { AllPairs (λ r s. r.line < s.line) rules.now.draft.rules.items }
     ensures told { IfOk result (λ any. (told : List Broken) × AreToldOf (Leads graph.now.edges.now) rules.now.files.items rules.now.draft.spans.items (length net.now.names) rules.now.draft.rules.items told
         × (any ≡ not (is_none told)) × PutsAllBut (S.taken sink.old) (S.taken sink.new) (string_bytes text.old ++ told_text net.now told) (string_bytes text.new)) }
-    ensures broken { IfErr result (λ _. (told : List Broken) × AreSomeOf (Leads graph.now.edges.now) rules.now.files.items rules.now.draft.spans.items (length net.now.names) rules.now.draft.rules.items told
+    ensures broken { IfErr result (λ _. (told : List Broken) × AreFirstOf (Leads graph.now.edges.now) rules.now.files.items rules.now.draft.spans.items (length net.now.names) rules.now.draft.rules.items told
         × AppendsFront (S.taken sink.old) (S.taken sink.new) (string_bytes text.old ++ told_text net.now told)) }
     ensures failures { S.failures sink.new ≡ failures_after result (S.failures sink.old) }
 {
@@ -250,6 +250,9 @@ pub fn write_verdict<S: Sink>(
         × (kept ≡ is_none broken) × Appends (S.taken sink.old) (S.taken sink.new) (verdict_text net.now broken)) }
     // After a refusal a front of lines of such chains is taken, or of yes where there is none.
     ensures broken { IfErr result (λ _. (files : List TreeFile) (pieces : List (List ℕ)) → AreRulesOf net.now files pieces rules.now → PutsSome net.now files pieces (S.taken sink.old) (S.taken sink.new)) }
+    // It is a front of the text of all that are told, so that its lines are in order, each once, and none before them is left out.
+    ensures front { IfErr result (λ _. (files : List TreeFile) (pieces : List (List ℕ)) → AreRulesOf net.now files pieces rules.now → (broken : List Broken) → AreBroken net.now files pieces broken
+        → AppendsFront (S.taken sink.old) (S.taken sink.new) (verdict_text net.now broken)) }
     // Device is answered where the sink counted a failure, and nowhere else.
     ensures failures { S.failures sink.new ≡ failures_after result (S.failures sink.old) }
 {

@@ -3,6 +3,7 @@ use Rattle.std.specs.Prelude.{All}
 use Rattle.std.specs.String.{string_bytes}
 use Rattle.std.proofs.lemmas.Result.{err_from_is_err_and}
 use Rattle.digraph.specs.Edges.{Leads}
+use Rattle.cut_rules.proofs.Firsts.{first_all}
 use Rattle.cut_rules.proofs.Telling.{front_one, modules_low, puts_none, puts_one, told_none, told_one}
 use Rattle.cut_rules.proofs.verdict.push_chain.Goals as goal
 
@@ -26,7 +27,7 @@ returns-in_err-push_broken-clause-broken g c =
     let found = rw c.in-Some.is at c.in-Ok.ensures.found in
     rw p.1 (λ ends are. (
       record { line = c.args.line; chain = c.in-Some.chain.items } ∷ [],
-      (told_one (Leads c.args.graph.now.edges.now) ends c.args.line c.args.node c.in-Some.chain.items (found ends are)).each,
+      first_all (Leads c.args.graph.now.edges.now) ends c.args.line (c.args.node ∷ []) _ (told_one (Leads c.args.graph.now.edges.now) ends c.args.line c.args.node c.in-Some.chain.items (found ends are)),
       front_one c.args.net.now (string_bytes c.args.text.now) _ _ c.args.line c.in-Some.chain.items c.as_slice.result.now c.as_slice.ensures.value c.in_err-push_broken.ensures.broken,
     ))
 

@@ -2,7 +2,8 @@ use Rattle.std.proofs.Common.{◌+◌, ◌++◌, ◌∷◌, [], get_or, take, re
 use Rattle.std.specs.String.{string_bytes}
 use Rattle.std.proofs.lemmas.Result.{err_from_is_err_and}
 use Rattle.digraph.specs.Edges.{Leads}
-use Rattle.cut_rules.proofs.Telling.{any_more, front_both, front_is_of, next_is_later, one_more_of, puts_both, puts_none, some_more, some_wider, told_more, told_nothing}
+use Rattle.cut_rules.proofs.Firsts.{first_more}
+use Rattle.cut_rules.proofs.Telling.{any_more, front_both, next_is_later, one_more_of, puts_both, puts_none, told_more, told_nothing}
 use Rattle.cut_rules.proofs.verdict.push_chains.Goals as goal
 
 pub loop-member-init : goal.loop-member-init
@@ -20,8 +21,7 @@ returns-in_err-any-clause-broken g c =
     let (told, first, any, puts) = c.loop-member.invariant.told ends are in
     let (more, second, front) = c.in_err-any.ensures.broken ends are in (
       told ++ more,
-      some_wider (Leads c.args.graph.now.edges.now) ends c.args.line (take (k + 1) members) members (front_is_of members k 0 c.loop-member-test.true) (told ++ more)
-          (some_more (Leads c.args.graph.now.edges.now) ends c.args.line (take k members) (get_or members k 0 ∷ []) (take (k + 1) members) (one_more_of members k 0 c.loop-member-test.true) told more first.each second),
+      first_more (Leads c.args.graph.now.edges.now) ends c.args.line members k c.loop-member-test.true c.requires.ascending told more first second,
       front_both c.args.net.now (string_bytes c.args.text.now) _ _ _ told more (string_bytes c.loop-member.text) puts front,
     ))
 

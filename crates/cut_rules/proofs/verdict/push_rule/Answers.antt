@@ -1,12 +1,13 @@
-use Rattle.std.proofs.Common.{◌<◌, ℕ, List, [], length, get_or, refl, sym, subst, arith}
+use Rattle.std.proofs.Common.{◌<◌, ◌∷◌, ℕ, List, [], length, get_or, refl, sym, subst, arith}
 use Rattle.std.specs.Prelude.{All, vec_len}
 use Rattle.std.specs.String.{string_bytes}
 use Rattle.std.proofs.lemmas.List.Elements.{Contains-get_or}
 use Rattle.std.proofs.lemmas.Result.{err_from_is_err_and}
 use Rattle.digraph.specs.Edges.{Leads}
 use Rattle.digraph.specs.Ways.{AreWays}
-use Rattle.cut_rules.specs.Judged.{AreSome, AreTold}
-use Rattle.cut_rules.proofs.Telling.{named_as, puts_none, some_of_rule, told_nowhere, told_of_rule}
+use Rattle.cut_rules.specs.Judged.{AreFirst, AreTold}
+use Rattle.cut_rules.proofs.Firsts.{first_of_rule, nothing_first}
+use Rattle.cut_rules.proofs.Telling.{named_as, puts_none, told_nowhere, told_of_rule}
 use Rattle.cut_rules.proofs.verdict.push_rule.Goals as goal
 
 pub ways_into-requires-clause-ends : goal.ways_into-requires-clause-ends
@@ -36,8 +37,8 @@ returns-in_err-any-clause-broken g c =
     let (told, are, front) = c.in_err-any.ensures.broken c.in-Ok.ends.items ways in
     rw p.1 (
       told,
-      some_of_rule leads files spans nodes c.args.rule c.in-Ok.ends.items c.in-Ok-members_of.members.items are_ends are_members told
-          (subst (λ (l : List ℕ). AreSome leads c.in-Ok.ends.items c.args.rule.line l told) c.as_slice-3.ensures.value are),
+      first_of_rule leads files spans nodes c.args.rule c.in-Ok.ends.items c.in-Ok-members_of.members.items are_ends are_members told
+          (subst (λ (l : List ℕ). AreFirst leads c.in-Ok.ends.items c.args.rule.line l told) c.as_slice-3.ensures.value are),
       front,
     )
 
@@ -74,3 +75,12 @@ returns-in_default-found-clause-told g c =
       refl,
       puts_none c.args.net.now (string_bytes c.args.text.now) (g.S.Sink.taken c.args.sink.now),
     )
+
+pub returns-in_default-clause-broken : goal.returns-in_default-clause-broken
+returns-in_default-clause-broken g c = nothing_first (Leads c.args.graph.now.edges.now) c.args.rules.now.files.items c.args.rules.now.draft.spans.items c.args.net.now (c.args.rule ∷ []) (string_bytes c.args.text.now) (g.S.Sink.taken c.args.sink.now)
+
+pub returns-in_default-members_of-clause-broken : goal.returns-in_default-members_of-clause-broken
+returns-in_default-members_of-clause-broken g c = nothing_first (Leads c.args.graph.now.edges.now) c.args.rules.now.files.items c.args.rules.now.draft.spans.items c.args.net.now (c.args.rule ∷ []) (string_bytes c.args.text.now) (g.S.Sink.taken c.args.sink.now)
+
+pub returns-in_default-ways_into-clause-broken : goal.returns-in_default-ways_into-clause-broken
+returns-in_default-ways_into-clause-broken g c = nothing_first (Leads c.args.graph.now.edges.now) c.args.rules.now.files.items c.args.rules.now.draft.spans.items c.args.net.now (c.args.rule ∷ []) (string_bytes c.args.text.now) (g.S.Sink.taken c.args.sink.now)

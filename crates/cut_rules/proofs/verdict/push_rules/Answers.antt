@@ -1,11 +1,12 @@
-use Rattle.std.proofs.Common.{◌<◌, ◌++◌, ◌∷◌, [], List, length, get_or, take, refl, ap, inl, inr, subst, rules, arith}
+use Rattle.std.proofs.Common.{◌<◌, ◌++◌, [], List, length, refl, ap, subst, rules, arith}
 use Rattle.std.proofs.lemmas.List.{take_all}
 use Rattle.cut_rules.specs.Judged.{AreToldOf}
 use Rattle.std.specs.String.{string_bytes}
 use Rattle.std.proofs.lemmas.Result.{err_from_is_err_and}
 use Rattle.digraph.specs.Edges.{Leads}
 use Rattle.cut_rules.specs.declared.draft.Rule.{Rule}
-use Rattle.cut_rules.proofs.Telling.{any_more, first_rule, front_both, front_is_of, one_more_of, puts_both, puts_none, some_of_more, told_of_more, told_of_none}
+use Rattle.cut_rules.proofs.Firsts.{first_of_more}
+use Rattle.cut_rules.proofs.Telling.{any_more, first_rule, front_both, puts_both, puts_none, told_of_more, told_of_none}
 use Rattle.cut_rules.proofs.verdict.push_rules.Goals as goal
 
 pub loop-rule-init : goal.loop-rule-init
@@ -23,10 +24,9 @@ returns-in_err-any-clause-broken g c =
     let lt : k < length list = subst (λ (rs : List Rule). k < length rs) value c.loop-rule-test.true in
     let (told, first, any, puts) = c.loop-rule.invariant.told in
     let (more, second, front) = rw value at c.in_err-any.ensures.broken in
-    let whole = one_more_of list k first_rule lt in
     rw p.1 (
       told ++ more,
-      some_of_more (Leads c.args.graph.now.edges.now) c.args.rules.now.files.items c.args.rules.now.draft.spans.items (length c.args.net.now.names) (take k list) (get_or list k first_rule ∷ []) list (λ r has. front_is_of list k first_rule lt r ((whole r).1 (inl has))) (λ r has. front_is_of list k first_rule lt r ((whole r).1 (inr has))) told more first.each second,
+      first_of_more (Leads c.args.graph.now.edges.now) c.args.rules.now.files.items c.args.rules.now.draft.spans.items (length c.args.net.now.names) list k first_rule lt c.requires.ascending told more first second,
       front_both c.args.net.now (string_bytes c.args.text.now) _ _ _ told more (string_bytes c.loop-rule.text) puts front,
     )
 

@@ -1,13 +1,15 @@
-use Rattle.std.proofs.Common.{◌<◌, ◌∙◌, ◌++◌, ◌∷◌, [], List, get_or, codes, sym, refl, ap, subst, inl, inr, arith}
+use Rattle.std.proofs.Common.{◌≡◌, ◌<◌, ◌∙◌, ◌++◌, ◌∷◌, [], List, get_or, codes, sym, refl, ap, subst, inl, inr, arith}
 use Rattle.std.specs.Prelude.{Contains}
 use Rattle.std.specs.String.{string_bytes}
 use Rattle.std.proofs.lemmas.List.Elements.{Contains-get_or}
 use Rattle.std.proofs.lemmas.Result.{err_from_is_err_and}
 use Rattle.digraph.specs.declared.edge.Edge.{Edge}
 use Rattle.cut_net.specs.Network.{none_there}
-use Rattle.cut_rules.specs.Verdicts.{AreBroken}
-use Rattle.cut_rules.proofs.Ending.{all_begun, all_put, none_told, some_told, yes_begun, yes_put}
-use Rattle.cut_rules.proofs.Verdicts.{all_broken, each_breaks}
+use Rattle.byte_sink.specs.Sinks.{AppendsFront}
+use Rattle.cut_rules.specs.Verdicts.{verdict_text, AreBroken, Broken}
+use Rattle.cut_rules.proofs.Ending.{all_begun, all_put, front_of_all, none_told, some_told, verdict_is, yes_begun, yes_put}
+use Rattle.cut_rules.proofs.OneVerdict.{one_verdict}
+use Rattle.cut_rules.proofs.Verdicts.{all_broken, each_breaks, first_broken}
 use Rattle.cut_rules.proofs.verdict.write_verdict.Goals as goal
 
 pub graph_of-requires-clause-between : goal.graph_of-requires-clause-between
@@ -24,7 +26,7 @@ returns-in_err-any-clause-broken g c =
     let edges = c.in-Ok-graph_of.ensures.edges ∙ c.as_slice-2.ensures.value in
     let counted = rw c.as_slice.ensures.value at c.in-Ok.ensures.are in
     let (told, some, front) = rw (c.new-text.ensures.bytes, edges) at c.in_err-any.ensures.broken in
-    rw p.1 (λ files pieces are. inl (told, each_breaks c.args.net.now c.keeps.ensures.network files pieces c.args.rules.now are c.in-Ok.edges.items counted told some, front))
+    rw p.1 (λ files pieces are. inl (told, each_breaks c.args.net.now c.keeps.ensures.network files pieces c.args.rules.now are c.in-Ok.edges.items counted told some.each, front))
 
 pub returns-in_err-put_all-clause-broken : goal.returns-in_err-put_all-clause-broken
 returns-in_err-put_all-clause-broken g c =
@@ -76,3 +78,39 @@ returns-clause-told g c =
       some,
       all_put c.args.net.now _ _ _ told (string_bytes c.push_rules.new.text) some puts (rw c.as_bytes.ensures.value at c.in_ok-put_all-2.ensures.puts),
     )
+
+pub returns-in_err-any-clause-front : goal.returns-in_err-any-clause-front
+returns-in_err-any-clause-front g c =
+    let p = err_from_is_err_and c.from_residual.result c.from_residual.ensures.1 in
+    let edges = c.in-Ok-graph_of.ensures.edges ∙ c.as_slice-2.ensures.value in
+    let counted = rw c.as_slice.ensures.value at c.in-Ok.ensures.are in
+    let (told, first, front) = rw (c.new-text.ensures.bytes, edges) at c.in_err-any.ensures.broken in
+    rw p.1 (λ files pieces are broken all.
+    let (rest, whole) = first_broken c.args.net.now c.keeps.ensures.network files pieces c.args.rules.now are c.in-Ok.edges.items counted told broken first all in
+    front_of_all c.args.net.now _ _ told rest broken whole front)
+
+pub returns-in_err-put_all-clause-front : goal.returns-in_err-put_all-clause-front
+returns-in_err-put_all-clause-front g c =
+    let p = err_from_is_err_and c.from_residual-in_err-put_all.result c.from_residual-in_err-put_all.ensures.1 in
+    let edges = c.in-Ok-graph_of.ensures.edges ∙ c.as_slice-2.ensures.value in
+    let counted = rw c.as_slice.ensures.value at c.in-Ok.ensures.are in
+    let (told, told_all, any, puts) = rw (c.new-text.ensures.bytes, edges) at c.in_ok-any.ensures.told in
+    let none = none_told told c.in_ok-any.any any c.if-not-any.true in
+    rw p.1 (λ files pieces are broken all.
+    let own = all_broken c.args.net.now c.keeps.ensures.network files pieces c.args.rules.now are c.in-Ok.edges.items counted told told_all in
+    let same : [] ≡ broken = sym none ∙ one_verdict c.args.net.now files pieces told broken own all in
+    subst (λ (l : List Broken). AppendsFront (g.S.Sink.taken c.args.sink.now) (g.S.Sink.taken c.put_all.new.sink) (verdict_text c.args.net.now l)) same
+    (yes_begun c.args.net.now _ _ _ told (string_bytes c.push_rules.new.text) (codes "yes" ++ 10 ∷ []) none puts c.in_err-put_all.ensures.puts))
+
+pub returns-in_err-put_all-2-clause-front : goal.returns-in_err-put_all-2-clause-front
+returns-in_err-put_all-2-clause-front g c =
+    let p = err_from_is_err_and c.from_residual-in_err-put_all-2.result c.from_residual-in_err-put_all-2.ensures.1 in
+    let edges = c.in-Ok-graph_of.ensures.edges ∙ c.as_slice-2.ensures.value in
+    let counted = rw c.as_slice.ensures.value at c.in-Ok.ensures.are in
+    let (told, told_all, any, puts) = rw (c.new-text.ensures.bytes, edges) at c.in_ok-any.ensures.told in
+    let some = some_told told c.in_ok-any.any any c.if-not-any.false in
+    rw p.1 (λ files pieces are broken all.
+    let own = all_broken c.args.net.now c.keeps.ensures.network files pieces c.args.rules.now are c.in-Ok.edges.items counted told told_all in
+    let text = sym (verdict_is c.args.net.now told some) ∙ ap (verdict_text c.args.net.now) (one_verdict c.args.net.now files pieces told broken own all) in
+    subst (AppendsFront (g.S.Sink.taken c.args.sink.now) (g.S.Sink.taken c.put_all-2.new.sink)) text
+    (all_begun c.args.net.now _ _ _ told (string_bytes c.push_rules.new.text) some puts (rw c.as_bytes.ensures.value at c.in_err-put_all-2.ensures.puts)))
