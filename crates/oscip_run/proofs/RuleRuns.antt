@@ -1,6 +1,7 @@
 -- From rules and what is told of them to what a run that looks whether they are kept is.
 use Rattle.std.proofs.Common.{◌≡◌, ℕ, Bool, List, Option, Result, Ok, Err, refl, subst, sym, inl, inr}
 use Rattle.std.specs.Io.KnownBytes.{Appends}
+use Rattle.byte_sink.specs.Sinks.{AppendsFront}
 use Rattle.byte_sink.specs.declared.sink.SinkFault.{SinkFault}
 use Rattle.byte_sink.specs.declared.sink.SinkFault.TheVariants as sink
 use Rattle.cut_net.specs.Network.{Network}
@@ -44,13 +45,18 @@ module _ (IsOf : Network → List File → Type 0) (IsRefused : RunFault → Typ
     h.3,
   )
 
-  front : (old new : Option (List ℕ)) (all : Rules) → AreRulesOf net files (pieces_of text) all → PutsSome net files (pieces_of text) old new → PutsRulesFront IsOf text old new
-  front old new all are some = record { net = net; files = files; reads = of; sound = sound all are; front = some }
+  -- what was put is a front of all that is told
+  abbrev pub IsFrontOfAll : Option (List ℕ) → Option (List ℕ) → Type 0
+  IsFrontOfAll old new = (broken : List Broken) → AreBroken net files (pieces_of text) broken → AppendsFront old new (verdict_text net broken)
+
+  front : (old new : Option (List ℕ)) (all : Rules) → AreRulesOf net files (pieces_of text) all → PutsSome net files (pieces_of text) old new → IsFrontOfAll old new → PutsRulesFront IsOf text old new
+  front old new all are some whole = record { net = net; files = files; reads = of; sound = sound all are; front = some; in_order = whole }
 
   -- a sink that stopped
-  pub stopped : (old new : Option (List ℕ)) (all : Rules) (fault : SinkFault) → AreRulesOf net files (pieces_of text) all → PutsSome net files (pieces_of text) old new → IsRulesRun IsOf IsRefused text old new (Err (of_sink fault))
-  stopped old new all sink.Memory are some = inr (front old new all are some)
-  stopped old new all sink.Device are some = front old new all are some
+  pub stopped : (old new : Option (List ℕ)) (all : Rules) (fault : SinkFault) → AreRulesOf net files (pieces_of text) all → PutsSome net files (pieces_of text) old new → IsFrontOfAll old new →
+      IsRulesRun IsOf IsRefused text old new (Err (of_sink fault))
+  stopped old new all sink.Memory are some whole = inr (front old new all are some whole)
+  stopped old new all sink.Device are some whole = front old new all are some whole
 
 -- what is so of a network and files is so of those of an input that are these
 module _ (IsOf : Network → List File → Type 0) (IsRefused : RunFault → Type 0) (n : Network) (fs : List File) (of : IsOf n fs) (text : List ℕ) (old new : Option (List ℕ)) where
@@ -58,7 +64,7 @@ module _ (IsOf : Network → List File → Type 0) (IsRefused : RunFault → Typ
   moved net files these = subst (λ (x : Network). IsOf x files) (sym these.0) (subst (IsOf n) (sym these.1) of)
 
   front_of : PutsRulesFront (AreThese n fs) text old new → PutsRulesFront IsOf text old new
-  front_of h = record { net = h.net; files = h.files; reads = moved h.net h.files h.reads; sound = h.sound; front = h.front }
+  front_of h = record { net = h.net; files = h.files; reads = moved h.net h.files h.reads; sound = h.sound; front = h.front; in_order = h.in_order }
 
   pub run_of : (result : Result Bool RunFault) → IsRulesRun (AreThese n fs) IsNeverRefused text old new result → IsRulesRun IsOf IsRefused text old new result
   run_of (Ok agrees) (said, is, puts) = (

@@ -2,6 +2,7 @@
 use Rattle.std.specs.Prelude.{◌≡◌, ◌⊎◌, ℕ, Bool, List, map, Option, Result, Ok, Err}
 use Rattle.std.specs.Io.KnownBytes.{Appends, Keeps}
 use Rattle.std.specs.String.{string_bytes}
+use Rattle.byte_sink.specs.Sinks.{AppendsFront}
 use Rattle.cut_net.specs.Network.{Network}
 use Rattle.cut_rules.specs.Outcomes.{IsRefusal}
 use Rattle.cut_rules.specs.RuleLines.{pieces_of}
@@ -48,13 +49,14 @@ pub record IsRulesText (IsOf : Network → List File → Type 0) (rules text : L
 abbrev pub PutsRules : (Network → List File → Type 0) → List ℕ → Option (List ℕ) → Option (List ℕ) → Bool → Type 0
 PutsRules IsOf rules old new agrees = (text : List ℕ) × IsRulesText IsOf rules text agrees × Appends old new text
 
--- the sink has a front of lines of chains that break rules, or of yes where none does
+-- the sink has a front of lines of chains that break rules, or of yes where none does: a front of the text that is told of all
 pub record PutsRulesFront (IsOf : Network → List File → Type 0) (rules : List ℕ) (old new : Option (List ℕ)) : Type 0 where
   pub net : Network
   pub files : List File
   pub reads : IsOf net files
   pub sound : IsSound net files rules
   pub front : PutsSome net files (pieces_of rules) old new
+  pub in_order : (broken : List Broken) → AreBroken net files (pieces_of rules) broken → AppendsFront old new (verdict_text net broken)
 
 -- the rules are refused with this fault, and the input isn't
 abbrev pub IsRefusedRules : (Network → List File → Type 0) → List ℕ → RulesFault → Type 0

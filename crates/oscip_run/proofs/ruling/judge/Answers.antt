@@ -15,7 +15,9 @@ pub returns-in_err-write_verdict-clause-run : goal.returns-in_err-write_verdict-
 returns-in_err-write_verdict-clause-run g c =
     let p = err_from_is_err_and c.from_residual-in_err-write_verdict.result c.from_residual-in_err-write_verdict.ensures.1 in
     let are = c.in_ok-rules.ensures.rules in
-    rw (p.1, p.2) (stopped (AreThese c.args.net.now c.args.files.now) IsNeverRefused c.args.rules.now c.args.net.now c.args.files.now (refl, refl) _ _ c.in_ok-rules.rules _ are (c.in_err-write_verdict.ensures.broken c.args.files.now (pieces_of c.args.rules.now) are))
+    rw (p.1, p.2)
+    (stopped (AreThese c.args.net.now c.args.files.now) IsNeverRefused c.args.rules.now c.args.net.now c.args.files.now (refl, refl) _ _ c.in_ok-rules.rules _ are
+    (c.in_err-write_verdict.ensures.broken c.args.files.now (pieces_of c.args.rules.now) are) (c.in_err-write_verdict.ensures.front c.args.files.now (pieces_of c.args.rules.now) are))
 
 pub returns-clause-run : goal.returns-clause-run
 returns-clause-run g c =
