@@ -42,7 +42,7 @@ use Rattle.ob_parse.proofs.Sound.{tokens_of-construct}
 use Rattle.ob_parse.proofs.SoundExpressions.{expr_at_sound}
 use Rattle.ob_parse.proofs.SoundTypes.{type_at_sound}
 use Rattle.ob_parse.proofs.SoundModules.{import_sound}
-use Rattle.ob_parse.proofs.Loops.{Advances, accept_advances, const_advances, type_decl_advances, variable_advances}
+use Rattle.ob_parse.proofs.Loops.{Advances, accept_advances, declared_advances, const_shortens, type_decl_shortens, variable_shortens}
 use Rattle.ob_parse.proofs.LoopProcedures.{procedure_advances}
 use Rattle.ob_parse.proofs.ReadsBack.{Reads, low_right, split}
 use Rattle.ob_parse.proofs.CompleteNames.{identdef_after_again}
@@ -225,13 +225,13 @@ again_declarations d h x rest end =
     (past (λ ls. accept_at kinds.Const ls ≡ None) (λ ls. not_accepted kinds.Const kinds.Procedure ls refl) end.constants)) in
     let from_procedures = again_procedures d h y.procedures.items rest end.procedures in
     let from_variables = again_seq from_procedures
-    (again_listed d kinds.Var (variable_with (type_at d)) variable_outline (variable_advances d (type_at d) (type_at_sound d))
+    (again_listed d kinds.Var (variable_with (type_at d)) variable_outline (declared_advances _ (variable_shortens d (type_at d) (type_at_sound d)))
     (λ v ls. again_variable d v _ (semicolon_ends_type ls)) variable_opens y.variables _ no_variables no_name) in
     let from_types = again_seq from_variables
-    (again_listed d kinds.Type (type_decl_with (type_at d)) type_decl_outline (type_decl_advances d (type_at d) (type_at_sound d))
+    (again_listed d kinds.Type (type_decl_with (type_at d)) type_decl_outline (declared_advances _ (type_decl_shortens d (type_at d) (type_at_sound d)))
     (λ t ls. again_type_decl d t _ (semicolon_ends_type ls)) type_decl_opens y.types _ no_types no_name_next) in
     let from_constants = again_seq from_types
-    (again_listed d kinds.Const (const_with (expr_at d)) const_outline (const_advances d (expr_at d) (expr_at_sound d))
+    (again_listed d kinds.Const (const_with (expr_at d)) const_outline (declared_advances _ (const_shortens d (expr_at d) (expr_at_sound d)))
     (λ c ls. again_const d c _ (expr_ends kinds.Semicolon ls refl)) const_opens y.constants _ no_constants no_name_last) in
     again_is (declarations_out x) from_constants
 

@@ -5,12 +5,12 @@ use Rattle.ob_tree.specs.declared.token.Leaf.{Leaf}
 use Rattle.ob_tree.specs.Marks.{Out}
 use Rattle.ob_parse.specs.Front.{uncons, front, is_word}
 use Rattle.ob_parse.specs.Forms.{Unexpected, deep_at, Reader, begins, limit_at}
-use Rattle.ob_parse.specs.ReadModules.{with_semicolon, procedure_with, procedure_at}
+use Rattle.ob_parse.specs.ReadModules.{Shortens, with_semicolon, procedure_with, procedure_at}
 use Rattle.ob_parse.proofs.Sound.{Sound, expect_sound}
 use Rattle.ob_parse.proofs.SoundExpressions.{expr_at_sound}
 use Rattle.ob_parse.proofs.SoundStatements.{block_at_sound}
 use Rattle.ob_parse.proofs.SoundModules.{procedure_name_sound, declarations_at_sound}
-use Rattle.ob_parse.proofs.Loops.{Advances, Shortens, sound_no_longer, shortens_seq, shortens_node, shortens_expect, begins_advances}
+use Rattle.ob_parse.proofs.Loops.{Advances, sound_no_longer, shortens_seq, shortens_node, shortens_expect, begins_advances}
 
 -- nothing is read at the limit
 limited_shortens : (b : Bool) (o : Option (Leaf × List Leaf)) (ls : List Leaf) (x : Out × List Leaf) → cond b (Err (deep_at o)) (Err (Unexpected o)) ≡ Ok x → length x.1 < length ls

@@ -16,7 +16,7 @@ use Rattle.ob_parse.specs.Forms.{Unexpected, ◌>>=◌, Read, Reader, Front, Sta
 use Rattle.ob_parse.specs.ReadNames.{identdef_after, identdef_at}
 use Rattle.ob_parse.specs.ReadExpressions.{mul_start, add_start, mul_at, add_at, as_word, selector_first, selector_from, selector_with}
 use Rattle.ob_parse.specs.ReadTypes.{var_with, behind_semicolon, next_field, field_start}
-use Rattle.ob_parse.specs.ReadModules.{is_identifier, with_semicolon, const_with, type_decl_with, variable_with}
+use Rattle.ob_parse.specs.ReadModules.{is_identifier, Shortens, with_semicolon, const_with, type_decl_with, variable_with}
 use Rattle.ob_parse.proofs.Sound.{Sound, Takes, bind_ok, ok_is, done, some_is, identifier_spelt, expect_sound, accept_sound, sound_nothing, sound_optional, sound_seq, sound_many, sound_several}
 use Rattle.ob_parse.proofs.SoundExpressions.{Spelt, mul_spelt, add_spelt, role_sound, identdef_sound, closed_sound}
 
@@ -94,10 +94,6 @@ has_not_begun p ls e = rw e refl
 -- what is read leaves no more than there was
 abbrev pub NoLonger : Reader → Type 0
 NoLonger r = (ls : List Leaf) (x : Out × List Leaf) → r ls ≡ Ok x → length x.1 ≤ length ls
-
--- what is read takes a token or more
-abbrev pub Shortens : Reader → Type 0
-Shortens r = (ls : List Leaf) (x : Out × List Leaf) → r ls ≡ Ok x → length x.1 < length ls
 
 takes_no_longer : (d : ℕ) (ls : List Leaf) (o : Out) (rest : List Leaf) → Takes d ls o rest → length rest ≤ length ls
 takes_no_longer d ls o rest t = omega (arith, ap length t.parts, length-append (tokens_of o) rest)
@@ -244,30 +240,21 @@ identdef_shortens : Shortens identdef_at
 unfolding identdef_at identdef_after
 identdef_shortens = shortens_behind_name _ (λ n. no_longer_led (λ star. declared (is_something star) n) _ (sound_no_longer zero _ (sound_optional zero _ _ (accept_sound zero kinds.Star) (sound_nothing zero))))
 
-ended_no_longer : NoLonger (expect_at kinds.Semicolon)
-ended_no_longer = sound_no_longer zero _ (expect_sound zero kinds.Semicolon)
+pub declared_advances : (r : Reader) → Shortens r → Advances (begins is_identifier) (with_semicolon r)
+declared_advances r h = begins_advances is_identifier _ (shortens_seq r (expect_at kinds.Semicolon) h (sound_no_longer zero _ (expect_sound zero kinds.Semicolon)))
 
-const_shortens : (d : ℕ) (r : Reader) → Sound d r → Shortens (const_with r)
+pub const_shortens : (d : ℕ) (r : Reader) → Sound d r → Shortens (const_with r)
 unfolding const_with
 const_shortens d r h = shortens_node _ _ (shortens_seq _ _ identdef_shortens (sound_no_longer d _ (sound_seq d _ _ (expect_sound d kinds.Equals) h)))
 
-pub const_advances : (d : ℕ) (r : Reader) → Sound d r → Advances (begins is_identifier) (with_semicolon (const_with r))
-const_advances d r h = begins_advances is_identifier _ (shortens_seq _ _ (const_shortens d r h) ended_no_longer)
-
-type_decl_shortens : (d : ℕ) (r : Reader) → Sound d r → Shortens (type_decl_with r)
+pub type_decl_shortens : (d : ℕ) (r : Reader) → Sound d r → Shortens (type_decl_with r)
 unfolding type_decl_with
 type_decl_shortens d r h = shortens_node _ _ (shortens_seq _ _ identdef_shortens (sound_no_longer d _ (sound_seq d _ _ (expect_sound d kinds.Equals) h)))
-
-pub type_decl_advances : (d : ℕ) (r : Reader) → Sound d r → Advances (begins is_identifier) (with_semicolon (type_decl_with r))
-type_decl_advances d r h = begins_advances is_identifier _ (shortens_seq _ _ (type_decl_shortens d r h) ended_no_longer)
 
 var_shortens : (d : ℕ) (r : Reader) → Sound d r → Shortens (var_with r)
 unfolding var_with
 var_shortens d r h = shortens_seq _ _ (shortens_several d kinds.Comma _ (identdef_sound d) identdef_shortens) (sound_no_longer d _ (sound_seq d _ _ (expect_sound d kinds.Colon) h))
 
-variable_shortens : (d : ℕ) (r : Reader) → Sound d r → Shortens (variable_with r)
+pub variable_shortens : (d : ℕ) (r : Reader) → Sound d r → Shortens (variable_with r)
 unfolding variable_with
 variable_shortens d r h = shortens_node _ _ (var_shortens d r h)
-
-pub variable_advances : (d : ℕ) (r : Reader) → Sound d r → Advances (begins is_identifier) (with_semicolon (variable_with r))
-variable_advances d r h = begins_advances is_identifier _ (shortens_seq _ _ (variable_shortens d r h) ended_no_longer)

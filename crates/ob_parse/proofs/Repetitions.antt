@@ -2,11 +2,9 @@
 use Rattle.std.proofs.Common.{ℕ, zero, Bool, false, ◌++◌, [], refl}
 use Rattle.ob_scan.specs.declared.kind.Kind.{Kind}
 use Rattle.ob_scan.specs.declared.kind.Kind.TheVariants as kinds
-use Rattle.ob_tree.specs.declared.declaration.ConstDecl.{ConstDecl}
 use Rattle.ob_tree.specs.declared.declaration.ImportItem.{ImportItem}
 use Rattle.ob_tree.specs.declared.declaration.ParameterSection.{ParameterSection}
 use Rattle.ob_tree.specs.declared.declaration.ProcDecl.{ProcDecl}
-use Rattle.ob_tree.specs.declared.declaration.TypeDecl.{TypeDecl}
 use Rattle.ob_tree.specs.declared.declaration.VarDecl.{VarDecl}
 use Rattle.ob_tree.specs.declared.expression.AddOperator.{AddOperator}
 use Rattle.ob_tree.specs.declared.expression.Element.{Element}
@@ -28,20 +26,20 @@ use Rattle.ob_tree.specs.Names.{identdef_outline}
 use Rattle.ob_tree.specs.Expressions.{add_kind, mul_kind, element_outline, expr_outline, factor_outline, selector_outline, term_outline}
 use Rattle.ob_tree.specs.Statements.{branch_outline, case_outline, label_range_outline, stmt_outline}
 use Rattle.ob_tree.specs.Types.{section_outline, var_outline}
-use Rattle.ob_tree.specs.Declaring.{const_outline, import_outline, procedure_outline, type_decl_outline, variable_outline}
+use Rattle.ob_tree.specs.Declaring.{import_outline, procedure_outline}
 use Rattle.ob_parse.specs.Front.{is_word}
 use Rattle.ob_parse.specs.Forms.{Reader, accept_at, begins, name_at, node}
 use Rattle.ob_parse.specs.ReadNames.{identdef_at}
 use Rattle.ob_parse.specs.ReadExpressions.{add_at, mul_at, element_with, expr_at, factor_at, selector_first, selector_with, term_at}
 use Rattle.ob_parse.specs.ReadStatements.{block_at, branch_with, case_with, label_range_at, statement_at}
 use Rattle.ob_parse.specs.ReadTypes.{field_start, section_at, type_at, var_with}
-use Rattle.ob_parse.specs.ReadModules.{const_with, import_item_at, is_identifier, procedure_at, type_decl_with, variable_with, with_semicolon}
+use Rattle.ob_parse.specs.ReadModules.{Shortens, import_item_at, is_identifier, procedure_at, with_semicolon}
 use Rattle.ob_parse.proofs.Sound.{Sound, name_sound, role_takes, sound_flat}
 use Rattle.ob_parse.proofs.SoundExpressions.{element_sound, expr_at_sound, factor_at_sound, identdef_sound, term_at_sound}
 use Rattle.ob_parse.proofs.SoundStatements.{block_at_sound, branch_sound, case_sound, label_range_sound, statement_at_sound}
 use Rattle.ob_parse.proofs.SoundTypes.{section_sound, type_at_sound, var_sound}
 use Rattle.ob_parse.proofs.SoundModules.{import_sound}
-use Rattle.ob_parse.proofs.Loops.{Advances, accept_advances, add_advances, mul_advances, const_advances, field_advances, selector_advances, type_decl_advances, variable_advances}
+use Rattle.ob_parse.proofs.Loops.{Advances, accept_advances, add_advances, mul_advances, declared_advances, field_advances, selector_advances}
 use Rattle.ob_parse.proofs.LoopProcedures.{procedure_advances}
 use Rattle.ob_parse.proofs.Turns.{Operation, Repetition}
 
@@ -99,14 +97,8 @@ field_lists d = record {
 abbrev pub imports : Repetition ImportItem
 imports = each_behind kinds.Comma zero import_item_at (import_sound zero) import_outline
 
-abbrev pub constants : ℕ → Repetition ConstDecl
-constants d = each_at is_identifier (with_semicolon (const_with (expr_at d))) (const_advances d _ (expr_at_sound d)) (ended const_outline)
-
-abbrev pub named_types : ℕ → Repetition TypeDecl
-named_types d = each_at is_identifier (with_semicolon (type_decl_with (type_at d))) (type_decl_advances d _ (type_at_sound d)) (ended type_decl_outline)
-
-abbrev pub variables : ℕ → Repetition VarDecl
-variables d = each_at is_identifier (with_semicolon (variable_with (type_at d))) (variable_advances d _ (type_at_sound d)) (ended variable_outline)
+abbrev pub declarations : {T : Type 0} → (r : Reader) → Shortens r → (T → Out) → Repetition T
+declarations r h f = each_at is_identifier (with_semicolon r) (declared_advances r h) (ended f)
 
 abbrev pub procedures : ℕ → Repetition ProcDecl
 procedures d = each_at (is_word kinds.Procedure) (with_semicolon (procedure_at d)) (procedure_advances d) (ended procedure_outline)

@@ -1,5 +1,5 @@
 -- Reading declarations and modules, a reader for each production (Oberon-07 report, sections 5, 7, 10 and 11).
-use Rattle.std.specs.Prelude.{ℕ, zero, suc, List, Option, Some, None, Result, Ok, Err, Bool, true, false}
+use Rattle.std.specs.Prelude.{◌≡◌, ◌<◌, ℕ, zero, suc, List, length, Option, Some, None, Result, Ok, Err, Bool, true, false}
 use Rattle.ob_scan.specs.declared.kind.Kind.{Kind}
 use Rattle.ob_scan.specs.declared.kind.Kind.TheVariants as kinds
 use Rattle.ob_tree.specs.declared.token.Leaf.{Leaf}
@@ -29,6 +29,10 @@ type_decl_with type = node constructs.TypeDeclaration (seq identdef_at (seq (exp
 -- VariableDeclaration = IdentList ":" type
 unfoldable pub variable_with : Reader → Reader
 variable_with type = node constructs.VariableDeclaration (var_with type)
+
+-- what is read takes a token or more
+abbrev pub Shortens : Reader → Type 0
+Shortens r = (ls : List Leaf) (x : Out × List Leaf) → r ls ≡ Ok x → length x.1 < length ls
 
 -- a declaration and the semicolon behind it
 abbrev pub with_semicolon : Reader → Reader

@@ -1,17 +1,17 @@
 //! Declarations: constants, types, variables and procedures (Oberon-07 report, sections 5, 6, 7 and 10).
 
-ghost use Rattle.std.specs.Prelude.{◌≡◌, ◌++◌};
+ghost use Rattle.std.specs.Prelude.{◌≡◌, ◌++◌, ℕ};
 ghost use Rattle.ob_scan.specs.declared.kind.Kind.TheVariants as kinds;
-ghost use Rattle.ob_tree.specs.Marks.{word, each, if_there, repeated};
+ghost use Rattle.ob_tree.specs.Marks.{Out, word, each, if_there, repeated};
 ghost use Rattle.ob_tree.specs.Expressions.{expr_outline};
 ghost use Rattle.ob_tree.specs.Statements.{block_outline};
 ghost use Rattle.ob_tree.specs.Declaring.{const_outline, type_decl_outline, variable_outline, part, declarations_outline, procedure_outline};
 ghost use Rattle.ob_parse.specs.Front.{front, uncons, is_word};
-ghost use Rattle.ob_parse.specs.Forms.{optional, accept_at, expect_at, name_at, many, begins, seq};
+ghost use Rattle.ob_parse.specs.Forms.{Reader, optional, accept_at, expect_at, name_at, many, begins, seq};
 ghost use Rattle.ob_parse.specs.ReadExpressions.{expr_at};
 ghost use Rattle.ob_parse.specs.ReadStatements.{block_at};
 ghost use Rattle.ob_parse.specs.ReadTypes.{type_at};
-ghost use Rattle.ob_parse.specs.ReadModules.{is_identifier, with_semicolon, const_with, type_decl_with, variable_with, part_with, procedures_with, body_with, procedure_with, procedure_at, declarations_at};
+ghost use Rattle.ob_parse.specs.ReadModules.{Shortens, is_identifier, with_semicolon, const_with, type_decl_with, variable_with, part_with, procedures_with, body_with, procedure_with, procedure_at, declarations_at};
 ghost use Rattle.ob_parse.specs.Accords.{Accords, ahead};
 
 use crate::cursor::Cursor;
@@ -37,155 +37,115 @@ pub fn begins_declaration(tokens: &[Token], input: Cursor) -> bool
     matches!(input.next(tokens), Some((Leaf::Name(_), _)))
 }
 
-/// A constant, and its semicolon.
-#[tactic(auto, using(ob_tree::proofs::DeclarationLayers::declaring_made), unfolding(crate::specs::ReadModules::const_with))]
-fn ended_constant(
-    alloc: Global,
-    tokens: &[Token],
-    input: Cursor,
-    depth: u32,
-) -> Result<(ConstDecl, Cursor), Stop>
-    ensures { Accords tokens.now (λ x. (const_outline x.0 ++ word kinds.Semicolon, ahead tokens.now x.1)) result (with_semicolon (const_with (expr_at depth)) (ahead tokens.now input)) }
-{
-    let (name, here) = identdef(tokens, input)?;
-    let here = expect(tokens, here, Kind::Equals)?;
-    let (value, here) = expression(alloc, tokens, here, depth)?;
-    let here = expect(tokens, here, Kind::Semicolon)?;
-    let value = Box::into_inner(value);
-    Ok((ConstDecl { name, value }, here))
+/// Declarations of one kind, which stand in a section of their own.
+trait Declaration: Drop {
+    ghost read: { ℕ → Reader };
+
+    ghost shown: { Self → Out };
+
+    /// A declaration, and its semicolon.
+    fn ended(
+        alloc: Global,
+        tokens: &[Token],
+        input: Cursor,
+        depth: u32,
+    ) -> Result<(Self, Cursor), Stop>
+        ensures { Accords tokens.now (λ x. (shown x.0 ++ word kinds.Semicolon, ahead tokens.now x.1)) result (with_semicolon (read depth) (ahead tokens.now input)) };
 }
 
-/// Constants, each with its semicolon.
-fn constants(
+impl Declaration for ConstDecl {
+    ghost read = { λ depth. const_with (expr_at depth) };
+
+    ghost shown = { const_outline };
+
+    #[tactic(auto, using(ob_tree::proofs::DeclarationLayers::declaring_made), unfolding(crate::specs::ReadModules::const_with))]
+    fn ended(
+        alloc: Global,
+        tokens: &[Token],
+        input: Cursor,
+        depth: u32,
+    ) -> Result<(ConstDecl, Cursor), Stop> {
+        let (name, here) = identdef(tokens, input)?;
+        let here = expect(tokens, here, Kind::Equals)?;
+        let (value, here) = expression(alloc, tokens, here, depth)?;
+        let here = expect(tokens, here, Kind::Semicolon)?;
+        let value = Box::into_inner(value);
+        Ok((ConstDecl { name, value }, here))
+    }
+}
+
+impl Declaration for TypeDecl {
+    ghost read = { λ depth. type_decl_with (type_at depth) };
+
+    ghost shown = { type_decl_outline };
+
+    #[tactic(auto, using(ob_tree::proofs::DeclarationLayers::declaring_made), unfolding(crate::specs::ReadModules::type_decl_with))]
+    fn ended(
+        alloc: Global,
+        tokens: &[Token],
+        input: Cursor,
+        depth: u32,
+    ) -> Result<(TypeDecl, Cursor), Stop> {
+        let (name, here) = identdef(tokens, input)?;
+        let here = expect(tokens, here, Kind::Equals)?;
+        let (form, here) = type_form(alloc, tokens, here, depth)?;
+        let here = expect(tokens, here, Kind::Semicolon)?;
+        let form = Box::into_inner(form);
+        Ok((TypeDecl { name, form }, here))
+    }
+}
+
+impl Declaration for VarDecl {
+    ghost read = { λ depth. variable_with (type_at depth) };
+
+    ghost shown = { variable_outline };
+
+    #[tactic(auto, using(ob_tree::proofs::DeclarationLayers::declaring_made), unfolding(crate::specs::ReadModules::variable_with))]
+    fn ended(
+        alloc: Global,
+        tokens: &[Token],
+        input: Cursor,
+        depth: u32,
+    ) -> Result<(VarDecl, Cursor), Stop> {
+        let (declaration, here) = var_declaration(alloc, tokens, input, depth)?;
+        let here = expect(tokens, here, Kind::Semicolon)?;
+        Ok((Box::into_inner(declaration), here))
+    }
+}
+
+/// Declarations of one kind, each with its semicolon.
+fn declared<D: Declaration>(
     alloc: Global,
     tokens: &[Token],
     input: Cursor,
     depth: u32,
-) -> Result<(Vec<ConstDecl>, Cursor), Stop>
-    ensures { Accords tokens.now (λ x. (each (λ d. const_outline d ++ word kinds.Semicolon) x.0.items, ahead tokens.now x.1)) result
-        (many (begins is_identifier) (with_semicolon (const_with (expr_at depth))) (ahead tokens.now input)) }
+) -> Result<(Vec<D>, Cursor), Stop>
+    requires { Shortens (D.read depth) }
+    ensures { Accords tokens.now (λ x. (each (λ d. D.shown d ++ word kinds.Semicolon) x.0.items, ahead tokens.now x.1)) result
+        (many (begins is_identifier) (with_semicolon (D.read depth)) (ahead tokens.now input)) }
 {
     let mut declared = Vec::new(alloc);
     let mut here = input;
     'more: while begins_declaration(tokens, here) {
-        here = keep(&mut declared, ended_constant(alloc, tokens, here, depth))?;
+        here = keep(&mut declared, D::ended(alloc, tokens, here, depth))?;
     }
     Ok((declared, here))
 }
 
-/// The section of constants, if it stands here.
+/// The section of such declarations behind this keyword, if it stands here.
 #[tactic(auto, unfolding(crate::specs::ReadModules::part_with))]
-fn constant_section(
+fn declaration_section<D: Declaration>(
     alloc: Global,
     tokens: &[Token],
     input: Cursor,
     depth: u32,
-) -> Result<(Option<Vec<ConstDecl>>, Cursor), Stop>
-    ensures { Accords tokens.now (λ x. (if_there (λ v. part kinds.Const const_outline v.items) x.0, ahead tokens.now x.1)) result (part_with kinds.Const (const_with (expr_at depth)) (ahead tokens.now input)) }
+    keyword: Kind,
+) -> Result<(Option<Vec<D>>, Cursor), Stop>
+    requires { Shortens (D.read depth) }
+    ensures { Accords tokens.now (λ x. (if_there (λ v. part keyword D.shown v.items) x.0, ahead tokens.now x.1)) result (part_with keyword (D.read depth) (ahead tokens.now input)) }
 {
-    match accept(tokens, input, Kind::Const) {
-        Some(rest) => some(constants(alloc, tokens, rest, depth)),
-        None => Ok((None, input)),
-    }
-}
-
-/// A type with its name, and its semicolon.
-#[tactic(auto, using(ob_tree::proofs::DeclarationLayers::declaring_made), unfolding(crate::specs::ReadModules::type_decl_with))]
-fn ended_named_type(
-    alloc: Global,
-    tokens: &[Token],
-    input: Cursor,
-    depth: u32,
-) -> Result<(TypeDecl, Cursor), Stop>
-    ensures { Accords tokens.now (λ x. (type_decl_outline x.0 ++ word kinds.Semicolon, ahead tokens.now x.1)) result (with_semicolon (type_decl_with (type_at depth)) (ahead tokens.now input)) }
-{
-    let (name, here) = identdef(tokens, input)?;
-    let here = expect(tokens, here, Kind::Equals)?;
-    let (form, here) = type_form(alloc, tokens, here, depth)?;
-    let here = expect(tokens, here, Kind::Semicolon)?;
-    let form = Box::into_inner(form);
-    Ok((TypeDecl { name, form }, here))
-}
-
-/// Types with names, each with its semicolon.
-fn named_types(
-    alloc: Global,
-    tokens: &[Token],
-    input: Cursor,
-    depth: u32,
-) -> Result<(Vec<TypeDecl>, Cursor), Stop>
-    ensures { Accords tokens.now (λ x. (each (λ d. type_decl_outline d ++ word kinds.Semicolon) x.0.items, ahead tokens.now x.1)) result
-        (many (begins is_identifier) (with_semicolon (type_decl_with (type_at depth))) (ahead tokens.now input)) }
-{
-    let mut declared = Vec::new(alloc);
-    let mut here = input;
-    'more: while begins_declaration(tokens, here) {
-        here = keep(&mut declared, ended_named_type(alloc, tokens, here, depth))?;
-    }
-    Ok((declared, here))
-}
-
-/// TYPE and its declarations, if it stands here.
-#[tactic(auto, unfolding(crate::specs::ReadModules::part_with))]
-fn named_type_section(
-    alloc: Global,
-    tokens: &[Token],
-    input: Cursor,
-    depth: u32,
-) -> Result<(Option<Vec<TypeDecl>>, Cursor), Stop>
-    ensures { Accords tokens.now (λ x. (if_there (λ v. part kinds.Type type_decl_outline v.items) x.0, ahead tokens.now x.1)) result (part_with kinds.Type (type_decl_with (type_at depth)) (ahead tokens.now input)) }
-{
-    match accept(tokens, input, Kind::Type) {
-        Some(rest) => some(named_types(alloc, tokens, rest, depth)),
-        None => Ok((None, input)),
-    }
-}
-
-/// Variables of one type, and its semicolon.
-#[tactic(auto, using(ob_tree::proofs::DeclarationLayers::declaring_made), unfolding(crate::specs::ReadModules::variable_with))]
-fn ended_variable(
-    alloc: Global,
-    tokens: &[Token],
-    input: Cursor,
-    depth: u32,
-) -> Result<(Box<VarDecl>, Cursor), Stop>
-    ensures { Accords tokens.now (λ x. (variable_outline x.0.value ++ word kinds.Semicolon, ahead tokens.now x.1)) result (with_semicolon (variable_with (type_at depth)) (ahead tokens.now input)) }
-{
-    let (declaration, here) = var_declaration(alloc, tokens, input, depth)?;
-    let here = expect(tokens, here, Kind::Semicolon)?;
-    Ok((declaration, here))
-}
-
-/// The declarations of variables.
-fn variables(
-    alloc: Global,
-    tokens: &[Token],
-    input: Cursor,
-    depth: u32,
-) -> Result<(Vec<VarDecl>, Cursor), Stop>
-    ensures { Accords tokens.now (λ x. (each (λ d. variable_outline d ++ word kinds.Semicolon) x.0.items, ahead tokens.now x.1)) result
-        (many (begins is_identifier) (with_semicolon (variable_with (type_at depth))) (ahead tokens.now input)) }
-{
-    let mut declared = Vec::new(alloc);
-    let mut here = input;
-    'more: while begins_declaration(tokens, here) {
-        here = keep_boxed(&mut declared, ended_variable(alloc, tokens, here, depth))?;
-    }
-    Ok((declared, here))
-}
-
-/// The section of variables, if it stands here.
-#[tactic(auto, unfolding(crate::specs::ReadModules::part_with))]
-fn variable_section(
-    alloc: Global,
-    tokens: &[Token],
-    input: Cursor,
-    depth: u32,
-) -> Result<(Option<Vec<VarDecl>>, Cursor), Stop>
-    ensures { Accords tokens.now (λ x. (if_there (λ v. part kinds.Var variable_outline v.items) x.0, ahead tokens.now x.1)) result (part_with kinds.Var (variable_with (type_at depth)) (ahead tokens.now input)) }
-{
-    match accept(tokens, input, Kind::Var) {
-        Some(rest) => some(variables(alloc, tokens, rest, depth)),
+    match accept(tokens, input, keyword) {
+        Some(rest) => some(declared(alloc, tokens, rest, depth)),
         None => Ok((None, input)),
     }
 }
@@ -331,9 +291,15 @@ pub(crate) fn declarations(
 ) -> Result<(Box<Declarations>, Cursor), Stop>
     ensures { Accords tokens.now (λ x. (declarations_outline x.0.value, ahead tokens.now x.1)) result (declarations_at depth (ahead tokens.now input)) }
 {
-    let (constants, here) = constant_section(alloc, tokens, input, depth)?;
-    let (types, here) = named_type_section(alloc, tokens, here, depth)?;
-    let (variables, here) = variable_section(alloc, tokens, here, depth)?;
+    let (constants, here) = declaration_section::<ConstDecl>(
+        alloc,
+        tokens,
+        input,
+        depth,
+        Kind::Const,
+    )?;
+    let (types, here) = declaration_section::<TypeDecl>(alloc, tokens, here, depth, Kind::Type)?;
+    let (variables, here) = declaration_section::<VarDecl>(alloc, tokens, here, depth, Kind::Var)?;
     let (procedures, here) = procedures(alloc, tokens, here, depth)?;
     let declarations = Declarations {
         constants,

@@ -71,33 +71,32 @@ with_semicolon_told ts f p c r old mid new input here result a b =
     (λ x s. after_both (p x.0) token c s ∙ after_token c (after (p x.0) c s)) old new result _
     (told_then ts f (λ x. after (p x) c) (λ (u : Unit {0}). word kinds.Semicolon) (λ u s. passed s) r (expect_at kinds.Semicolon) old mid new here result (ahead ts input) a b)
 
--- a construct that declares, of its parts
-pub ended_told : {A X : Type 0} (ts : List Token) (f : A → Out) (p : A → Piece) (g : X → Out) (q : X → Piece) (make : A → X) (k : Construct) (sort : Sort) (r : Reader) →
-    ((a : A) → g (make a) ≡ construct k (f a)) → ((a : A) → q (make a) ≡ declaring sort (p a)) →
-    (c around : Context) (row : Declarer) (at : ℕ) (old opened last mid new : Draft) (input here : Cursor) (result : Result Cursor Stop) →
+-- a construct that declares
+pub ended_told : {X : Type 0} (ts : List Token) (f : X → Out) (p : X → Piece) (k : Construct) (sort : Sort) (r : Reader) (c around : Context) (row : Declarer) (at : ℕ) (old opened last mid new : Draft) (input here : Cursor) (result : Result Cursor Stop) →
     row ≡ declarer sort c old.number 0 → around ≡ declaring_at c old.number → at ≡ length old.declarers.items →
     ComesTo (added (one_declarer row)) old opened → Tabulates ts f p around opened last (Ok here) (r (ahead ts input)) → ComesTo (closed at row) last mid →
     TabulatesBy ts (λ (u : Unit {0}). word kinds.Semicolon) (λ u s. passed s) mid new result (expect_at kinds.Semicolon (ahead ts here)) →
-    Tabulates ts (ended_outline g) (ended_piece q) c old new result (with_semicolon (node k r) (ahead ts input))
-ended_told ts f p g q make k sort r shown stepped c around row at old opened last mid new input here result e l h opens t closes w =
-    with_semicolon_told ts g q c (node k r) old mid new input here result
-    (told_as ts (λ a. construct k (f a)) (λ a. after (declaring sort (p a)) c) g (λ x. after (q x) c) make shown (λ a s. ap (λ (z : Piece). after z c s) (stepped a)) old mid (Ok here) (node k r (ahead ts input))
-    (told_node ts f (λ a. after (declaring sort (p a)) c) k r old mid (Ok here) (ahead ts input)
-    (declaring_told ts sort c f p row around at old opened last mid here (r (ahead ts input)) e h l opens t closes))) w
+    Tabulates ts (ended_outline (λ x. construct k (f x))) (ended_piece (λ x. declaring sort (p x))) c old new result (with_semicolon (node k r) (ahead ts input))
+ended_told ts f p k sort r c around row at old opened last mid new input here result e l h opens t closes w =
+    with_semicolon_told ts (λ x. construct k (f x)) (λ x. declaring sort (p x)) c (node k r) old mid new input here result
+    (told_node ts f (λ x. after (declaring sort (p x)) c) k r old mid (Ok here) (ahead ts input)
+    (declaring_told ts sort c f p row around at old opened last mid here (r (ahead ts input)) e h l opens t closes)) w
 
 pub ended_failed : (ts : List Token) (k : Construct) (r : Reader) (e : Stop) (ls : List _) → Fails ts e (r ls) → Fails ts e (with_semicolon (node k r) ls)
 ended_failed ts k r e ls h = failed_then ts (node k r) (expect_at kinds.Semicolon) e ls (failed_node ts k r e ls h)
 
--- a name, an equals sign and what stands behind it
-pub equal_told : {X : Type 0} (ts : List Token) (f : X → Out) (p : X → Piece) (r : Reader) (c : Context) (old mid last new : Draft) (input here rest : Cursor) (result : Result Cursor Stop) →
+-- what is made of a name, an equals sign and what stands behind it
+pub equal_told : {X Y : Type 0} (ts : List Token) (f : X → Out) (p : X → Piece) (r : Reader) (g : Y → Out) (q : Y → Piece) (make : Identdef → X → Y) →
+    ((i : Identdef) (x : X) → g (make i x) ≡ identdef_outline i ++ (word kinds.Equals ++ f x)) → ((i : Identdef) (x : X) → q (make i x) ≡ both (identdef_piece i) (both token (p x))) →
+    (c : Context) (old mid last new : Draft) (input here rest : Cursor) (result : Result Cursor Stop) →
     Tabulates ts identdef_outline identdef_piece c old mid (Ok here) (identdef_at (ahead ts input)) →
     TabulatesBy ts (λ (u : Unit {0}). word kinds.Equals) (λ u s. passed s) mid last (Ok rest) (expect_at kinds.Equals (ahead ts here)) →
     Tabulates ts f p c last new result (r (ahead ts rest)) →
-    Tabulates {T = Identdef × X} ts (λ x. identdef_outline x.0 ++ (word kinds.Equals ++ f x.1)) (λ x. both (identdef_piece x.0) (both token (p x.1))) c old new result (seq identdef_at (seq (expect_at kinds.Equals) r) (ahead ts input))
-equal_told {X} ts f p r c old mid last new input here rest result a b t =
+    Tabulates ts g q c old new result (seq identdef_at (seq (expect_at kinds.Equals) r) (ahead ts input))
+equal_told {X} ts f p r g q make shown made c old mid last new input here rest result a b t =
     told_as ts (λ (x : Identdef × (Unit {0} × X)). identdef_outline x.0 ++ (word kinds.Equals ++ f x.1.1)) (λ x s. after (p x.1.1) c (passed (after (identdef_piece x.0) c s)))
-    (λ (x : Identdef × X). identdef_outline x.0 ++ (word kinds.Equals ++ f x.1)) (λ x. after (both (identdef_piece x.0) (both token (p x.1))) c) (λ x. (x.0, x.1.1)) (λ x. refl)
-    (λ x s. after_both (identdef_piece x.0) (both token (p x.1.1)) c s ∙ word_after (p x.1.1) c (after (identdef_piece x.0) c s)) old new result _
+    g (λ y. after (q y) c) (λ x. make x.0 x.1.1) (λ x. shown x.0 x.1.1)
+    (λ x s. ap (λ (z : Piece). after z c s) (made x.0 x.1.1) ∙ after_both (identdef_piece x.0) (both token (p x.1.1)) c s ∙ word_after (p x.1.1) c (after (identdef_piece x.0) c s)) old new result _
     (told_then ts identdef_outline (λ i. after (identdef_piece i) c) (λ (y : Unit {0} × X). word kinds.Equals ++ f y.1) (λ y s. after (p y.1) c (passed s)) identdef_at (seq (expect_at kinds.Equals) r) old mid new here result (ahead ts input) a
     (told_then ts (λ (u : Unit {0}). word kinds.Equals) (λ u s. passed s) f (λ x. after (p x) c) (expect_at kinds.Equals) r mid last new rest result (ahead ts here) b t))
 

@@ -1,33 +1,32 @@
 //! Declarations: constants, types, variables and procedures (Oberon-07 report, sections 5, 6, 7 and 10), from their tokens to
 //! their rows.
 
-ghost use Rattle.std.specs.Prelude.{◌++◌, Option};
+ghost use Rattle.std.specs.Prelude.{ℕ, ◌++◌, Option};
 ghost use Rattle.std.specs.Global.{Vec};
 ghost use Rattle.ob_scan.specs.declared.kind.Kind.TheVariants as kinds;
-ghost use Rattle.ob_tree.specs.declared.name.Identdef.{Identdef};
-ghost use Rattle.ob_tree.specs.declared.expression.Expr.{Expr};
-ghost use Rattle.ob_tree.specs.declared.declaration.TypeForm.{TypeForm};
-ghost use Rattle.ob_tree.specs.declared.declaration.ConstDecl.{ConstDecl};
-ghost use Rattle.ob_tree.specs.declared.declaration.TypeDecl.{TypeDecl};
-ghost use Rattle.ob_tree.specs.declared.declaration.VarDecl.{VarDecl};
-ghost use Rattle.ob_tree.specs.Marks.{word, each, if_there, repeated};
+ghost use Rattle.ob_tree.specs.Constructs.{Construct};
+ghost use Rattle.ob_tree.specs.Constructs as constructs;
+ghost use Rattle.ob_tree.specs.Marks.{Out, construct, word, each, if_there, repeated};
 ghost use Rattle.ob_tree.specs.Names.{identdef_outline};
 ghost use Rattle.ob_tree.specs.Expressions.{expr_outline};
-ghost use Rattle.ob_tree.specs.Types.{type_outline};
-ghost use Rattle.ob_tree.specs.Declaring.{const_outline, type_decl_outline, variable_outline, part, declarations_outline, procedure_outline};
+ghost use Rattle.ob_tree.specs.Types.{type_outline, var_outline};
+ghost use Rattle.ob_tree.specs.Declaring.{part, declarations_outline, procedure_outline};
 ghost use Rattle.ob_decls.specs.Expressions.{expr_piece};
-ghost use Rattle.ob_decls.specs.Types.{identdef_piece, type_piece};
-ghost use Rattle.ob_decls.specs.Declaring.{const_piece, type_decl_piece, variable_piece, declarations_piece, procedure_piece};
+ghost use Rattle.ob_decls.specs.Types.{identdef_piece, type_piece, var_piece};
+ghost use Rattle.ob_decls.specs.Declaring.{declarations_piece, procedure_piece};
 ghost use Rattle.ob_decls.specs.Declaring as telling;
 ghost use Rattle.ob_rows.specs.Parts as parts;
-ghost use Rattle.ob_rows.specs.Parts.{both, token};
-ghost use Rattle.ob_parse.specs.Forms.{optional, accept_at, expect_at, name_at, behind_name, many, begins, seq};
+ghost use Rattle.ob_rows.specs.Parts.{Piece, both, token, declaring};
+ghost use Rattle.ob_parse.specs.Forms.{Reader, optional, accept_at, expect_at, name_at, behind_name, many, begins, seq, node};
 ghost use Rattle.ob_parse.specs.ReadExpressions.{expr_at};
 ghost use Rattle.ob_parse.specs.ReadNames.{identdef_at};
 ghost use Rattle.ob_parse.specs.ReadStatements.{block_at};
-ghost use Rattle.ob_parse.specs.ReadTypes.{type_at};
-ghost use Rattle.ob_parse.specs.ReadModules.{is_identifier, with_semicolon, const_with, type_decl_with, variable_with, part_with, procedures_with, body_with, procedure_named, procedure_with, procedure_at, declarations_at};
+ghost use Rattle.ob_parse.specs.ReadTypes.{type_at, var_with};
+ghost use Rattle.ob_parse.specs.ReadModules.{Shortens, is_identifier, with_semicolon, const_with, type_decl_with, variable_with, part_with, procedures_with, body_with, procedure_named, procedure_with, procedure_at, declarations_at};
 ghost use Rattle.ob_parse.specs.Accords.{ahead};
+ghost use Rattle.ob_parse.proofs.Loops.{const_shortens, type_decl_shortens, variable_shortens};
+ghost use Rattle.ob_parse.proofs.SoundExpressions.{expr_at_sound};
+ghost use Rattle.ob_parse.proofs.SoundTypes.{type_at_sound};
 ghost use Rattle.ob_table.specs.DeclarationShapes.{ended_outline, ended_piece, body_outline, body_piece, returned_outline, returned_piece, behind_procedure, behind_procedure_piece, Block, block_shown, block_step, Ending, ending_shown, ending_step};
 ghost use Rattle.ob_table.specs.Ended.{EndedDeclarations, EndedProcedure, EndedProcedures, procedures_outline};
 ghost use Rattle.ob_table.specs.Tabulating.{Tabulates, TabulatesBy};
@@ -48,125 +47,128 @@ use ob_parse::tokens::{accept, beyond, identifier, is_at, skip};
 use ob_rows::draft::{Context, Draft, block_from, declarer_at, declaring_from};
 use ob_rows::{Block as BlockRow, Sort};
 use ob_scan::Kind;
+use ob_tree::declaration::{ConstDecl, TypeDecl, VarDecl};
 use ob_tree::name::Identdef as Name;
 
-/// The parts of a constant's declaration.
-fn constant(
-    draft: &mut Draft,
-    inside: Context,
-    source: &Source,
-    input: Cursor,
-    depth: u32,
-) -> Result<Cursor, Stop>
-    ensures { Tabulates {T = Identdef × Expr} source.now.tokens.now (λ x. identdef_outline x.0 ++ (word kinds.Equals ++ expr_outline x.1)) (λ x. both (identdef_piece x.0) (both token (expr_piece x.1))) inside draft.old draft.new result
-        (seq identdef_at (seq (expect_at kinds.Equals) (expr_at depth)) (ahead source.now.tokens.now input)) }
-{
-    match declared_name(draft, inside, source.tokens, input) {
-        Ok(here) => match pass_word(draft, source.tokens, here, Kind::Equals) {
-            Ok(here) => expression(draft, inside, source, here, depth),
+/// Declarations of one kind, which stand in a section of their own.
+trait Declaration {
+    // how the parts of one are read at so many levels, shown and told
+    ghost read: { ℕ → Reader };
+
+    ghost shown: { Self → Out };
+
+    ghost told: { Self → Piece };
+
+    // the construct that has these parts
+    ghost production: { Construct };
+
+    /// The parts of a declaration.
+    fn parts(
+        draft: &mut Draft,
+        inside: Context,
+        source: &Source,
+        input: Cursor,
+        depth: u32,
+    ) -> Result<Cursor, Stop>
+        ensures { Tabulates source.now.tokens.now shown told inside draft.old draft.new result (read depth (ahead source.now.tokens.now input)) };
+
+    ghost shortens: { (depth : ℕ) → Shortens (node production (read depth)) };
+}
+
+impl Declaration for ConstDecl {
+    ghost read = { λ depth. seq identdef_at (seq (expect_at kinds.Equals) (expr_at depth)) };
+
+    ghost shown = { λ x. identdef_outline x.name ++ (word kinds.Equals ++ expr_outline x.value) };
+
+    ghost told = { λ x. both (identdef_piece x.name) (both token (expr_piece x.value)) };
+
+    ghost production = { constructs.ConstDeclaration };
+
+    fn parts(
+        draft: &mut Draft,
+        inside: Context,
+        source: &Source,
+        input: Cursor,
+        depth: u32,
+    ) -> Result<Cursor, Stop> {
+        match declared_name(draft, inside, source.tokens, input) {
+            Ok(here) => match pass_word(draft, source.tokens, here, Kind::Equals) {
+                Ok(here) => expression(draft, inside, source, here, depth),
+                Err(stop) => Err(stop),
+            },
             Err(stop) => Err(stop),
-        },
-        Err(stop) => Err(stop),
-    }
-}
-
-/// A constant, and its semicolon.
-fn ended_constant(
-    draft: &mut Draft,
-    inside: Context,
-    source: &Source,
-    input: Cursor,
-    depth: u32,
-) -> Result<Cursor, Stop>
-    ensures { Tabulates source.now.tokens.now (ended_outline const_outline) (ended_piece const_piece) inside draft.old draft.new result (with_semicolon (const_with (expr_at depth)) (ahead source.now.tokens.now input)) }
-{
-    let first = draft.number;
-    let row = declarer_at(Sort::Constant, inside, first);
-    let at = draft.open(row);
-    match constant(draft, declaring_from(inside, first), source, input, depth) {
-        Ok(here) => {
-            draft.close(at, row);
-            pass_word(draft, source.tokens, here, Kind::Semicolon)
-        }
-        Err(stop) => Err(stop),
-    }
-}
-
-/// Constants, each with its semicolon.
-fn constants(
-    draft: &mut Draft,
-    inside: Context,
-    source: &Source,
-    input: Cursor,
-    depth: u32,
-) -> Result<Cursor, Stop>
-    ensures { Tabulates {T = Vec ConstDecl} source.now.tokens.now (λ v. each (ended_outline const_outline) v.items) (λ v. parts.each (ended_piece const_piece) v.items) inside draft.old draft.new result
-        (many (begins is_identifier) (with_semicolon (const_with (expr_at depth))) (ahead source.now.tokens.now input)) }
-{
-    let mut here = input;
-    'more: while begins_declaration(source.tokens, here) {
-        match ended_constant(draft, inside, source, here, depth) {
-            Ok(next) => here = next,
-            Err(stop) => return Err(stop),
         }
     }
-    Ok(here)
+
+    ghost shortens = { λ depth. unfold const_with in const_shortens depth (expr_at depth) (expr_at_sound depth) };
 }
 
-/// CONST and its declarations, if it stands here.
-fn constant_section(
-    draft: &mut Draft,
-    inside: Context,
-    source: &Source,
-    input: Cursor,
-    depth: u32,
-) -> Result<Cursor, Stop>
-    ensures { Tabulates {T = Option (Vec ConstDecl)} source.now.tokens.now (if_there (λ v. part kinds.Const const_outline v.items)) (parts.if_there (λ v. telling.part const_piece v.items)) inside draft.old draft.new result
-        (part_with kinds.Const (const_with (expr_at depth)) (ahead source.now.tokens.now input)) }
-{
-    match accept(source.tokens, input, Kind::Const) {
-        None => Ok(input),
-        Some(rest) => {
-            draft.pass();
-            constants(draft, inside, source, rest, depth)
-        }
-    }
-}
+impl Declaration for TypeDecl {
+    ghost read = { λ depth. seq identdef_at (seq (expect_at kinds.Equals) (type_at depth)) };
 
-/// The parts of a type's declaration.
-fn named_type(
-    draft: &mut Draft,
-    inside: Context,
-    source: &Source,
-    input: Cursor,
-    depth: u32,
-) -> Result<Cursor, Stop>
-    ensures { Tabulates {T = Identdef × TypeForm} source.now.tokens.now (λ x. identdef_outline x.0 ++ (word kinds.Equals ++ type_outline x.1)) (λ x. both (identdef_piece x.0) (both token (type_piece x.1))) inside draft.old draft.new result
-        (seq identdef_at (seq (expect_at kinds.Equals) (type_at depth)) (ahead source.now.tokens.now input)) }
-{
-    match declared_name(draft, inside, source.tokens, input) {
-        Ok(here) => match pass_word(draft, source.tokens, here, Kind::Equals) {
-            Ok(here) => type_form(draft, inside, source, here, depth),
+    ghost shown = { λ x. identdef_outline x.name ++ (word kinds.Equals ++ type_outline x.form) };
+
+    ghost told = { λ x. both (identdef_piece x.name) (both token (type_piece x.form)) };
+
+    ghost production = { constructs.TypeDeclaration };
+
+    fn parts(
+        draft: &mut Draft,
+        inside: Context,
+        source: &Source,
+        input: Cursor,
+        depth: u32,
+    ) -> Result<Cursor, Stop> {
+        match declared_name(draft, inside, source.tokens, input) {
+            Ok(here) => match pass_word(draft, source.tokens, here, Kind::Equals) {
+                Ok(here) => type_form(draft, inside, source, here, depth),
+                Err(stop) => Err(stop),
+            },
             Err(stop) => Err(stop),
-        },
-        Err(stop) => Err(stop),
+        }
     }
+
+    ghost shortens = { λ depth. unfold type_decl_with in type_decl_shortens depth (type_at depth) (type_at_sound depth) };
 }
 
-/// A type with its name, and its semicolon.
-fn ended_named_type(
+impl Declaration for VarDecl {
+    ghost read = { λ depth. var_with (type_at depth) };
+
+    ghost shown = { var_outline };
+
+    ghost told = { var_piece };
+
+    ghost production = { constructs.VariableDeclaration };
+
+    fn parts(
+        draft: &mut Draft,
+        inside: Context,
+        source: &Source,
+        input: Cursor,
+        depth: u32,
+    ) -> Result<Cursor, Stop> {
+        var_declaration(draft, inside, source, input, depth)
+    }
+
+    ghost shortens = { λ depth. unfold variable_with in variable_shortens depth (type_at depth) (type_at_sound depth) };
+}
+
+/// A declaration of this sort, and its semicolon.
+fn ended<D: Declaration>(
     draft: &mut Draft,
     inside: Context,
     source: &Source,
     input: Cursor,
     depth: u32,
+    sort: Sort,
 ) -> Result<Cursor, Stop>
-    ensures { Tabulates source.now.tokens.now (ended_outline type_decl_outline) (ended_piece type_decl_piece) inside draft.old draft.new result (with_semicolon (type_decl_with (type_at depth)) (ahead source.now.tokens.now input)) }
+    ensures { Tabulates source.now.tokens.now (ended_outline (λ x. construct D.production (D.shown x))) (ended_piece (λ x. declaring sort (D.told x))) inside draft.old draft.new result
+        (with_semicolon (node D.production (D.read depth)) (ahead source.now.tokens.now input)) }
 {
     let first = draft.number;
-    let row = declarer_at(Sort::Type, inside, first);
+    let row = declarer_at(sort, inside, first);
     let at = draft.open(row);
-    match named_type(draft, declaring_from(inside, first), source, input, depth) {
+    match D::parts(draft, declaring_from(inside, first), source, input, depth) {
         Ok(here) => {
             draft.close(at, row);
             pass_word(draft, source.tokens, here, Kind::Semicolon)
@@ -175,20 +177,21 @@ fn ended_named_type(
     }
 }
 
-/// Types with names, each with its semicolon.
-fn named_types(
+/// Declarations of this sort, each with its semicolon.
+fn declared<D: Declaration>(
     draft: &mut Draft,
     inside: Context,
     source: &Source,
     input: Cursor,
     depth: u32,
+    sort: Sort,
 ) -> Result<Cursor, Stop>
-    ensures { Tabulates {T = Vec TypeDecl} source.now.tokens.now (λ v. each (ended_outline type_decl_outline) v.items) (λ v. parts.each (ended_piece type_decl_piece) v.items) inside draft.old draft.new result
-        (many (begins is_identifier) (with_semicolon (type_decl_with (type_at depth))) (ahead source.now.tokens.now input)) }
+    ensures { Tabulates {T = Vec D} source.now.tokens.now (λ v. each (ended_outline (λ x. construct D.production (D.shown x))) v.items) (λ v. parts.each (ended_piece (λ x. declaring sort (D.told x))) v.items) inside draft.old draft.new result
+        (many (begins is_identifier) (with_semicolon (node D.production (D.read depth))) (ahead source.now.tokens.now input)) }
 {
     let mut here = input;
     'more: while begins_declaration(source.tokens, here) {
-        match ended_named_type(draft, inside, source, here, depth) {
+        match ended::<D>(draft, inside, source, here, depth, sort) {
             Ok(next) => here = next,
             Err(stop) => return Err(stop),
         }
@@ -196,85 +199,24 @@ fn named_types(
     Ok(here)
 }
 
-/// TYPE and its declarations, if it stands here.
-fn named_type_section(
+/// The section of declarations of this sort behind this keyword, if it stands here.
+fn declaration_section<D: Declaration>(
     draft: &mut Draft,
     inside: Context,
     source: &Source,
     input: Cursor,
     depth: u32,
+    keyword: Kind,
+    sort: Sort,
 ) -> Result<Cursor, Stop>
-    ensures { Tabulates {T = Option (Vec TypeDecl)} source.now.tokens.now (if_there (λ v. part kinds.Type type_decl_outline v.items)) (parts.if_there (λ v. telling.part type_decl_piece v.items)) inside draft.old draft.new result
-        (part_with kinds.Type (type_decl_with (type_at depth)) (ahead source.now.tokens.now input)) }
+    ensures { Tabulates {T = Option (Vec D)} source.now.tokens.now (if_there (λ v. part keyword (λ x. construct D.production (D.shown x)) v.items)) (parts.if_there (λ v. telling.part (λ x. declaring sort (D.told x)) v.items)) inside draft.old draft.new result
+        (part_with keyword (node D.production (D.read depth)) (ahead source.now.tokens.now input)) }
 {
-    match accept(source.tokens, input, Kind::Type) {
+    match accept(source.tokens, input, keyword) {
         None => Ok(input),
         Some(rest) => {
             draft.pass();
-            named_types(draft, inside, source, rest, depth)
-        }
-    }
-}
-
-/// Variables of one type, and its semicolon.
-fn ended_variable(
-    draft: &mut Draft,
-    inside: Context,
-    source: &Source,
-    input: Cursor,
-    depth: u32,
-) -> Result<Cursor, Stop>
-    ensures { Tabulates source.now.tokens.now (ended_outline variable_outline) (ended_piece variable_piece) inside draft.old draft.new result (with_semicolon (variable_with (type_at depth)) (ahead source.now.tokens.now input)) }
-{
-    let first = draft.number;
-    let row = declarer_at(Sort::Variable, inside, first);
-    let at = draft.open(row);
-    match var_declaration(draft, declaring_from(inside, first), source, input, depth) {
-        Ok(here) => {
-            draft.close(at, row);
-            pass_word(draft, source.tokens, here, Kind::Semicolon)
-        }
-        Err(stop) => Err(stop),
-    }
-}
-
-/// The declarations of variables.
-fn variables(
-    draft: &mut Draft,
-    inside: Context,
-    source: &Source,
-    input: Cursor,
-    depth: u32,
-) -> Result<Cursor, Stop>
-    ensures { Tabulates {T = Vec VarDecl} source.now.tokens.now (λ v. each (ended_outline variable_outline) v.items) (λ v. parts.each (ended_piece variable_piece) v.items) inside draft.old draft.new result
-        (many (begins is_identifier) (with_semicolon (variable_with (type_at depth))) (ahead source.now.tokens.now input)) }
-{
-    let mut here = input;
-    'more: while begins_declaration(source.tokens, here) {
-        match ended_variable(draft, inside, source, here, depth) {
-            Ok(next) => here = next,
-            Err(stop) => return Err(stop),
-        }
-    }
-    Ok(here)
-}
-
-/// VAR and its declarations, if it stands here.
-fn variable_section(
-    draft: &mut Draft,
-    inside: Context,
-    source: &Source,
-    input: Cursor,
-    depth: u32,
-) -> Result<Cursor, Stop>
-    ensures { Tabulates {T = Option (Vec VarDecl)} source.now.tokens.now (if_there (λ v. part kinds.Var variable_outline v.items)) (parts.if_there (λ v. telling.part variable_piece v.items)) inside draft.old draft.new result
-        (part_with kinds.Var (variable_with (type_at depth)) (ahead source.now.tokens.now input)) }
-{
-    match accept(source.tokens, input, Kind::Var) {
-        None => Ok(input),
-        Some(rest) => {
-            draft.pass();
-            variables(draft, inside, source, rest, depth)
+            declared::<D>(draft, inside, source, rest, depth, sort)
         }
     }
 }
@@ -521,9 +463,33 @@ pub(crate) fn declarations(
 ) -> Result<Cursor, Stop>
     ensures { Tabulates {T = EndedDeclarations bytes.now source.now.tokens.now} source.now.tokens.now (λ d. declarations_outline d.tree) (λ d. declarations_piece d.tree) inside draft.old draft.new result (declarations_at depth (ahead source.now.tokens.now input)) }
 {
-    match constant_section(draft, inside, source, input, depth) {
-        Ok(here) => match named_type_section(draft, inside, source, here, depth) {
-            Ok(here) => match variable_section(draft, inside, source, here, depth) {
+    match declaration_section::<ConstDecl>(
+        draft,
+        inside,
+        source,
+        input,
+        depth,
+        Kind::Const,
+        Sort::Constant,
+    ) {
+        Ok(here) => match declaration_section::<TypeDecl>(
+            draft,
+            inside,
+            source,
+            here,
+            depth,
+            Kind::Type,
+            Sort::Type,
+        ) {
+            Ok(here) => match declaration_section::<VarDecl>(
+                draft,
+                inside,
+                source,
+                here,
+                depth,
+                Kind::Var,
+                Sort::Variable,
+            ) {
                 Ok(here) => procedures(draft, inside, bytes, source, here, depth),
                 Err(stop) => Err(stop),
             },

@@ -5,7 +5,11 @@ use Rattle.ob_parse.specs.Front.{is_word}
 use Rattle.ob_parse.specs.Forms.{limit_at}
 use Rattle.ob_parse.specs.ReadNames.{identdef_after}
 use Rattle.ob_parse.specs.ReadModules.{procedure_at, declarations_with, procedure_named, procedure_with, procedures_with}
-use Rattle.ob_parse.proofs.Loops.{has_begun, has_not_begun}
+use Rattle.ob_parse.specs.ReadExpressions.{expr_at}
+use Rattle.ob_parse.specs.ReadTypes.{type_at}
+use Rattle.ob_parse.proofs.SoundExpressions.{expr_at_sound}
+use Rattle.ob_parse.proofs.SoundTypes.{type_at_sound}
+use Rattle.ob_parse.proofs.Loops.{has_begun, has_not_begun, const_shortens, type_decl_shortens, variable_shortens}
 use Rattle.ob_tree.proofs.DeclarationLayers.{declaring_made, declarations_made}
 use Rattle.ob_tree.proofs.NameLayers.{names_made}
 use Rattle.ob_parse.proofs.Stars.{star_read}
@@ -30,6 +34,15 @@ procedures-returns-in_err-here t c =
 pub procedures-returns : goal.procedures-returns
 procedures-returns t c =
     turns_done c.args.tokens.now (procedures c.args.depth) c.more.declared.items c.more.here _ (has_not_begun (is_word kinds.Procedure) _ (sym c.is_at.ensures ∙ c.more-test.false)) c.more.invariant
+
+pub declarations-declaration_section-requires : goal.declarations-declaration_section-requires
+declarations-declaration_section-requires t c = const_shortens c.args.depth (expr_at c.args.depth) (expr_at_sound c.args.depth)
+
+pub declarations-declaration_section-requires-2 : goal.declarations-declaration_section-requires-2
+declarations-declaration_section-requires-2 t c = type_decl_shortens c.args.depth (type_at c.args.depth) (type_at_sound c.args.depth)
+
+pub declarations-declaration_section-requires-3 : goal.declarations-declaration_section-requires-3
+declarations-declaration_section-requires-3 t c = variable_shortens c.args.depth (type_at c.args.depth) (type_at_sound c.args.depth)
 
 pub declarations-returns : goal.declarations-returns
 unfolding declarations_with procedures_with

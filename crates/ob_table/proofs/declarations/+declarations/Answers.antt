@@ -2,9 +2,9 @@ use Rattle.std.proofs.Common.{[], Ok, refl, sym, ap, ◌∙◌, arith}
 use Rattle.std.proofs.lemmas.List.Elements.{All-nil}
 use Rattle.ob_scan.specs.declared.kind.Kind.TheVariants as kinds
 use Rattle.ob_tree.specs.declared.declaration.ProcDecl.{ProcDecl}
-use Rattle.ob_tree.specs.Declaring.{procedure_outline}
+use Rattle.ob_tree.specs.Declaring.{const_outline, type_decl_outline, variable_outline, procedure_outline}
 use Rattle.ob_tree.specs.Marks.{repeated}
-use Rattle.ob_decls.specs.Declaring.{procedure_piece}
+use Rattle.ob_decls.specs.Declaring.{const_piece, type_decl_piece, variable_piece, procedure_piece}
 use Rattle.ob_rows.specs.declared.draft.Context.{Context}
 use Rattle.ob_rows.specs.Drafts.{after}
 use Rattle.ob_rows.specs.Parts.{in_block}
@@ -17,7 +17,7 @@ use Rattle.ob_parse.specs.Parsed.{IsRightEnd}
 use Rattle.ob_parse.specs.ReadExpressions.{expr_at}
 use Rattle.ob_parse.specs.ReadStatements.{block_at}
 use Rattle.ob_parse.specs.ReadTypes.{type_at}
-use Rattle.ob_parse.specs.ReadModules.{with_semicolon, procedure_at, procedures_with, declarations_at, body_with, procedure_named}
+use Rattle.ob_parse.specs.ReadModules.{const_with, type_decl_with, variable_with, with_semicolon, procedure_at, procedures_with, declarations_at, body_with, procedure_named}
 use Rattle.ob_parse.proofs.Loops.{has_begun, has_not_begun}
 use Rattle.ob_parse.proofs.LoopProcedures.{procedure_advances}
 use Rattle.ob_table.specs.DeclarationShapes.{ended_outline, ended_piece}
@@ -103,10 +103,11 @@ procedure_block-returns-in-Ok t c =
     behind_heading_told c.args.bytes.now c.args.source.now.tokens.now c.args.name (declarations_at c.args.depth) (seq (body_with (block_at c.args.depth)) (seq (optional (accept_at kinds.Return) (expr_at c.args.depth)) (seq (expect_at kinds.End) (name_at (repeated c.args.name)))))
     c.args.inside _ _ _ c.args.input c.in-Ok.here _ c.in-Ok.ensures c.ending.ensures
 
-pub declarations-returns-in-Ok-variable_section : goal.declarations-returns-in-Ok-variable_section
-declarations-returns-in-Ok-variable_section t c =
-    sections_told c.args.bytes.now c.args.source.now.tokens.now (expr_at c.args.depth) (type_at c.args.depth) (procedure_at c.args.depth) c.args.inside _ _ _ _ _ c.args.input c.in-Ok.here c.in-Ok-named_type_section.here c.in-Ok-variable_section.here _
-    c.in-Ok.ensures c.in-Ok-named_type_section.ensures c.in-Ok-variable_section.ensures c.procedures.ensures
+pub declarations-returns-in-Ok-declaration_section-2 : goal.declarations-returns-in-Ok-declaration_section-2
+unfolding const_with const_outline const_piece type_decl_with type_decl_outline type_decl_piece variable_with variable_outline variable_piece
+declarations-returns-in-Ok-declaration_section-2 t c =
+    sections_told c.args.bytes.now c.args.source.now.tokens.now (expr_at c.args.depth) (type_at c.args.depth) (procedure_at c.args.depth) c.args.inside _ _ _ _ _ c.args.input c.in-Ok.here c.in-Ok-declaration_section.here c.in-Ok-declaration_section-2.here _
+    c.in-Ok.ensures c.in-Ok-declaration_section.ensures c.in-Ok-declaration_section-2.ensures c.procedures.ensures
 
 pub named_procedure-returns-in-Err-pass_word : goal.named_procedure-returns-in-Err-pass_word
 named_procedure-returns-in-Err-pass_word t c =
@@ -114,13 +115,16 @@ named_procedure-returns-in-Err-pass_word t c =
     (star_told c.args.source.now.tokens.now c.args.name c.skip-starred.result.0 c.args.inside _ _ c.args.input c.skip-starred.result.1 c.skip-starred.ensures c.walk_identdef.ensures) c.in-Ok.ensures c.in-Err-pass_word.ensures
 
 pub declarations-returns-in-Err : goal.declarations-returns-in-Err
+unfolding const_with
 declarations-returns-in-Err t c = first_failed c.args.source.now.tokens.now (expr_at c.args.depth) (type_at c.args.depth) (procedure_at c.args.depth) c.in-Err.stop _ c.in-Err.ensures
 
-pub declarations-returns-in-Err-named_type_section : goal.declarations-returns-in-Err-named_type_section
-declarations-returns-in-Err-named_type_section t c =
-    second_failed c.args.source.now.tokens.now (expr_at c.args.depth) (type_at c.args.depth) (procedure_at c.args.depth) c.args.inside _ _ c.args.input c.in-Ok.here c.in-Err-named_type_section.stop c.in-Ok.ensures c.in-Err-named_type_section.ensures
+pub declarations-returns-in-Err-declaration_section : goal.declarations-returns-in-Err-declaration_section
+unfolding const_with const_outline const_piece type_decl_with
+declarations-returns-in-Err-declaration_section t c =
+    second_failed c.args.source.now.tokens.now (expr_at c.args.depth) (type_at c.args.depth) (procedure_at c.args.depth) c.args.inside _ _ c.args.input c.in-Ok.here c.in-Err-declaration_section.stop c.in-Ok.ensures c.in-Err-declaration_section.ensures
 
-pub declarations-returns-in-Err-variable_section : goal.declarations-returns-in-Err-variable_section
-declarations-returns-in-Err-variable_section t c =
-    third_failed c.args.source.now.tokens.now (expr_at c.args.depth) (type_at c.args.depth) (procedure_at c.args.depth) c.args.inside _ _ _ c.args.input c.in-Ok.here c.in-Ok-named_type_section.here c.in-Err-variable_section.stop
-    c.in-Ok.ensures c.in-Ok-named_type_section.ensures c.in-Err-variable_section.ensures
+pub declarations-returns-in-Err-declaration_section-2 : goal.declarations-returns-in-Err-declaration_section-2
+unfolding const_with const_outline const_piece type_decl_with type_decl_outline type_decl_piece variable_with
+declarations-returns-in-Err-declaration_section-2 t c =
+    third_failed c.args.source.now.tokens.now (expr_at c.args.depth) (type_at c.args.depth) (procedure_at c.args.depth) c.args.inside _ _ _ c.args.input c.in-Ok.here c.in-Ok-declaration_section.here c.in-Err-declaration_section-2.stop
+    c.in-Ok.ensures c.in-Ok-declaration_section.ensures c.in-Err-declaration_section-2.ensures

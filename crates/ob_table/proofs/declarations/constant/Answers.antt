@@ -1,9 +1,0 @@
-use Rattle.ob_tree.specs.Expressions.{expr_outline}
-use Rattle.ob_decls.specs.Expressions.{expr_piece}
-use Rattle.ob_parse.specs.ReadExpressions.{expr_at}
-use Rattle.ob_table.proofs.SectionTrees.{equal_told}
-use Rattle.ob_table.proofs.declarations.constant.Goals as goal
-
-pub returns-in-Ok-pass_word : goal.returns-in-Ok-pass_word
-returns-in-Ok-pass_word c =
-    equal_told c.args.source.now.tokens.now expr_outline expr_piece (expr_at c.args.depth) c.args.inside _ _ _ _ c.args.input c.in-Ok.here c.in-Ok-pass_word.here _ c.in-Ok.ensures c.in-Ok-pass_word.ensures c.expression.ensures
