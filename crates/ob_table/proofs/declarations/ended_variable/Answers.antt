@@ -1,4 +1,3 @@
-use Rattle.ob_scan.specs.declared.kind.Kind.TheVariants as kinds
 use Rattle.ob_tree.specs.Constructs as constructs
 use Rattle.ob_tree.specs.Types.{var_outline}
 use Rattle.ob_decls.specs.Types.{var_piece}
