@@ -1,6 +1,6 @@
 //! The one pass over the tokens beside the parser: with memory enough it makes a table of each text that has a tree, and of any other it
-//! tells the parser's fault. So in a text that is right no guess of what follows a name is wrong. The texts are worked ones, and these
-//! with one token giving way to another word; what stands in a table, the tests of tables show.
+//! tells the parser's fault. The texts are worked ones, and these with one token giving way to another word; what stands in a table,
+//! the tests of tables show.
 
 use crate::readings::parsed;
 use ob_parse::ParseFault;

@@ -7,7 +7,6 @@ use Rattle.ob_scan.specs.declared.kind.Kind.TheVariants as kinds
 use Rattle.ob_scan.specs.declared.token.Token.{Token}
 use Rattle.ob_tree.specs.declared.token.Leaf.{Leaf}
 use Rattle.ob_tree.specs.declared.expression.Factor.TheOpen as layers
-use Rattle.ob_tree.specs.declared.expression.Selector.{Selector}
 use Rattle.ob_tree.specs.declared.expression.Selector.TheVariants as selectors
 use Rattle.ob_tree.specs.declared.expression.Expr.{Expr}
 use Rattle.ob_tree.specs.declared.expression.ExprList.{ExprList, roll-ExprList, out-roll-ExprList}
@@ -144,8 +143,8 @@ LoneSeen ts input here name opening = (ls : List Leaf) → ahead ts input ≡ ls
 call_picked : Option (Box ExprList) → Picked false
 call_picked o = record { selector = selectors.Arguments o; named = ap (λ (x : Selected). is_there x.name) (told.arguments_made o) }
 
-pub call_told : (ts : List Token) (c : Context) (d : ℕ) (head at opening : ℕ) (name : Option TypeName) (old kept mid list named late new : Draft) (input here : Cursor) (result : Result Cursor Stop) →
-    opening ≡ old.number → ComesTo (λ s. s) old kept → (kept.refused ≡ false → at < length old.selectors.items) → ComesTo passed kept mid →
+pub call_told : (ts : List Token) (c : Context) (d : ℕ) (head at opening : ℕ) (name : Option TypeName) (old mid list named late new : Draft) (input here : Cursor) (result : Result Cursor Stop) →
+    opening ≡ old.number → (old.refused ≡ false → at < length old.selectors.items) → ComesTo passed old mid →
     Told ts arguments_outline (λ x. after (arguments_piece x) c) mid list here (optional (unless kinds.RightParen) (several kinds.Comma (expr_at d)) (ahead ts input)) →
     ComesTo (λ s. s) list named → (named.refused ≡ false → LoneSeen ts input here name opening) →
     ComesTo (settled at (record { of = head; step = steps.Arguments name })) named late →
@@ -153,7 +152,7 @@ pub call_told : (ts : List Token) (c : Context) (d : ℕ) (head at opening : ℕ
     TabulatesBy {T = Picked false} ts picked_outline (picking head at c) old new result
     (node constructs.Selector (prefixed (word kinds.LeftParen) (seq (optional (unless kinds.RightParen) (several kinds.Comma (expr_at d))) (expect_at kinds.RightParen))) (ahead ts input))
 unfolding call_picked
-call_told ts c d head at opening name old kept mid list named late new input here result opens g known h a l seen k b =
+call_told ts c d head at opening name old mid list named late new input here result opens known h a l seen k b =
     let r : Reader = optional (unless kinds.RightParen) (several kinds.Comma (expr_at d)) in
     let row : SelectorRow = record { of = head; step = steps.Arguments name } in
     let Seen : Type 0 = Spelt ts arguments_outline input here × LoneSeen ts input here name opening in
@@ -168,7 +167,7 @@ call_told ts c d head at opening name old kept mid list named late new input her
     lone_between o s.number ∙ ap (λ (n : ℕ). lone_of (tokens_of (arguments_outline o)) (n + 1)) (number_of old ∙ sym opens) ∙ sym (x.0.1 (tokens_of (arguments_outline o)) x.0.0.spelt x.1) in
     picking_shown head at c (call_picked o) (told.selector_shown (layers.Arguments o)) s (told.arguments_made o)
     ∙ ap (λ (n : Option TypeName). after (both token (both (arguments_piece o) token)) c (settled at (record { of = head; step = steps.Arguments n }) s)) same)
-    (told_settled Left ts (λ (x : Seen). arguments_outline x.0.tree) (λ x. arguments_piece x.0.tree) c kinds.LeftParen kinds.RightParen r at row old kept mid named late new input here result g known h
+    (told_settled Left ts (λ (x : Seen). arguments_outline x.0.tree) (λ x. arguments_piece x.0.tree) c kinds.LeftParen kinds.RightParen r at row old mid named late new input here result known h
     (told_knowing_then ts (λ (x : Spelt ts arguments_outline input here). arguments_outline x.tree) (λ x. after (arguments_piece x.tree) c) (λ s. s) mid list named here (r (ahead ts input))
     (told_spelt ts arguments_outline (λ x. after (arguments_piece x) c) d r mid list input here (sound_optional d _ _ (unless_sound d kinds.RightParen) (sound_several d kinds.Comma _ (expr_at_sound d))) a) l seen)
     k (told_left ts kinds.RightParen late new here result b))

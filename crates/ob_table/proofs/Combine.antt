@@ -1,5 +1,5 @@
 -- If the parts were told, the whole is told.
-use Rattle.std.proofs.Common.{◌≡◌, ◌+◌, false, [], ◌++◌, List, Result, Ok, Err, Some, None, refl, sym, ap, ◌∙◌}
+use Rattle.std.proofs.Common.{◌≡◌, false, [], ◌++◌, List, Result, Ok, Err, Some, None, refl, sym, ap, ◌∙◌}
 use Rattle.ob_scan.specs.declared.token.Token.{Token}
 use Rattle.ob_tree.specs.Constructs.{Construct}
 use Rattle.ob_tree.specs.Marks.{Out, construct}

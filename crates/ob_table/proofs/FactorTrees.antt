@@ -1,5 +1,5 @@
 -- Factors, sets and elements of parts that were told.
-use Rattle.std.proofs.Common.{◌≡◌, ℕ, zero, suc, ◌+◌, ◌-◌, false, true, List, [], ◌++◌, Option, Some, None, Ok, refl, sym, ap, subst, ◌∙◌, arith}
+use Rattle.std.proofs.Common.{◌≡◌, ℕ, zero, suc, ◌-◌, false, true, List, [], ◌++◌, Option, Some, None, Ok, refl, sym, ap, subst, ◌∙◌, arith}
 use Rattle.std.specs.Global.{Box, Vec}
 use Rattle.std.specs.Prelude.{Result}
 use Rattle.ob_scan.specs.declared.kind.Kind.{Kind}

@@ -1,6 +1,8 @@
 pub mod Made
 pub mod Combine
 pub mod Lists
+pub mod Room
+pub mod Mended
 pub mod ExpressionTrees
 pub mod FactorTrees
 pub mod DesignatorTrees
@@ -8,7 +10,6 @@ pub mod LoneTokens
 pub mod Operands
 pub mod CallTrees
 pub mod LoneEnds
-pub mod Room
 pub mod WholeTables
 pub mod EndNames
 pub mod SectionTrees

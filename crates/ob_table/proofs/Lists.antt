@@ -85,6 +85,24 @@ module _ {X : Type 0} (ts : List Token) (start : Start) (r : Reader) (f : X → 
         );
   }
 
+  -- what was told is put right between two turns, by what is known then
+  pub listing_mended : (mended : List X → Stage → Stage) (So Still : List X → Type 0) (old now new : Draft) (input here : Cursor) →
+      (new.refused ≡ false → (now.refused ≡ false) × ((xs : List X) → So xs → stage_of now ≡ step xs (stage_of old) → Still xs × (stage_of new ≡ mended xs (stage_of old)))) →
+      Listing ts start r f step So old now input here → Listing ts start r f mended Still old new input here
+  listing_mended mended So Still old now new input here h l = record {
+    front = l.front;
+    is_read = l.is_read;
+    telling = λ e.
+        let k = h e in
+        let a = l.telling k.0 in
+        let m = k.1 a.1.list a.1.so a.1.comes in (a.0, record { list = a.1.list; shows = a.1.shows; comes = m.1; so = m.0; few = a.1.few });
+  }
+
+  -- what is so of the list, where the draft was refused nothing
+  pub listing_known : {Fact : Type 0} (So : List X → Type 0) (old now : Draft) (input here : Cursor) → ((xs : List X) → So xs → stage_of now ≡ step xs (stage_of old) → Fact) →
+      Listing ts start r f step So old now input here → now.refused ≡ false → Fact
+  listing_known So old now input here h l e = let a = l.telling e in h a.1.list a.1.so a.1.comes
+
   -- a turn that fails
   pub listing_failed : (So : List X → Type 0) (e : Stop) (ms : Out) → Advances start r → (old now : Draft) (input here behind : Cursor) → start (ahead ts here) ≡ Some (ms, ahead ts behind) →
       Listing ts start r f step So old now input here → Fails ts e (r (ahead ts behind)) → Fails ts e (many start r (ahead ts input))

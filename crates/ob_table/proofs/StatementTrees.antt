@@ -1,5 +1,5 @@
 -- Statements of parts that were told.
-use Rattle.std.proofs.Common.{◌≡◌, ℕ, zero, suc, ◌-◌, Bool, true, false, List, [], ◌++◌, Option, Some, None, Ok, Err, refl, sym, ap, ◌∙◌, arith}
+use Rattle.std.proofs.Common.{◌≡◌, ℕ, zero, suc, ◌-◌, true, false, List, [], ◌++◌, length, Option, Some, None, Ok, Err, refl, sym, ap, ◌∙◌, arith}
 use Rattle.std.proofs.lemmas.List.{append-nil}
 use Rattle.std.specs.Global.{Vec}
 use Rattle.std.specs.Prelude.{Result}
@@ -22,6 +22,7 @@ use Rattle.ob_tree.specs.Marks.{Out, construct, word, used}
 use Rattle.ob_tree.specs.Expressions.{expr_outline, designator_outline}
 use Rattle.ob_tree.specs.Statements.{case_outline, stmt_outline, block_outline, branch_outline}
 use Rattle.ob_tree.proofs.StatementLayers as shown
+use Rattle.ob_rows.specs.declared.rows.Designator.{Designator as DesignatorRow}
 use Rattle.ob_rows.specs.declared.draft.Context.{Context}
 use Rattle.ob_rows.specs.declared.draft.Draft.{Draft}
 use Rattle.ob_rows.specs.Drafts.{Stage, stage_of, after, passed, ComesTo}
@@ -29,7 +30,7 @@ use Rattle.ob_rows.specs.Parts.{Piece, token, both, if_there}
 use Rattle.ob_decls.specs.Expressions.{each_after, expr_piece, designator_piece}
 use Rattle.ob_decls.specs.Statements.{label_range_piece, case_piece, stmt_piece, block_piece, branch_piece, for_piece, variable_piece}
 use Rattle.ob_decls.proofs.StatementLayers as told
-use Rattle.ob_rows.proofs.Steps.{after_both, after_nothing}
+use Rattle.ob_rows.proofs.Steps.{after_both, after_nothing, number_of}
 use Rattle.ob_parse.specs.declared.cursor.Cursor.{Cursor}
 use Rattle.ob_parse.specs.declared.stop.Stop.{Stop}
 use Rattle.ob_parse.specs.declared.stop.Stop.TheVariants as stops
@@ -38,11 +39,13 @@ use Rattle.ob_parse.specs.Front.{uncons, front}
 use Rattle.ob_parse.specs.Accords.{ahead, Fails}
 use Rattle.ob_parse.specs.ReadExpressions.{designator_with, expr_at}
 use Rattle.ob_parse.specs.ReadStatements.{label_first, statement_first, empty_at, label_range_at, case_with, block_with, block_at, branch_with, if_with, cases_with, while_with, repeat_with, for_with, assign_with, statement_at, statement_from, statement_with}
-use Rattle.ob_table.specs.StatementShapes.{then_outline, then_piece, word_outline, word_piece, labels_outline, labels_piece, statements_outline, statements_piece, branches_outline, branches_piece, body_outline, body_piece, value_outline, value_piece, is_given, Given, given_outline, given_piece, variable_told, cases_end_outline, cases_end_piece, ForLimit, for_limit_outline, for_limit_piece}
-use Rattle.ob_table.specs.Tabulating.{Told, Tabulates}
-use Rattle.ob_table.proofs.Combine.{told_as, told_node, told_then, told_there, told_knowing, told_behind, failed_node, failed_then}
+use Rattle.ob_table.specs.StatementShapes.{then_outline, then_piece, word_outline, word_piece, labels_outline, labels_piece, statements_outline, statements_piece, branches_outline, branches_piece, body_outline, body_piece, value_outline, giving, variable_told, cases_end_outline, cases_end_piece, ForLimit, for_limit_outline, for_limit_piece}
+use Rattle.ob_table.specs.Mending.{written}
+use Rattle.ob_table.specs.Tabulating.{Told, Tabulates, TabulatesBy}
+use Rattle.ob_table.proofs.Combine.{told_as, told_at, told_node, told_then, told_there, told_behind, failed_node, failed_then}
 use Rattle.ob_table.proofs.Lists.{word_after}
 use Rattle.ob_table.proofs.Made.{boxed}
+use Rattle.ob_table.proofs.Mended.{designators_of, designator_written}
 use Rattle.ob_table.proofs.Parts.{made_told, told_both, told_statement}
 
 -- ---- no statement
@@ -84,47 +87,40 @@ assigning_shown : (d : Designator) (o : Option Expr) → stmt_outline (assigning
 assigning_shown d None = shown.call_made d ∙ ap (construct constructs.Statement) (sym (append-nil (designator_outline d)))
 assigning_shown d (Some e) = shown.assign_made d e
 
-assigning_after : (d : Designator) (o : Option Expr) (c : Context) (s : Stage) → after (stmt_piece (assigning d o)) c s ≡ after (value_piece o) c (after (designator_piece (is_given o) d) c s)
-assigning_after d None c s = ap (λ (p : Piece). after p c s) (told.call_made d) ∙ sym (after_nothing c (after (designator_piece false d) c s))
-assigning_after d (Some e) c s = ap (λ (p : Piece). after p c s) (told.assign_made d e) ∙ after_both (designator_piece true d) (both token (expr_piece e)) c s
+assigning_after : (d : Designator) (o : Option Expr) (c : Context) (s : Stage) (head at : ℕ) → head ≡ s.number → at ≡ length s.rows.designators →
+    after (stmt_piece (assigning d o)) c s ≡ giving head at c o (after (designator_piece false d) c s)
+assigning_after d None c s head at e h = ap (λ (p : Piece). after p c s) (told.call_made d)
+assigning_after d (Some x) c s head at e h =
+    ap (λ (p : Piece). after p c s) (told.assign_made d x) ∙ after_both (designator_piece true d) (both token (expr_piece x)) c s ∙ ap (after (both token (expr_piece x)) c) (sym (designator_written d c s head at e h))
 
-pub assign_told : (ts : List Token) (c : Context) (w : Bool) (d n : ℕ) (old mid new : Draft) (input here : Cursor) (result : Result Cursor Stop) →
-    Tabulates ts designator_outline (designator_piece w) c old mid (Ok here) (designator_with (expr_at d) n (ahead ts input)) →
-    Tabulates {T = Given w} ts given_outline given_piece c mid new result (optional (accept_at kinds.Assign) (expr_at d) (ahead ts here)) →
+pub assign_told : (ts : List Token) (c : Context) (d n head at : ℕ) (old mid new : Draft) (input here : Cursor) (result : Result Cursor Stop) → head ≡ old.number → at ≡ length old.designators.items →
+    Tabulates ts designator_outline (designator_piece false) c old mid (Ok here) (designator_with (expr_at d) n (ahead ts input)) →
+    TabulatesBy ts (value_outline kinds.Assign) (giving head at c) mid new result (optional (accept_at kinds.Assign) (expr_at d) (ahead ts here)) →
     Tabulates ts stmt_outline stmt_piece c old new result (node constructs.Statement (assign_with (expr_at d) n) (ahead ts input))
 unfolding assign_with
-assign_told ts c w d n old mid new input here result a b =
-    told_as ts (λ (x : Designator × Given w). construct constructs.Statement (designator_outline x.0 ++ given_outline x.1)) (λ x s. after (given_piece x.1) c (after (designator_piece w x.0) c s))
-    stmt_outline (λ x. after (stmt_piece x) c) (λ x. assigning x.0 x.1.value) (λ x. assigning_shown x.0 x.1.value)
-    (λ x s. assigning_after x.0 x.1.value c s ∙ ap (λ (v : Bool). after (value_piece x.1.value) c (after (designator_piece v x.0) c s)) x.1.told) old new result _
+assign_told ts c d n head at old mid new input here result e h a b =
+    told_at ts (λ (x : Designator × Option Expr). construct constructs.Statement (designator_outline x.0 ++ value_outline kinds.Assign x.1)) (λ x s. giving head at c x.1 (after (designator_piece false x.0) c s))
+    stmt_outline (λ x. after (stmt_piece x) c) (λ x. assigning x.0 x.1) (λ x. assigning_shown x.0 x.1) old new result _
+    (λ x. assigning_after x.0 x.1 c (stage_of old) head at (e ∙ sym (number_of old)) (h ∙ ap length (sym (designators_of old))))
     (told_node ts _ _ constructs.Statement (seq (designator_with (expr_at d) n) (optional (accept_at kinds.Assign) (expr_at d))) old new result (ahead ts input)
-    (told_then ts designator_outline (λ x. after (designator_piece w x) c) (given_outline {w = w}) (λ x. after (given_piece x) c) (designator_with (expr_at d) n) (optional (accept_at kinds.Assign) (expr_at d)) old mid new here result (ahead ts input) a b))
+    (told_then ts designator_outline (λ x. after (designator_piece false x) c) (value_outline kinds.Assign) (giving head at c) (designator_with (expr_at d) n) (optional (accept_at kinds.Assign) (expr_at d)) old mid new here result (ahead ts input) a b))
 
 pub assign_failed : (ts : List Token) (d n : ℕ) (e : Stop) (ls : List Leaf) → Fails ts e (designator_with (expr_at d) n ls) → Fails ts e (node constructs.Statement (assign_with (expr_at d) n) ls)
 unfolding assign_with
 assign_failed ts d n e ls h =
     failed_node ts constructs.Statement (seq (designator_with (expr_at d) n) (optional (accept_at kinds.Assign) (expr_at d))) e ls (failed_then ts (designator_with (expr_at d) n) (optional (accept_at kinds.Assign) (expr_at d)) e ls h)
 
--- where no right side stands here, and none was guessed
-pub not_given : (ts : List Token) (c : Context) (w : Bool) (old new : Draft) (here : Cursor) (r : Reader) → accept_at kinds.Assign (ahead ts here) ≡ None →
-    ComesTo (λ s. s) old new → (new.refused ≡ false → false ≡ w) → Told {T = Given w} ts given_outline (λ x. after (given_piece x) c) old new here (optional (accept_at kinds.Assign) r (ahead ts here))
-not_given ts c w old new here r e h k = record {
-  out = [];
-  is_read = rw e refl;
-  telling = λ q. let b = h q in (b.0, record { tree = record { value = None; told = k q }; shows = refl; comes = b.1 ∙ sym (after_nothing c (stage_of old)) });
-}
-
--- where one does, and was guessed
-pub some_given : (ts : List Token) (c : Context) (w : Bool) (r : Reader) (old kept mid new : Draft) (input rest : Cursor) (result : Result Cursor Stop) → accept_at kinds.Assign (ahead ts input) ≡ Some (word kinds.Assign, ahead ts rest) →
-    ComesTo (λ s. s) old kept → (kept.refused ≡ false → true ≡ w) → ComesTo passed kept mid → Tabulates ts expr_outline expr_piece c mid new result (r (ahead ts rest)) →
-    Tabulates {T = Given w} ts given_outline given_piece c old new result (optional (accept_at kinds.Assign) r (ahead ts input))
-some_given ts c w r old kept mid new input rest result e g k h t =
-    let Fact : Type 0 = true ≡ w in
-    told_as ts (λ (x : Expr × Fact). word kinds.Assign ++ expr_outline x.0) (λ x s. after (expr_piece x.0) c (passed s)) (given_outline {w = w}) (λ x. after (given_piece x) c)
-    (λ x. record { value = Some x.0; told = x.1 }) (λ x. refl) (λ x s. word_after (expr_piece x.0) c s) old new result (optional (accept_at kinds.Assign) r (ahead ts input))
-    (told_there ts (λ (x : Expr × Fact). expr_outline x.0) (λ x s. after (expr_piece x.0) c (passed s)) (accept_at kinds.Assign) r (word kinds.Assign) old new rest result (ahead ts input) e
-    (told_knowing ts expr_outline (λ x s. after (expr_piece x) c (passed s)) (λ s. s) old kept new result (r (ahead ts rest)) g k
-    (told_behind ts expr_outline (λ x. after (expr_piece x) c) passed kept mid new result (r (ahead ts rest)) h t)))
+-- where a right side stands, its designator is written
+pub some_given : (ts : List Token) (c : Context) (head at : ℕ) (r : Reader) (old told mid new : Draft) (input rest : Cursor) (result : Result Cursor Stop) → accept_at kinds.Assign (ahead ts input) ≡ Some (word kinds.Assign, ahead ts rest) →
+    ComesTo (written at (record { head = head; block = c.block; is_written = true })) old told → ComesTo passed told mid → Tabulates ts expr_outline expr_piece c mid new result (r (ahead ts rest)) →
+    TabulatesBy ts (value_outline kinds.Assign) (giving head at c) old new result (optional (accept_at kinds.Assign) r (ahead ts input))
+some_given ts c head at r old told mid new input rest result e g h t =
+    let row : DesignatorRow = record { head = head; block = c.block; is_written = true } in
+    told_as ts (λ (x : Expr). word kinds.Assign ++ expr_outline x) (λ x s. after (expr_piece x) c (passed (written at row s))) (value_outline kinds.Assign) (giving head at c)
+    (λ x. Some x) (λ x. refl) (λ x s. word_after (expr_piece x) c (written at row s)) old new result (optional (accept_at kinds.Assign) r (ahead ts input))
+    (told_there ts expr_outline (λ x s. after (expr_piece x) c (passed (written at row s))) (accept_at kinds.Assign) r (word kinds.Assign) old new rest result (ahead ts input) e
+    (told_behind ts expr_outline (λ x s. after (expr_piece x) c (passed s)) (written at row) old told new result (r (ahead ts rest)) g
+    (told_behind ts expr_outline (λ x. after (expr_piece x) c) passed told mid new result (r (ahead ts rest)) h t)))
 
 -- ---- StatementSequence = statement {";" statement}
 

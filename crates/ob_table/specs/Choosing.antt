@@ -1,5 +1,5 @@
 -- What is kept of a selector, of the selectors of a designator and of a list of expressions beside what they tell.
-use Rattle.std.specs.Prelude.{◌≡◌, ℕ, zero, suc, Bool, true, false, List, [], ◌∷◌, length, map, Option, Some, None, Result, Ok, Err}
+use Rattle.std.specs.Prelude.{◌≡◌, ℕ, suc, Bool, true, false, List, length, map, Option, Some, None, Result, Ok, Err}
 use Rattle.std.specs.Global.{Vec}
 use Rattle.ob_scan.specs.declared.kind.Kind.TheVariants as kinds
 use Rattle.ob_scan.specs.declared.token.Token.{Token}
@@ -13,13 +13,13 @@ use Rattle.ob_parse.specs.Forms.{Read}
 use Rattle.ob_parse.specs.Accords.{Fails, ahead}
 use Rattle.ob_parse.specs.declared.cursor.Cursor.{Cursor}
 use Rattle.ob_parse.specs.declared.stop.Stop.{Stop}
-use Rattle.ob_rows.specs.declared.rows.Selector.{Selector as SelectorRow}
-use Rattle.ob_rows.specs.declared.rows.Step.TheVariants as steps
 use Rattle.ob_rows.specs.declared.draft.Context.{Context}
 use Rattle.ob_rows.specs.declared.draft.Draft.{Draft}
-use Rattle.ob_rows.specs.Drafts.{Stage, after, settled}
+use Rattle.ob_rows.specs.Drafts.{Stage, added, after, settled}
+use Rattle.ob_rows.specs.Parts.{these_selectors}
 use Rattle.ob_decls.specs.Expressions.{selected, first_name, listed, expr_list_piece}
 use Rattle.ob_decls.specs.Settling.{row_at, settling}
+use Rattle.ob_table.specs.Mending.{places}
 use Rattle.ob_table.specs.Shapes.{exprs_outline, exprs_piece}
 use Rattle.ob_table.specs.Tabulating.{Told}
 
@@ -43,23 +43,17 @@ picked_outline x = selector_outline x.selector
 abbrev pub picking : {dot : Bool} → ℕ → ℕ → Context → Picked dot → Stage → Stage
 picking head at c x s = after (selected x.selector).piece c (settled at (row_at head (selected x.selector) s) s)
 
--- so many selectors, of which the first selects a name, or doesn't
-pub record Chosen (dot : Bool) (count : ℕ) : Type 0 where
+-- selectors, of which the first selects a name, or doesn't
+pub record Chosen (dot : Bool) : Type 0 where
   pub list : Vec Selector
   pub named : is_there (first_name (map selected list.items)) ≡ dot
-  pub counted : length list.items ≡ count
 
-abbrev pub chosen_outline : {dot : Bool} {n : ℕ} → Chosen dot n → Out
+abbrev pub chosen_outline : {dot : Bool} → Chosen dot → Out
 chosen_outline x = each selector_outline x.list.items
 
--- their rows stand in these places
-abbrev pub choosing : {dot : Bool} {n : ℕ} → ℕ → ℕ → Context → Chosen dot n → Stage → Stage
-choosing head at c x s = settling head at (map selected x.list.items) c s
-
--- so many places for selectors of the designator with this head
-abbrev pub places : ℕ → ℕ → List SelectorRow
-places head zero = []
-places head (suc n) = record { of = head; step = steps.Target } ∷ places head n
+-- they are told, and their rows stand behind all others, before those of what stands in them
+abbrev pub choosing : {dot : Bool} → ℕ → Context → Chosen dot → Stage → Stage
+choosing head c x s = settling head (length s.rows.selectors) (map selected x.list.items) c (added (these_selectors (places head (length x.list.items))) s)
 
 -- so many expressions
 pub record Counted (count : ℕ) : Type 0 where

@@ -1,5 +1,6 @@
 pub mod Tabulating
 pub mod Shapes
+pub mod Mending
 pub mod Choosing
 pub mod LoneNames
 pub mod Ended

@@ -1,5 +1,5 @@
 -- Parts of statements that have no name in the tree, by their outlines and by what they tell.
-use Rattle.std.specs.Prelude.{◌≡◌, ℕ, ◌++◌, Bool, true, false, Option, Some, None}
+use Rattle.std.specs.Prelude.{ℕ, ◌++◌, true, Option, Some, None}
 use Rattle.std.specs.Global.{Box, Vec}
 use Rattle.ob_scan.specs.declared.kind.Kind.{Kind}
 use Rattle.ob_scan.specs.declared.kind.Kind.TheVariants as kinds
@@ -15,9 +15,12 @@ use Rattle.ob_tree.specs.Marks.{Out, word, separated}
 use Rattle.ob_tree.specs.Marks.{if_there as shown_there, each_after as shown_after}
 use Rattle.ob_tree.specs.Expressions.{expr_outline}
 use Rattle.ob_tree.specs.Statements.{label_outline, label_range_outline, case_outline, stmt_outline, block_outline, branch_outline}
+use Rattle.ob_rows.specs.declared.draft.Context.{Context}
+use Rattle.ob_rows.specs.Drafts.{Stage, after}
 use Rattle.ob_rows.specs.Parts.{Piece, token, both, if_there}
 use Rattle.ob_decls.specs.Expressions.{each_after, expr_piece}
 use Rattle.ob_decls.specs.Statements.{label_piece, label_range_piece, case_piece, stmt_piece, block_piece, branch_piece, variable_piece}
+use Rattle.ob_table.specs.Mending.{written}
 
 -- one part, and another behind it
 abbrev pub then_outline : {A B : Type 0} → (A → Out) → (B → Out) → A × B → Out
@@ -89,20 +92,10 @@ value_outline k = shown_there (λ e. word k ++ expr_outline e)
 abbrev pub value_piece : Option Expr → Piece
 value_piece = if_there (λ e. both token (expr_piece e))
 
--- the right side of an assignment, if a designator is written; else nothing
-abbrev pub is_given : Option Expr → Bool
-is_given None = false
-is_given (Some e) = true
-
-pub record Given (written : Bool) : Type 0 where
-  pub value : Option Expr
-  pub told : is_given value ≡ written
-
-abbrev pub given_outline : {w : Bool} → Given w → Out
-given_outline x = value_outline kinds.Assign x.value
-
-abbrev pub given_piece : {w : Bool} → Given w → Piece
-given_piece x = value_piece x.value
+-- the right side of an assignment, if it stands there: then the designator with this head, whose row has this place, is written
+abbrev pub giving : ℕ → ℕ → Context → Option Expr → Stage → Stage
+giving head at c None s = s
+giving head at c (Some e) s = after (both token (expr_piece e)) c (written at (record { head = head; block = c.block; is_written = true }) s)
 
 -- the variable of a FOR
 abbrev pub variable_told : ℕ → Piece

@@ -1,7 +1,7 @@
 //! Expressions (Oberon-07 report, section 8), from their tokens to their rows. Each function takes the levels that may be nested
 //! in what it reads.
 
-ghost use Rattle.std.specs.Prelude.{◌≡◌, true, false, Ok};
+ghost use Rattle.std.specs.Prelude.{◌≡◌, ◌<◌, true, false, length, Ok};
 ghost use Rattle.ob_scan.specs.declared.kind.Kind.TheVariants as kinds;
 ghost use Rattle.ob_tree.specs.Constructs as constructs;
 ghost use Rattle.ob_tree.specs.Marks as marks;
@@ -19,8 +19,7 @@ ghost use Rattle.ob_table.specs.Choosing.{dot_at, Picked, picked_outline, pickin
 ghost use Rattle.ob_table.specs.Tabulating.{Tabulates, TabulatesBy, Told};
 
 use crate::places::{
-    check_places, first_place, keep_place, lone_name, name_ahead, next_place, open_places,
-    selectors_from,
+    close_places, keep_room, lone_name, name_ahead, next_place, open_places, selectors_ahead,
 };
 use crate::source::Source;
 use crate::words::{pass_token, pass_word};
@@ -222,10 +221,7 @@ fn factor(
     ensures { Tabulates source.now.tokens.now factor_outline factor_piece inside draft.old draft.new result (factor_at depth (ahead source.now.tokens.now input)) }
 {
     match input.next(source.tokens) {
-        Some((Leaf::Name(number), rest)) => {
-            let (count, _) = selectors_from(source, rest);
-            designator(draft, inside, source, number, rest, depth, false, count)
-        }
+        Some((Leaf::Name(number), rest)) => designator(draft, inside, source, number, rest, depth),
         Some((Leaf::Value(_, _), rest)) => Ok(pass_token(draft, rest)),
         Some((Leaf::Word(Kind::Nil), rest)) => Ok(pass_token(draft, rest)),
         Some((Leaf::Word(Kind::True), rest)) => Ok(pass_token(draft, rest)),
@@ -387,8 +383,7 @@ fn high(
     }
 }
 
-/// A designator, behind its name. The rows of its selectors stand before those of designators inside them, so they get their
-/// places first; how many they are is guessed, and a wrong guess is a refusal.
+/// A designator, behind its name. Its row says that it isn't written: where `:=` stands behind it, `assigned` tells.
 #[inline(always)]
 #[cycle(expressions)]
 pub(crate) fn designator(
@@ -398,29 +393,25 @@ pub(crate) fn designator(
     number: u32,
     input: Cursor,
     depth: u32,
-    is_written: bool,
-    count: u32,
 ) -> Result<Cursor, Stop>
-    ensures { Tabulates source.now.tokens.now designator_outline (designator_piece is_written) inside draft.old draft.new result (designator_with (expr_at depth) number (ahead source.now.tokens.now input)) }
+    ensures { Tabulates source.now.tokens.now designator_outline (designator_piece false) inside draft.old draft.new result (designator_with (expr_at depth) number (ahead source.now.tokens.now input)) }
 {
     let head = draft.number;
-    let at = first_place(draft);
     draft.add_designator(DesignatorRow {
         head,
         block: inside.block,
-        is_written,
+        is_written: false,
     });
-    open_places(draft, head, count);
     walk_used(draft, inside, name_ahead(source.tokens, input));
     // What `selectors` would do where there is none, without the call.
     if !begins_selector(source.tokens, input) {
-        check_places(draft, at, count, at);
         return Ok(input);
     }
-    selectors(draft, inside, source, input, depth, head, at, count)
+    selectors(draft, inside, source, input, depth, head)
 }
 
-/// The selectors of the designator with this head: so many, whose rows have their places from this one on.
+/// The selectors of the designator with this head. Their rows stand before those of designators inside them, so they get their
+/// places first. How many they are is guessed: places that are missing are put in, and those that are too many taken out.
 #[inline(never)]
 #[cycle(expressions)]
 fn selectors(
@@ -430,27 +421,29 @@ fn selectors(
     input: Cursor,
     depth: u32,
     head: u32,
-    at: usize,
-    count: u32,
 ) -> Result<Cursor, Stop>
-    ensures { TabulatesBy {T = Chosen (dot_at source.now.tokens.now input) count} source.now.tokens.now chosen_outline (choosing head at inside) draft.old draft.new result (many (begins selector_first) (selector_with (expr_at depth)) (ahead source.now.tokens.now input)) }
+    ensures { TabulatesBy {T = Chosen (dot_at source.now.tokens.now input)} source.now.tokens.now chosen_outline (choosing head inside) draft.old draft.new result (many (begins selector_first) (selector_with (expr_at depth)) (ahead source.now.tokens.now input)) }
 {
+    let at = next_place(draft);
+    open_places(draft, head, selectors_ahead(source, input));
     let mut here = input;
     let mut place = at;
+    let mut end = next_place(draft);
     'more: while begins_selector(source.tokens, here) {
+        end = keep_room(draft, head, place, end);
         match selector(draft, inside, source, here, depth, head, place) {
             Ok(next) => {
                 here = next;
-                place = next_place(draft, place);
+                place = place.saturating_add(1);
             }
             Err(stop) => return Err(stop),
         }
     }
-    check_places(draft, at, count, place);
+    close_places(draft, place, end);
     Ok(here)
 }
 
-/// A selector of the designator with this head, whose row has this place.
+/// A selector of the designator with this head, whose row has this place, which is there.
 #[cycle(expressions)]
 fn selector(
     draft: &mut Draft,
@@ -461,6 +454,7 @@ fn selector(
     head: u32,
     place: usize,
 ) -> Result<Cursor, Stop>
+    requires { draft.old.refused ≡ false → place < length draft.old.selectors.items }
     ensures { TabulatesBy {T = Picked (dot_at source.now.tokens.now input)} source.now.tokens.now picked_outline (picking head place inside) draft.old draft.new result (selector_with (expr_at depth) (ahead source.now.tokens.now input)) }
 {
     match input.next(source.tokens) {
@@ -538,10 +532,10 @@ fn index(
     head: u32,
     place: usize,
 ) -> Result<Cursor, Stop>
+    requires { draft.old.refused ≡ false → place < length draft.old.selectors.items }
     ensures { TabulatesBy {T = Picked false} source.now.tokens.now picked_outline (picking head place inside) draft.old draft.new result
         (node constructs.Selector (prefixed (word kinds.LeftBracket) (seq (several kinds.Comma (expr_at depth)) (expect_at kinds.RightBracket))) (ahead source.now.tokens.now input)) }
 {
-    keep_place(draft, place);
     draft.pass();
     match expression_list(draft, inside, source, input, depth) {
         Ok((here, count)) => {
@@ -569,11 +563,11 @@ fn call(
     head: u32,
     place: usize,
 ) -> Result<Cursor, Stop>
+    requires { draft.old.refused ≡ false → place < length draft.old.selectors.items }
     ensures { TabulatesBy {T = Picked false} source.now.tokens.now picked_outline (picking head place inside) draft.old draft.new result
         (node constructs.Selector (prefixed (word kinds.LeftParen) (seq (optional (unless kinds.RightParen) (several kinds.Comma (expr_at depth))) (expect_at kinds.RightParen))) (ahead source.now.tokens.now input)) }
 {
     let opening = draft.number;
-    keep_place(draft, place);
     draft.pass();
     match arguments(draft, inside, source, input, depth) {
         Ok(here) => {

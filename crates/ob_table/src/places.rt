@@ -1,21 +1,21 @@
 //! The places of the rows of selectors, and what is seen ahead of them.
 
-ghost use Rattle.std.specs.Prelude.{◌≡◌, ◌+◌, ◌<◌, ◌++◌, ◌∷◌, ℕ, false, length, List};
+ghost use Rattle.std.specs.Prelude.{◌≡◌, ◌+◌, ◌<◌, ◌≤◌, ◌++◌, ◌∷◌, ℕ, false, length, List};
 ghost use Rattle.ob_tree.specs.declared.token.Leaf.{Leaf};
 ghost use Rattle.ob_tree.specs.declared.token.Leaf.TheVariants as leafs;
 ghost use Rattle.ob_rows.specs.Drafts.{added, ComesTo};
 ghost use Rattle.ob_rows.specs.Parts.{these_selectors};
 ghost use Rattle.ob_parse.specs.Accords.{ahead, seen};
-ghost use Rattle.ob_table.specs.Choosing.{dot_at, is_there, places};
+ghost use Rattle.ob_table.specs.Choosing.{dot_at, is_there};
+ghost use Rattle.ob_table.specs.Mending.{blank, places, inserted, removed, written, KeepsRoom};
 ghost use Rattle.ob_parse.specs.Front.{uncons};
 ghost use Rattle.ob_table.specs.LoneNames.{lone_of, named_front, IsLone};
 
 use crate::source::{Source, kind_at};
 use ob_parse::cursor::Cursor;
-use ob_parse::operators::begins_selector;
 use ob_parse::tokens::{accept, is_at};
 use ob_rows::draft::Draft;
-use ob_rows::{Selector as SelectorRow, Step, TypeName};
+use ob_rows::{Designator as DesignatorRow, Selector as SelectorRow, Step, TypeName};
 use ob_scan::{Kind, Token};
 use ob_tree::token::Leaf;
 
@@ -37,9 +37,9 @@ fn behind_selector(source: &Source, at: u32) -> u32 {
     }
 }
 
-/// How many selectors seem to stand from this token on, and the token behind them.
-fn selectors_ahead(source: &Source, from: u32) -> (u32, u32) {
-    let mut at = from;
+/// How many selectors seem to stand from this place on. It is a guess, of which nothing is promised.
+pub(crate) fn selectors_ahead(source: &Source, input: Cursor) -> u32 {
+    let mut at = input.number();
     let mut count = 0;
     for _ in 0..source.tokens.len() {
         let next = behind_selector(source, at);
@@ -49,17 +49,7 @@ fn selectors_ahead(source: &Source, from: u32) -> (u32, u32) {
         at = next;
         count = u32::saturating_add(count, 1);
     }
-    (count, at)
-}
-
-/// The same from this place on. Most names have no selector, which one look tells.
-#[inline(always)]
-pub(crate) fn selectors_from(source: &Source, input: Cursor) -> (u32, u32) {
-    if begins_selector(source.tokens, input) {
-        selectors_ahead(source, input.number())
-    } else {
-        (0, input.number())
-    }
+    count
 }
 
 /// A name, if a dot stands here; which one doesn't matter.
@@ -73,8 +63,8 @@ pub(crate) fn name_ahead(tokens: &[Token], input: Cursor) -> Option<u32>
     }
 }
 
-/// The place of the next selector.
-pub(crate) fn first_place(draft: &Draft) -> usize
+/// The place of the next row of a selector.
+pub(crate) fn next_place(draft: &Draft) -> usize
     ensures { result ≡ length draft.now.selectors.items }
 {
     draft.selectors.len()
@@ -95,38 +85,70 @@ pub(crate) fn open_places(draft: &mut Draft, head: u32, count: u32)
     }
 }
 
-/// The place behind this one.
-pub(crate) fn next_place(draft: &mut Draft, place: usize) -> usize
-    ensures stage { ComesTo (λ s. s) draft.old draft.new }
-    ensures place { draft.new.refused ≡ false → result ≡ place + 1 }
+/// Sees that the next selector of the designator with this head has this place, and answers where its places end now. Where they end
+/// here already, one more is put in.
+pub(crate) fn keep_room(draft: &mut Draft, head: u32, place: usize, end: usize) -> usize
+    requires { draft.old.refused ≡ false → (place ≤ end) × (end ≤ length draft.old.selectors.items) }
+    ensures room { KeepsRoom head place end draft.old draft.new result }
+    ensures place { draft.new.refused ≡ false → place < length draft.new.selectors.items }
 {
-    match place.checked_add(1) {
-        None => {
-            draft.refused = true;
-            place
-        }
-        Some(next) => next,
+    if place < end || draft.refused {
+        return end;
     }
+    put_place(draft, head, end)
 }
 
-/// Refuses a place that isn't there.
-pub(crate) fn keep_place(draft: &mut Draft, place: usize)
-    ensures stage { ComesTo (λ s. s) draft.old draft.new }
-    ensures place { draft.new.refused ≡ false → place < length draft.old.selectors.items }
+/// Puts in one more place for a selector, and answers the place behind it.
+#[inline(never)]
+fn put_place(draft: &mut Draft, head: u32, at: usize) -> usize
+    requires { at ≤ length draft.old.selectors.items }
+    ensures stage { ComesTo (inserted at (blank head)) draft.old draft.new }
+    ensures place { result ≡ at + 1 }
 {
-    if place >= draft.selectors.len() {
+    let row = SelectorRow {
+        of: head,
+        step: Step::Target,
+    };
+    if draft.selectors.insert(at, row).is_err() {
         draft.refused = true;
+        draft.selectors.clear();
+    }
+    at + 1
+}
+
+/// Sees that the places end at this one, which is the first that no selector has.
+pub(crate) fn close_places(draft: &mut Draft, place: usize, end: usize)
+    requires { draft.old.refused ≡ false → (place ≤ end) × (end ≤ length draft.old.selectors.items) }
+    ensures { ComesTo (removed place end) draft.old draft.new }
+{
+    if place < end && !draft.refused {
+        take_places(draft, place, end);
     }
 }
 
-/// Refuses another count of places, the first of which is this, than was guessed.
-pub(crate) fn check_places(draft: &mut Draft, at: usize, count: u32, place: usize)
-    ensures stage { ComesTo (λ s. s) draft.old draft.new }
-    ensures count { draft.new.refused ≡ false → place ≡ at + count }
+/// Takes out the places from this one up to the end.
+#[inline(never)]
+fn take_places(draft: &mut Draft, place: usize, end: usize)
+    requires { (place ≤ end) × (end ≤ length draft.old.selectors.items) }
+    ensures { ComesTo (removed place end) draft.old draft.new }
 {
-    match at.checked_add(count as usize) {
-        Some(end) if end == place => {}
-        _ => draft.refused = true,
+    drop(draft.selectors.drain(place..end));
+}
+
+/// The place of the next row of a designator.
+pub(crate) fn next_designator(draft: &Draft) -> usize
+    ensures { result ≡ length draft.now.designators.items }
+{
+    draft.designators.len()
+}
+
+/// Gives the row of the designator in this place.
+#[tactic(auto, using(ob_rows::proofs::Steps::growing), unfolding(ob_rows::specs::Drafts::stage_of, crate::specs::Mending::written))]
+pub(crate) fn write_designator(draft: &mut Draft, at: usize, row: DesignatorRow)
+    ensures { ComesTo (written at row) draft.old draft.new }
+{
+    if at < draft.designators.len() {
+        draft.designators[at] = row;
     }
 }
 

@@ -32,7 +32,7 @@ fn pass_all(alloc: Global, draft: &mut Draft, bytes: &[u8], tokens: &[Token]) ->
     requires { length tokens.now < 2 ^ 32 }
     ensures { TabulatesWhole {T = EndedModule bytes.now tokens.now} tokens.now (λ m. module_outline m.tree) (λ m. after (module_piece m.tree) outermost) draft.old draft.new result (all_of 200 (leaves_from 0 (kinds_of tokens.now))) }
 {
-    let brackets = brackets_of(alloc, tokens);
+    let brackets = brackets_of(alloc, tokens)?;
     let source = Source {
         tokens,
         brackets: brackets.as_slice(),
@@ -51,11 +51,9 @@ fn pass_all(alloc: Global, draft: &mut Draft, bytes: &[u8], tokens: &[Token]) ->
 /// The table of the module that the tokens of a text of these bytes are of, or why there is none: the rows of the tree that `parse`
 /// makes of them, and its faults. No tree is made on the way.
 ///
-/// A text that is read to its end has no table only where a name after END is wrong or memory was refused. A guess of how many
-/// selectors follow, or of `:=` behind them, comes true there: its brackets pair as the pass goes through them, a selector is read as
-/// long as one begins, and a dot behind a designator has a name behind it. Only where memory is refused to the brackets guesses are
-/// wrong. So where rows are refused `fault_in` tells the name, or want of memory. Where memory is refused to the list of imports,
-/// that is told at once.
+/// A text that is read to its end has no table only where a name after END is wrong, memory was refused to a row, or a count doesn't
+/// fit 32 bits, which none of a text's tokens comes to. Then `fault_in` tells the name, or want of memory. Where memory is refused to
+/// the list of brackets or to that of imports, that is told at once.
 ///
 /// It recurses a few calls for each level, so at most 200 levels deep, for which a stack of 2 MiB is enough. Lists are loops.
 pub fn read_table(alloc: Global, bytes: &[u8], tokens: &Tokens) -> Result<Table, ParseFault>

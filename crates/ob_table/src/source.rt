@@ -1,10 +1,12 @@
 //! The tokens of a text, and what is known of their brackets.
 
+ghost use Rattle.std.specs.Prelude.{◌<◌, ◌^◌, length};
+
 use ob_scan::{Kind, Token};
-use std::alloc::Global;
+use std::alloc::{AllocError, Global};
 
 /// The tokens of a text. Of each that is an opening bracket or parenthesis `brackets` has the one that closes it: a help to guess
-/// how many selectors follow, of which nothing is promised.
+/// how many selectors follow. Nothing is promised of it, and no row rests on it.
 #[derive(Drop)]
 pub(crate) struct Source<'a> {
     pub(crate) tokens: &'a [Token],
@@ -23,16 +25,13 @@ pub(crate) fn kind_at(tokens: &[Token], at: u32) -> Kind {
 }
 
 /// Of each token that is an opening bracket or parenthesis the one that closes it; of all others anything. The row of one that isn't
-/// closed yet has the one around it meanwhile, so that no stack is kept. Where memory is refused there are no rows.
-pub(crate) fn brackets_of(alloc: Global, tokens: &[Token]) -> Vec<u32> {
-    let (Ok(mut brackets), Ok(count)) = (
-        vec![in alloc; NONE; tokens.len()],
-        u32::try_from(tokens.len()),
-    ) else {
-        return Vec::new(alloc);
-    };
+/// closed yet has the one around it meanwhile, so that no stack is kept.
+pub(crate) fn brackets_of(alloc: Global, tokens: &[Token]) -> Result<Vec<u32>, AllocError>
+    requires { length tokens.now < 2 ^ 32 }
+{
+    let mut brackets = vec![in alloc; NONE; tokens.len()]?;
     let mut open = NONE;
-    for at in 0..count {
+    for at in 0..tokens.len() as u32 {
         match kind_at(tokens, at) {
             Kind::LeftBracket | Kind::LeftParen => {
                 if let Some(row) = brackets.get_mut(at as usize) {
@@ -49,5 +48,5 @@ pub(crate) fn brackets_of(alloc: Global, tokens: &[Token]) -> Vec<u32> {
             _ => {}
         }
     }
-    brackets
+    Ok(brackets)
 }

@@ -1,23 +1,21 @@
 //! Statements (Oberon-07 report, section 9), from their tokens to their rows. Each function takes the levels that may be nested
 //! in what it reads.
 
-ghost use Rattle.std.specs.Prelude.{◌≡◌, false};
 ghost use Rattle.ob_scan.specs.declared.kind.Kind.TheVariants as kinds;
 ghost use Rattle.ob_tree.specs.Constructs as constructs;
 ghost use Rattle.ob_tree.specs.Marks as marks;
 ghost use Rattle.ob_tree.specs.Statements.{block_outline, branch_outline, case_outline, stmt_outline};
-ghost use Rattle.ob_rows.specs.Drafts.{ComesTo};
 ghost use Rattle.ob_decls.specs.Statements.{block_piece, branch_piece, case_piece, stmt_piece};
 ghost use Rattle.ob_parse.specs.Forms.{accept_at, expect_at, many, node, optional, prefixed, seq};
 ghost use Rattle.ob_parse.specs.Accords.{ahead};
 ghost use Rattle.ob_parse.specs.ReadExpressions.{expr_at};
 ghost use Rattle.ob_parse.specs.ReadStatements.{assign_with, block_at, branch_with, case_with, cases_with, for_with, if_with, repeat_with, statement_at, statement_with, while_with};
-ghost use Rattle.ob_table.specs.StatementShapes.{statements_outline, statements_piece, branches_outline, branches_piece, cases_outline, cases_piece, body_outline, body_piece, value_outline, value_piece, Given, given_outline, given_piece, cases_end_outline, cases_end_piece, for_body_outline, for_body_piece, for_limit_outline, for_limit_piece};
-ghost use Rattle.ob_table.specs.Tabulating.{Tabulates};
+ghost use Rattle.ob_table.specs.StatementShapes.{statements_outline, statements_piece, branches_outline, branches_piece, cases_outline, cases_piece, body_outline, body_piece, value_outline, value_piece, giving, cases_end_outline, cases_end_piece, for_body_outline, for_body_piece, for_limit_outline, for_limit_piece};
+ghost use Rattle.ob_table.specs.Tabulating.{Tabulates, TabulatesBy};
 
 use crate::expressions::{designator, expression};
 use crate::labels::label_ranges;
-use crate::places::selectors_from;
+use crate::places::{next_designator, write_designator};
 use crate::source::Source;
 use crate::words::pass_word;
 use ob_decls::walk::uses::walk_for_variable;
@@ -26,6 +24,7 @@ use ob_parse::labels::begins_label;
 use ob_parse::statements::begins_statement;
 use ob_parse::stop::Stop;
 use ob_parse::tokens::{accept, identifier};
+use ob_rows::Designator as DesignatorRow;
 use ob_rows::draft::{Context, Draft};
 use ob_scan::Kind;
 use ob_tree::token::Leaf;
@@ -76,26 +75,7 @@ fn statement_within(
     }
 }
 
-/// Whether `:=` is this token.
-fn is_assign(source: &Source, at: u32) -> bool {
-    match source.tokens.get(at as usize) {
-        None => false,
-        Some(token) => token.kind == Kind::Assign,
-    }
-}
-
-/// Refuses another answer than was guessed.
-fn keep_guess(draft: &mut Draft, guess: bool, answer: bool)
-    ensures stage { ComesTo (λ s. s) draft.old draft.new }
-    ensures guess { draft.new.refused ≡ false → answer ≡ guess }
-{
-    if guess != answer {
-        draft.refused = true;
-    }
-}
-
-/// An assignment or a call, behind its first identifier. The row of its designator stands before all others of it, and says
-/// whether `:=` stands behind its selectors: that is guessed from the tokens, and a wrong guess is a refusal.
+/// An assignment or a call, behind its first identifier. The row of its designator stands before all others of it.
 fn assignment(
     draft: &mut Draft,
     inside: Context,
@@ -106,32 +86,39 @@ fn assignment(
 ) -> Result<Cursor, Stop>
     ensures { Tabulates source.now.tokens.now stmt_outline stmt_piece inside draft.old draft.new result (node constructs.Statement (assign_with (expr_at depth) head) (ahead source.now.tokens.now input)) }
 {
-    let (count, behind) = selectors_from(source, input);
-    let is_written = is_assign(source, behind);
-    match designator(draft, inside, source, head, input, depth, is_written, count) {
-        Ok(here) => assigned(draft, inside, source, here, depth, is_written),
+    let first = draft.number;
+    let at = next_designator(draft);
+    match designator(draft, inside, source, head, input, depth) {
+        Ok(here) => assigned(draft, inside, source, here, depth, first, at),
         Err(stop) => Err(stop),
     }
 }
 
-/// The right side behind `:=`, if it stands here, as was guessed.
+/// The right side behind `:=`, if it stands here. Then the designator is written that begins with this token and whose row has this
+/// place.
 fn assigned(
     draft: &mut Draft,
     inside: Context,
     source: &Source,
     input: Cursor,
     depth: u32,
-    is_written: bool,
+    head: u32,
+    at: usize,
 ) -> Result<Cursor, Stop>
-    ensures { Tabulates {T = Given is_written} source.now.tokens.now given_outline given_piece inside draft.old draft.new result (optional (accept_at kinds.Assign) (expr_at depth) (ahead source.now.tokens.now input)) }
+    ensures { TabulatesBy source.now.tokens.now (value_outline kinds.Assign) (giving head at inside) draft.old draft.new result (optional (accept_at kinds.Assign) (expr_at depth) (ahead source.now.tokens.now input)) }
 {
     match accept(source.tokens, input, Kind::Assign) {
-        None => {
-            keep_guess(draft, is_written, false);
-            Ok(input)
-        }
+        None => Ok(input),
         Some(rest) => {
-            keep_guess(draft, is_written, true);
+            write_designator(
+                draft,
+                at,
+                DesignatorRow {
+                    head,
+                    block: inside.block,
+                    is_written: true,
+                },
+            );
             draft.pass();
             expression(draft, inside, source, rest, depth)
         }

@@ -1,4 +1,4 @@
-use Rattle.std.proofs.Common.{◌≡◌, ◌+◌, ◌-◌, ◌++◌, suc, true, false, length, map, [], ◌∷◌, None, Ok, refl, sym, ap, ◌∙◌, arith}
+use Rattle.std.proofs.Common.{◌≡◌, ◌-◌, ◌++◌, suc, true, false, length, [], ◌∷◌, None, Ok, refl, sym, ap, ◌∙◌, arith}
 use Rattle.ob_scan.specs.declared.kind.Kind.TheVariants as kinds
 use Rattle.ob_tree.specs.declared.token.Leaf.TheVariants as leafs
 use Rattle.ob_tree.specs.declared.expression.Factor.TheVariants as factors
@@ -10,8 +10,7 @@ use Rattle.ob_tree.specs.Expressions.{relation_kind, factor_outline, expr_outlin
 use Rattle.ob_tree.proofs.ExpressionLayers.{expressions_made, value_made, nil_made, true_made, false_made}
 use Rattle.ob_rows.specs.Drafts.{after}
 use Rattle.ob_rows.specs.Parts.{token, both, each}
-use Rattle.ob_decls.specs.Expressions.{term_piece, factor_piece, element_piece, expr_piece, selected}
-use Rattle.ob_decls.specs.Settling.{settling}
+use Rattle.ob_decls.specs.Expressions.{term_piece, factor_piece, element_piece, expr_piece}
 use Rattle.ob_rows.proofs.Steps.{after_nothing}
 use Rattle.ob_decls.proofs.ExpressionLayers as told
 use Rattle.ob_parse.specs.declared.cursor.Cursor.{Cursor}
@@ -26,7 +25,8 @@ use Rattle.ob_table.specs.Shapes.{compared_outline, compared_piece, set_outline,
 use Rattle.ob_table.specs.Choosing.{dot_at, picked_outline, picking}
 use Rattle.ob_table.proofs.Combine.{told_absent, failed_prefixed}
 use Rattle.ob_table.proofs.CallTrees.{list_told, further_begun, further_more, further_done, some_arguments_told, call_told}
-use Rattle.ob_table.proofs.DesignatorTrees.{FirstNamed, chosen_begun, chosen_next, chosen_all, none_chosen, selector_so, index_told, designator_told}
+use Rattle.ob_table.proofs.DesignatorTrees.{Placed, choosing_to, chosen_begun, chosen_kept, chosen_next, chosen_room, chosen_all, none_chosen, selector_so, index_told, designator_told}
+use Rattle.ob_table.proofs.Room.{place_behind}
 use Rattle.ob_table.proofs.Lists.{listing_smaller, listing_failed, behind_token, repeat_begun, repeat_shorter, repeat_behind, repeat_failed, repeat_done, operations_begun, operation_shorter, operation_told, operation_failed, operations_done}
 use Rattle.ob_table.proofs.ExpressionTrees.{expr_deeper, compared_told, sum_told, sum_failed, term_told, term_failed}
 use Rattle.ob_table.proofs.FactorTrees.{told_factor, leaf_told, name_told, set_told, group_told, not_told, between_failed, closed, some_elements_told, element_list_told, element_told, element_failed, several_failed, high_told}
@@ -248,16 +248,20 @@ high-returns-in-Some t c =
 pub designator-returns-then-not-begins_selector : goal.designator-returns-then-not-begins_selector
 designator-returns-then-not-begins_selector t c =
     let none : front selector_first (uncons (ahead c.args.source.now.tokens.now c.args.input)) ≡ false = sym c.begins_selector.ensures ∙ c.if-not-begins_selector.true in
-    designator_told c.args.source.now.tokens.now c.args.inside c.args.is_written c.args.depth c.args.number _ _ _ _ _ _ _ _ c.check_places.new.draft c.args.input (Ok c.args.input) refl c.first_place-at.ensures c.add_designator.ensures c.open_places.ensures c.name_ahead.ensures c.walk_used.ensures
-    (none_chosen c.args.source.now.tokens.now (selector_with (expr_at c.args.depth)) c.args.inside _ c.first_place-at.result c.args.count (selector_advances c.args.depth _ (expr_at_sound c.args.depth)) _ _ c.args.input none
-    (has_not_begun selector_first (ahead c.args.source.now.tokens.now c.args.input) none) c.check_places.ensures.stage c.check_places.ensures.count)
+    designator_told c.args.source.now.tokens.now c.args.inside false c.args.depth c.args.number _ _ _ _ _ _ c.args.input (Ok c.args.input) refl c.add_designator.ensures c.name_ahead.ensures c.walk_used.ensures
+    (none_chosen c.args.source.now.tokens.now (selector_with (expr_at c.args.depth)) c.args.inside _ (selector_advances c.args.depth _ (expr_at_sound c.args.depth)) _ c.args.input none (has_not_begun selector_first (ahead c.args.source.now.tokens.now c.args.input) none))
 
 pub designator-returns : goal.designator-returns
 designator-returns t c =
-    designator_told c.args.source.now.tokens.now c.args.inside c.args.is_written c.args.depth c.args.number _ _ _ _ _ _ _ _ _ c.args.input _ refl c.first_place-at.ensures c.add_designator.ensures c.open_places.ensures c.name_ahead.ensures c.walk_used.ensures c.selectors.ensures
+    designator_told c.args.source.now.tokens.now c.args.inside false c.args.depth c.args.number _ _ _ _ _ _ c.args.input _ refl c.add_designator.ensures c.name_ahead.ensures c.walk_used.ensures c.selectors.ensures
 
 pub selectors-more-init : goal.selectors-more-init
-selectors-more-init t c = chosen_begun c.args.source.now.tokens.now (selector_with (expr_at c.args.depth)) c.args.inside c.args.head c.args.at _ c.args.input
+selectors-more-init t c =
+    chosen_begun c.args.source.now.tokens.now (selector_with (expr_at c.args.depth)) c.args.inside c.args.head c.next_place-at.result c.next_place-end.result c.selectors_ahead.result _ _ c.args.input c.next_place-at.ensures c.open_places.ensures c.next_place-end.ensures
+
+pub selectors-keep_room-end-requires : goal.selectors-keep_room-end-requires
+selectors-keep_room-end-requires t c =
+    chosen_room c.args.source.now.tokens.now (selector_with (expr_at c.args.depth)) c.args.inside c.args.head c.next_place-at.result c.more.place c.more.end _ _ c.args.input c.more.here c.next_place-at.ensures c.more.invariant
 
 pub selectors-more-smaller : goal.selectors-more-smaller
 selectors-more-smaller t c =
@@ -266,17 +270,24 @@ selectors-more-smaller t c =
 
 pub selectors-more-preserved : goal.selectors-more-preserved
 selectors-more-preserved t c =
-    chosen_next c.args.source.now.tokens.now (selector_with (expr_at c.args.depth)) c.args.inside c.args.head c.args.at c.more.place _ (selector_advances c.args.depth _ (expr_at_sound c.args.depth)) _ _ _ _ c.args.input c.more.here c.in-Ok.next (has_begun selector_first (ahead c.args.source.now.tokens.now c.more.here) (sym c.begins_selector.ensures ∙ c.more-test.true)) c.more.invariant c.in-Ok.ensures c.next_place-place.ensures.stage c.next_place-place.ensures.place
+    chosen_next c.args.source.now.tokens.now (selector_with (expr_at c.args.depth)) c.args.inside c.args.head c.next_place-at.result c.more.place _ _ (selector_advances c.args.depth _ (expr_at_sound c.args.depth)) _ _ _ c.args.input c.more.here c.in-Ok.next
+    (has_begun selector_first (ahead c.args.source.now.tokens.now c.more.here) (sym c.begins_selector.ensures ∙ c.more-test.true))
+    (chosen_kept c.args.source.now.tokens.now (selector_with (expr_at c.args.depth)) c.args.inside c.args.head c.next_place-at.result c.more.place c.more.end _ _ _ _ c.args.input c.more.here c.next_place-at.ensures c.keep_room-end.ensures.room c.more.invariant)
+    c.in-Ok.ensures (λ e. place_behind c.more.place _ c.keep_room-end.new.draft c.saturating_add-place.ensures (c.keep_room-end.ensures.place e))
 
 pub selectors-returns-in-Err : goal.selectors-returns-in-Err
 selectors-returns-in-Err t c =
-    listing_failed {X = Selector} c.args.source.now.tokens.now (begins selector_first) (selector_with (expr_at c.args.depth)) selector_outline (λ xs. settling c.args.head c.args.at (map selected xs) c.args.inside)
-    (λ xs. (c.more.place ≡ c.args.at + length xs) × FirstNamed c.args.source.now.tokens.now c.args.input c.more.here xs) c.in-Err.stop [] (selector_advances c.args.depth _ (expr_at_sound c.args.depth)) _ _ c.args.input c.more.here c.more.here (has_begun selector_first (ahead c.args.source.now.tokens.now c.more.here) (sym c.begins_selector.ensures ∙ c.more-test.true)) c.more.invariant c.in-Err.ensures
+    listing_failed {X = Selector} c.args.source.now.tokens.now (begins selector_first) (selector_with (expr_at c.args.depth)) selector_outline (choosing_to c.args.head c.next_place-at.result c.more.end c.args.inside)
+    (Placed c.args.source.now.tokens.now c.next_place-at.result c.more.place c.more.end c.args.input c.more.here) c.in-Err.stop [] (selector_advances c.args.depth _ (expr_at_sound c.args.depth)) _ _ c.args.input c.more.here c.more.here (has_begun selector_first (ahead c.args.source.now.tokens.now c.more.here) (sym c.begins_selector.ensures ∙ c.more-test.true)) c.more.invariant c.in-Err.ensures
+
+pub selectors-close_places-requires : goal.selectors-close_places-requires
+selectors-close_places-requires t c =
+    chosen_room c.args.source.now.tokens.now (selector_with (expr_at c.args.depth)) c.args.inside c.args.head c.next_place-at.result c.more.place c.more.end _ _ c.args.input c.more.here c.next_place-at.ensures c.more.invariant
 
 pub selectors-returns : goal.selectors-returns
 selectors-returns t c =
     let none : front selector_first (uncons (ahead c.args.source.now.tokens.now c.more.here)) ≡ false = sym c.begins_selector.ensures ∙ c.more-test.false in
-    chosen_all c.args.source.now.tokens.now (selector_with (expr_at c.args.depth)) c.args.inside c.args.head c.args.at c.more.place c.args.count (selector_advances c.args.depth _ (expr_at_sound c.args.depth)) _ _ _ c.args.input c.more.here none (has_not_begun selector_first (ahead c.args.source.now.tokens.now c.more.here) none) c.more.invariant c.check_places.ensures.stage c.check_places.ensures.count
+    chosen_all c.args.source.now.tokens.now (selector_with (expr_at c.args.depth)) c.args.inside c.args.head c.next_place-at.result c.more.place c.more.end (selector_advances c.args.depth _ (expr_at_sound c.args.depth)) _ _ _ c.args.input c.more.here c.next_place-at.ensures none (has_not_begun selector_first (ahead c.args.source.now.tokens.now c.more.here) none) c.more.invariant c.close_places.ensures
 
 pub selector-returns-in-Some-Word-Dot-default : goal.selector-returns-in-Some-Word-Dot-default
 selector-returns-in-Some-Word-Dot-default t c =
@@ -311,14 +322,14 @@ unfolding selector_with
 selector-returns-in_default-3 t c = grind arith
 
 pub index-returns-in-Ok : goal.index-returns-in-Ok
-index-returns-in-Ok t c = index_told c.args.source.now.tokens.now c.args.inside (several kinds.Comma (expr_at c.args.depth)) c.args.head c.args.place c.in-Ok.count _ _ _ _ _ _ c.args.input c.in-Ok.here _ c.keep_place.ensures.stage c.keep_place.ensures.place c.pass.ensures c.in-Ok.ensures c.settle.ensures.row c.pass_word.ensures
+index-returns-in-Ok t c = index_told c.args.source.now.tokens.now c.args.inside (several kinds.Comma (expr_at c.args.depth)) c.args.head c.args.place c.in-Ok.count _ _ _ _ _ c.args.input c.in-Ok.here _ c.requires c.pass.ensures c.in-Ok.ensures c.settle.ensures.row c.pass_word.ensures
 
 pub index-returns-in-Err : goal.index-returns-in-Err
 index-returns-in-Err t c = between_failed c.args.source.now.tokens.now constructs.Selector (word kinds.LeftBracket) (several kinds.Comma (expr_at c.args.depth)) (expect_at kinds.RightBracket) _ (ahead c.args.source.now.tokens.now c.args.input) c.in-Err.ensures
 
 pub call-returns-in-Ok : goal.call-returns-in-Ok
 call-returns-in-Ok t c =
-    call_told c.args.source.now.tokens.now c.args.inside c.args.depth c.args.head c.args.place _ _ _ _ _ _ _ _ _ c.args.input c.in-Ok.here _ refl c.keep_place.ensures.stage c.keep_place.ensures.place c.pass.ensures c.in-Ok.ensures c.lone_name-name.ensures.stage c.lone_name-name.ensures.name c.settle.ensures.row c.pass_word.ensures
+    call_told c.args.source.now.tokens.now c.args.inside c.args.depth c.args.head c.args.place _ _ _ _ _ _ _ _ c.args.input c.in-Ok.here _ refl c.requires c.pass.ensures c.in-Ok.ensures c.lone_name-name.ensures.stage c.lone_name-name.ensures.name c.settle.ensures.row c.pass_word.ensures
 
 pub call-returns-in-Err : goal.call-returns-in-Err
 call-returns-in-Err t c = between_failed c.args.source.now.tokens.now constructs.Selector (word kinds.LeftParen) (optional (unless kinds.RightParen) (several kinds.Comma (expr_at c.args.depth))) (expect_at kinds.RightParen) _ (ahead c.args.source.now.tokens.now c.args.input) c.in-Err.ensures

@@ -96,7 +96,7 @@ abbrev pub decreases-more_expressions : goal.decreases-more_expressions
 decreases-more_expressions l = 16 * l.depth + 1
 
 abbrev pub invariant-selectors-more : goal.invariant-selectors-more
-invariant-selectors-more l = ChosenListing l.fn.source.tokens.now (selector_with (expr_at l.depth)) l.inside l.head l.at l.place l.initial.draft l.draft l.fn.input l.here
+invariant-selectors-more l = ChosenListing l.fn.source.tokens.now (selector_with (expr_at l.depth)) l.inside l.head l.at l.place l.end l.fn.draft l.draft l.fn.input l.here
 
 abbrev pub decreases-selectors-more : goal.decreases-selectors-more
 decreases-selectors-more l = length (ahead l.fn.source.tokens.now l.here)

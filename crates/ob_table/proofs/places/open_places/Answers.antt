@@ -1,7 +1,7 @@
 use Rattle.std.proofs.Common.{sym, ap, ◌∙◌, ◌∷◌, []}
 use Rattle.ob_rows.specs.Drafts.{added, stage_of}
 use Rattle.ob_rows.specs.Parts.{these_selectors}
-use Rattle.ob_rows.specs.declared.rows.Step.TheVariants as steps
+use Rattle.ob_table.specs.Mending.{blank}
 use Rattle.ob_table.proofs.Room.{no_places, more_places}
 use Rattle.ob_table.proofs.places.open_places.Goals as goal
 
@@ -12,4 +12,4 @@ pub loop-place-preserved : goal.loop-place-preserved
 loop-place-preserved c = λ e.
     let b = c.add_selector.ensures e in
     let a = c.loop-place.invariant b.0 in
-    (a.0, b.1 ∙ ap (added (these_selectors (record { of = c.args.head; step = steps.Target } ∷ []))) a.1 ∙ sym (more_places c.args.head c.loop-place.place (stage_of c.args.draft.now)))
+    (a.0, b.1 ∙ ap (added (these_selectors (blank c.args.head ∷ []))) a.1 ∙ sym (more_places c.args.head c.loop-place.place (stage_of c.args.draft.now)))

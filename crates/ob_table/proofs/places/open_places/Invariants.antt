@@ -1,6 +1,6 @@
 use Rattle.ob_rows.specs.Drafts.{added, ComesTo}
 use Rattle.ob_rows.specs.Parts.{these_selectors}
-use Rattle.ob_table.specs.Choosing.{places}
+use Rattle.ob_table.specs.Mending.{places}
 use Rattle.ob_table.proofs.places.open_places.Given as goal
 
 abbrev pub invariant-loop-place : goal.invariant-loop-place
