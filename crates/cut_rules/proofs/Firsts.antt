@@ -16,16 +16,9 @@ use Rattle.cut_rules.specs.Judged.{told_text, AreFirst, AreFirstOf, AreNamed, Ar
 use Rattle.cut_rules.specs.Verdicts.{first_of, Broken, ComesBefore}
 use Rattle.cut_rules.proofs.Telling.{all_pairs_append, front_is_of, line_before, next_is_later, one_more_of, same_ends_chain, some_more, some_of_more, some_of_rule, some_wider, told_ascend}
 
--- all are the first ones, and so is none
+-- all are the first ones
 pub first_all : (leads : ℕ → ℕ → Type 0) (ends : List ℕ) (line : ℕ) (members : List ℕ) (told : List Broken) → AreTold leads ends line members told → AreFirst leads ends line members told
 first_all leads ends line members told are = record { each = are.each; ascending = are.ascending; before = λ b m chain has less there is. are.all m chain there is }
-
-pub first_none : (leads : ℕ → ℕ → Type 0) (ends : List ℕ) (line : ℕ) (members : List ℕ) → AreFirst leads ends line members []
-first_none leads ends line members = record {
-  each = λ b has. no_member b has;
-  ascending = λ i j d lt l. absurd (omega arith);
-  before = λ b m chain has less there is. no_member b has;
-}
 
 first_of_none : (leads : ℕ → ℕ → Type 0) (files : List File) (spans : List Span) (nodes : ℕ) (rules : List Rule) → AreFirstOf leads files spans nodes rules []
 first_of_none leads files spans nodes rules = record {

@@ -10,7 +10,7 @@ use Rattle.cut_net.specs.Network.{Network}
 use Rattle.cut_rules.specs.declared.file.File.{File}
 use Rattle.cut_rules.specs.RuleLines.{Forbid, Says}
 use Rattle.cut_rules.specs.Rules.{Counts, IsIn}
-use Rattle.cut_rules.specs.Verdicts.{first_of, AreBroken, AreMembers, Breaks, Broken, ComesBefore}
+use Rattle.cut_rules.specs.Verdicts.{first_of, AreBroken, AreFirstBroken, AreMembers, Breaks, Broken, ComesBefore}
 use Rattle.cut_rules.proofs.Fronts.{one_list}
 use Rattle.cut_rules.proofs.LineLaws.{says_one}
 use Rattle.cut_rules.proofs.Telling.{same_ends_chain}
@@ -64,6 +64,10 @@ module _ (net : Network) (files : List File) (pieces : List (List ℕ)) where
   in_broken broken all b breaks =
       let (c, there, line, start) = all.all b.line (first_of b) breaks.ends b.chain breaks.forbidden breaks.least.is_chain in
       subst (Contains broken) (one_broken c b (all.each c there) breaks line start) there
+
+  -- all that are told are the first ones
+  pub all_first : (broken : List Broken) → AreBroken net files pieces broken → AreFirstBroken net files pieces broken
+  all_first broken all = record { each = all.each; ascending = all.ascending; before = λ b c has breaks less. in_broken broken all c breaks }
 
 pub before_apart : (b c : Broken) → ComesBefore b c → ComesBefore c b → ⊥
 before_apart b c first second = elim first [

@@ -25,7 +25,7 @@ use Rattle.cut_rules.specs.Rules.{Counts, IsIn, Itself, Lies, Listed}
 use Rattle.cut_rules.specs.Drafts.{number_by, number_of, InSpans, IsListedWithin}
 use Rattle.cut_rules.specs.Judged.{AreFirstOf, AreNamed, AreSomeOf, AreToldOf, IsCounted, IsEarlier, IsTold}
 use Rattle.cut_rules.specs.Outcomes.{AreRulesOf}
-use Rattle.cut_rules.specs.Verdicts.{first_of, AreBroken, AreMembers, Breaks, Broken, ComesBefore, IsForbidden}
+use Rattle.cut_rules.specs.Verdicts.{first_of, AreBroken, AreFirstBroken, AreMembers, Breaks, Broken, ComesBefore, IsForbidden}
 use Rattle.cut_rules.proofs.Fronts.{front_of}
 use Rattle.cut_rules.proofs.LineLaws.{says_one}
 use Rattle.cut_rules.proofs.OneVerdict.{before_apart, in_broken, one_broken}
@@ -178,7 +178,7 @@ module _ (net : Network) (network : IsNetwork net) (files : List File) (pieces :
           least = least_into_as (Leads edges) (Counts net pieces) (same_leads edges counted) (first_of b) told.ends b.chain told.least;
         }
 
-    pub each_breaks : (told : List Broken) → AreSomeOf (Leads edges) rules.files.items spans nodes rules.draft.rules.items told → (b : Broken) → Contains told b → Breaks net files pieces b
+    each_breaks : (told : List Broken) → AreSomeOf (Leads edges) rules.files.items spans nodes rules.draft.rules.items told → (b : Broken) → Contains told b → Breaks net files pieces b
     each_breaks told some b has = let (r, there, is) = some b has in breaks r b there is
 
     -- the rule of a line that forbids a chain, with the module and the ends by the rule's numbers
@@ -208,13 +208,20 @@ module _ (net : Network) (network : IsNetwork net) (files : List File) (pieces :
           (b, has, line_is ∙ same, start);
     }
 
+    -- what is told of the rules at first is told of their text at first
+    pub first_are : (told : List Broken) → AreFirstOf (Leads edges) rules.files.items spans nodes rules.draft.rules.items told → AreFirstBroken net files pieces told
+    first_are told first = record {
+      each = each_breaks told first.each;
+      ascending = first.ascending;
+      before = λ b c has breaks less.
+          let (r, in_rules, same, named, ends_named, into) = rule_of c.line (first_of c) breaks.ends c.chain breaks.forbidden breaks.least.is_chain in
+          let earlier = subst (λ (n : ℕ). IsEarlier n (first_of c) b) (sym same) less in
+          let (d, told_there, line, start) = first.before b r (first_of c) breaks.ends c.chain has earlier in_rules breaks.forbidden.low named ends_named into in
+          subst (Contains told) (one_broken net files pieces d c (each_breaks told first.each d told_there) breaks (line ∙ same) start) told_there;
+    }
+
     -- the first that are told are a front of all
     pub first_broken : (told broken : List Broken) → AreFirstOf (Leads edges) rules.files.items spans nodes rules.draft.rules.items told → AreBroken net files pieces broken → (rest : List Broken) × (broken ≡ told ++ rest)
-    first_broken told broken first all = front_of ComesBefore before_apart told broken first.ascending all.ascending
-        (λ b has. in_broken net files pieces broken all b (each_breaks told first.each b has))
-        (λ b c has there less.
-        let breaks = all.each c there in
-        let (r, in_rules, same, named, ends_named, into) = rule_of c.line (first_of c) breaks.ends c.chain breaks.forbidden breaks.least.is_chain in
-        let earlier = subst (λ (n : ℕ). IsEarlier n (first_of c) b) (sym same) less in
-        let (d, told_there, line, start) = first.before b r (first_of c) breaks.ends c.chain has earlier in_rules breaks.forbidden.low named ends_named into in
-        subst (Contains told) (one_broken net files pieces d c (each_breaks told first.each d told_there) breaks (line ∙ same) start) told_there)
+    first_broken told broken first all =
+        let own = first_are told first in
+        front_of ComesBefore before_apart told broken own.ascending all.ascending (λ b has. in_broken net files pieces broken all b (own.each b has)) (λ b c has there less. own.before b c has (all.each c there) less)

@@ -60,13 +60,19 @@ pub record AreBroken (net : Network) (files : List File) (pieces : List (List �
   pub ascending : AllPairs ComesBefore broken
   pub all : (line m : ℕ) (ends chain : List ℕ) → IsForbidden net files pieces line m ends → AreChainInto (Counts net pieces) m ends chain → (b : Broken) × Contains broken b × (b.line ≡ line) × (first_of b ≡ m)
 
+-- these are the first that are told: in order, and none that comes before one of them is left out
+pub record AreFirstBroken (net : Network) (files : List File) (pieces : List (List ℕ)) (broken : List Broken) : Type 0 where
+  pub each : (b : Broken) → Contains broken b → Breaks net files pieces b
+  pub ascending : AllPairs ComesBefore broken
+  pub before : (b c : Broken) → Contains broken b → Breaks net files pieces c → ComesBefore c b → Contains broken c
+
 -- whether there is none
 abbrev pub is_none : List Broken → Bool
 is_none [] = true
 is_none (_ ∷ _) = false
 
--- a sink that stopped has a front of lines of chains that break the rules, or of yes, where none does
+-- a sink that stopped has a front of the lines of the first chains that are told, or of yes, where none is
 abbrev pub PutsSome : Network → List File → List (List ℕ) → Option (List ℕ) → Option (List ℕ) → Type 0
 PutsSome net files pieces old new =
-    ((broken : List Broken) × ((b : Broken) → Contains broken b → Breaks net files pieces b) × AppendsFront old new (flat_map (broken_line net) broken))
+    ((broken : List Broken) × AreFirstBroken net files pieces broken × AppendsFront old new (flat_map (broken_line net) broken))
     ⊎ (AreBroken net files pieces [] × AppendsFront old new (verdict_text net []))

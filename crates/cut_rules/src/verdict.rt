@@ -248,9 +248,9 @@ pub fn write_verdict<S: Sink>(
     // The chains that are told are all that break the rules, and they are kept exactly where there is none.
     ensures told { IfOk result (λ kept. (files : List TreeFile) (pieces : List (List ℕ)) → AreRulesOf net.now files pieces rules.now → (broken : List Broken) × AreBroken net.now files pieces broken
         × (kept ≡ is_none broken) × Appends (S.taken sink.old) (S.taken sink.new) (verdict_text net.now broken)) }
-    // After a refusal a front of lines of such chains is taken, or of yes where there is none.
+    // After a refusal a front of the lines of the first such chains is taken, or of yes where there is none.
     ensures broken { IfErr result (λ _. (files : List TreeFile) (pieces : List (List ℕ)) → AreRulesOf net.now files pieces rules.now → PutsSome net.now files pieces (S.taken sink.old) (S.taken sink.new)) }
-    // It is a front of the text of all that are told, so that its lines are in order, each once, and none before them is left out.
+    // It is a front of the text of all that are told.
     ensures front { IfErr result (λ _. (files : List TreeFile) (pieces : List (List ℕ)) → AreRulesOf net.now files pieces rules.now → (broken : List Broken) → AreBroken net.now files pieces broken
         → AppendsFront (S.taken sink.old) (S.taken sink.new) (verdict_text net.now broken)) }
     // Device is answered where the sink counted a failure, and nowhere else.

@@ -8,8 +8,8 @@ use Rattle.cut_net.specs.Network.{none_there}
 use Rattle.byte_sink.specs.Sinks.{AppendsFront}
 use Rattle.cut_rules.specs.Verdicts.{verdict_text, AreBroken, Broken}
 use Rattle.cut_rules.proofs.Ending.{all_begun, all_put, front_of_all, none_told, some_told, verdict_is, yes_begun, yes_put}
-use Rattle.cut_rules.proofs.OneVerdict.{one_verdict}
-use Rattle.cut_rules.proofs.Verdicts.{all_broken, each_breaks, first_broken}
+use Rattle.cut_rules.proofs.OneVerdict.{all_first, one_verdict}
+use Rattle.cut_rules.proofs.Verdicts.{all_broken, first_are, first_broken}
 use Rattle.cut_rules.proofs.verdict.write_verdict.Goals as goal
 
 pub graph_of-requires-clause-between : goal.graph_of-requires-clause-between
@@ -26,7 +26,7 @@ returns-in_err-any-clause-broken g c =
     let edges = c.in-Ok-graph_of.ensures.edges ∙ c.as_slice-2.ensures.value in
     let counted = rw c.as_slice.ensures.value at c.in-Ok.ensures.are in
     let (told, some, front) = rw (c.new-text.ensures.bytes, edges) at c.in_err-any.ensures.broken in
-    rw p.1 (λ files pieces are. inl (told, each_breaks c.args.net.now c.keeps.ensures.network files pieces c.args.rules.now are c.in-Ok.edges.items counted told some.each, front))
+    rw p.1 (λ files pieces are. inl (told, first_are c.args.net.now c.keeps.ensures.network files pieces c.args.rules.now are c.in-Ok.edges.items counted told some, front))
 
 pub returns-in_err-put_all-clause-broken : goal.returns-in_err-put_all-clause-broken
 returns-in_err-put_all-clause-broken g c =
@@ -62,7 +62,7 @@ returns-in_err-put_all-2-clause-broken g c =
     let some = some_told told c.in_ok-any.any any c.if-not-any.false in
     rw p.1 (λ files pieces are. inl (
       told,
-      each_breaks c.args.net.now c.keeps.ensures.network files pieces c.args.rules.now are c.in-Ok.edges.items counted told all.each,
+      all_first c.args.net.now files pieces told (all_broken c.args.net.now c.keeps.ensures.network files pieces c.args.rules.now are c.in-Ok.edges.items counted told all),
       all_begun c.args.net.now _ _ _ told (string_bytes c.push_rules.new.text) some puts (rw c.as_bytes.ensures.value at c.in_err-put_all-2.ensures.puts),
     ))
 
