@@ -1,7 +1,8 @@
 // Runs the program on seeded changes of the examples: fuzz PROGRAM EXAMPLES SEED RUNS
 // or, with the seed 0, on every front of the examples and on each of them with one byte changed at each place.
 // Each run has to end within two seconds, by itself, with a status and a line that docs/FORMATS.md names; a cut that was put
-// has to pass the check, and an index to be the same by one worker and by four. It stops at the first run that does otherwise,
+// has to pass the check, an index to be the same by one worker and by four, a symbol to be defined by its text where it is by its
+// place, and the first of a tree's faults to be what other commands tell. It stops at the first run that does otherwise,
 // and keeps its folder. Works in a new folder below TMPDIR.
 #include <algorithm>
 #include <cerrno>
@@ -184,7 +185,7 @@ bool is_documented(const Words &words, const Ended &ended) {
     }
     case 1: return put.empty() && is_like(told, FAULT);
     case 2: return put.empty() && told.rfind("error: ", 0) == 0;
-    case 3: return is_like(told, "oscip: cannot (read|write)( [^]*)?\n");
+    case 3: return is_like(told, words[0] == "index" ? "(oscip: (" FILE_FAULT ")\n)*oscip: cannot (read|write)( [^]*)?\n" : "oscip: cannot (read|write)( [^]*)?\n");
     case 5:
         if (words[0] == "index") return is_like(told, LEFT_OUT) && is_like(put, "([0-9a-f]*\n)?");
         if (!told.empty()) return false;
@@ -321,7 +322,10 @@ void try_tree(const Examples &examples) {
     std::filesystem::remove_all("tree");
     std::filesystem::create_directories("tree/in");
     size_t worse = below(examples.tree.size() + 1), number = 0;
-    for (const auto &[name, text] : examples.tree) write_file((one_in(3) ? "tree/in/" : "tree/") + name, number++ == worse ? changed(text, examples.modules) : text);
+    for (const auto &[name, text] : examples.tree) {
+        Text at = one_in(3) ? "tree/in/" : "tree/";
+        write_file(at + name, number++ == worse ? changed(text, examples.modules) : text);
+    }
     if (one_in(3)) {
         const Text &module = one_of(examples.modules);
         write_file("tree/More.Mod", one_in(4) ? module : changed(module, examples.modules));
@@ -387,6 +391,8 @@ void try_all(const Examples &examples) {
     tried({"index", "tree", "index"});
     try_each(read_file("index"), "index", {{"def", "index", "A.Mod", "0", "7"}, {"refs", "index", "C.Mod", "0", "93"}});
     tried({"rules", "tree", "gone"});
+    std::filesystem::create_directory("tree/in");
+    write_file("tree/in/E.Mod", "MODULE E; IMPORT D; END E.");
     for (const Text &text : examples.rules) try_each(text, "rules", {{"rules", "tree", "rules"}});
     std::filesystem::create_directory("one");
     for (const auto &[name, text] : examples.tree) {

@@ -17,12 +17,12 @@ words_status (Line text) = 2
 words_status (Help text) = 0
 words_status Memory = 4
 
--- how a run may end: with its status, but with 4 where no memory is left for the line of its fault
+-- how a run may end: with its status, or behind a fault with 4, which is meant for want of memory for its line
 abbrev pub EndsRun : Result Bool RunFault → ℕ → Type 0
 EndsRun (Ok agrees) status = status ≡ run_status (Ok agrees)
 EndsRun (Err fault) status = (status ≡ run_status (Err fault)) ⊎ (status ≡ 4)
 
--- how words may end that give no job: with their status, but help that can't be put with 3, or with 4 where no memory is left for the line of that
+-- how words may end that give no job: with their status, or behind help with 3 or 4, which are meant for help that can't be put
 abbrev pub EndsWords : JobFault → ℕ → Type 0
 EndsWords (Line text) status = status ≡ 2
 EndsWords (Help text) status = (status ≡ 0) ⊎ ((status ≡ 3) ⊎ (status ≡ 4))

@@ -61,7 +61,7 @@ pub fn end_of<R: AllocGlobal + Eprint>(rt: &R, ended: &Result<bool, RunFault>) -
 }
 
 /// Tells on standard error why there is no job, or puts the help that was asked for to standard output, and gives the status of that
-/// end: as `status_of_words`, but where help can't be put that of `Device`.
+/// end: as `status_of_words`, but where help can't be put as `end_of` ends behind `Device`.
 pub fn end_without_job<R: AllocGlobal + Print + Eprint>(rt: &R, fault: &JobFault) -> ExitCode
     ensures { EndsWords fault.now (exit_status result) }
 {
