@@ -1,5 +1,5 @@
 -- Where a tree derives tokens, the places of its identifiers are their numbers.
-use Rattle.std.proofs.Common.{◌≡◌, ℕ, zero, suc, ◌+◌, ◌<◌, ◌≤◌, ◌⊎◌, inl, inr, List, [], ◌∷◌, length, get_or, map, Some, refl, sym, ap, ap₂, ◌∙◌, subst, arith}
+use Rattle.std.proofs.Common.{◌≡◌, ℕ, zero, suc, ◌+◌, ◌<◌, ◌≤◌, ◌⊎◌, inl, inr, List, [], ◌∷◌, ◌++◌, length, get_or, map, Some, refl, sym, ap, ap₂, ◌∙◌, subst, arith}
 use Rattle.std.specs.Prelude.{Contains, slice_get}
 use Rattle.std.proofs.lemmas.Option.{get_or_from_slice_get, slice_get-get_or, slice_get_within}
 use Rattle.ob_scan.specs.declared.kind.Kind.{Kind}
@@ -9,8 +9,9 @@ use Rattle.ob_tree.specs.declared.expression.Literal.{Literal}
 use Rattle.ob_tree.specs.declared.role.Role.TheVariants.{Declares, Aliases, Imports, Uses, Completes, Selects, Names, Repeats}
 use Rattle.ob_tree.specs.declared.token.Leaf.{Leaf}
 use Rattle.ob_tree.specs.declared.token.Leaf.TheVariants as leafs
-use Rattle.ob_tree.specs.Declaring.{module_outline}
-use Rattle.ob_tree.specs.Derives.{Derives, declared_in, used_in, spelling}
+use Rattle.ob_tree.specs.Declaring.{declarations_outline, module_outline}
+use Rattle.ob_tree.specs.Derives.{Derives, declared_in, endings_in, used_in, spelling}
+use Rattle.ob_tree.proofs.EndNames.{module_ends}
 use Rattle.ob_tree.specs.Leaves.{leaf_of, leaves_from}
 use Rattle.ob_tree.specs.Marks.{Out, Begins, Ends, Identifier, Value, Word, construct, tokens_of}
 use Rattle.ob_rows.specs.declared.rows.Declared.{Declared}
@@ -19,7 +20,8 @@ use Rattle.ob_rows.specs.declared.rows.Used.{Used}
 use Rattle.ob_rows.specs.Order.{AscendBy}
 use Rattle.ob_rows.specs.Tables.{own_name}
 use Rattle.ob_decls.specs.Declaring.{rows_of, outermost}
-use Rattle.ob_decls.specs.Naming.{IsNamed}
+use Rattle.ob_decls.specs.Naming.{IsNamed, ending_of}
+use Rattle.ob_decls.proofs.Closing.{AreCounted, module_closes}
 use Rattle.ob_decls.proofs.LinedModules.{rows_in_order}
 use Rattle.ob_decls.proofs.Mirrored.{declares_at, uses_at}
 use Rattle.ob_decls.proofs.Named.{AtNames}
@@ -44,47 +46,54 @@ number_of : (k n : ℕ) (x : Kind) → leaf_of k x ≡ leafs.Name n → k ≡ n
 number_of k n kinds.Ident e = cc
 number_of k n x e = absurd cc
 
-declares_derived : (k : ℕ) (ks : List Kind) (o : Out) → leaves_from k ks ≡ tokens_of o → declares_at k o ≡ declared_in o
-declares_derived k ks [] e = refl
-declares_derived k ks (Begins c m ∷ ms) e = declares_derived k ks ms e
-declares_derived k ks (Ends c ∷ ms) e = declares_derived k ks ms e
-declares_derived k ks (Identifier (Declares starred) m ∷ ms) e =
+counted_derived : (k : ℕ) (ks : List Kind) (o : Out) → leaves_from k ks ≡ tokens_of o → AreCounted k o
+unfolding AreCounted
+counted_derived k ks [] e = tt
+counted_derived k ks (Begins c m ∷ ms) e = counted_derived k ks ms e
+counted_derived k ks (Ends c ∷ ms) e = counted_derived k ks ms e
+counted_derived k ks (Identifier r m ∷ ms) e =
     let s = step k ks (leafs.Name m) (tokens_of ms) e in
-    ap₂ (λ (n : ℕ) (ns : List ℕ). n ∷ ns) (number_of k m s.kind s.head) (declares_derived (suc k) s.rest ms s.tail)
-declares_derived k ks (Identifier Aliases m ∷ ms) e =
-    let s = step k ks (leafs.Name m) (tokens_of ms) e in
-    ap₂ (λ (n : ℕ) (ns : List ℕ). n ∷ ns) (number_of k m s.kind s.head) (declares_derived (suc k) s.rest ms s.tail)
-declares_derived k ks (Identifier Imports m ∷ ms) e = let s = step k ks (leafs.Name m) (tokens_of ms) e in declares_derived (suc k) s.rest ms s.tail
-declares_derived k ks (Identifier Uses m ∷ ms) e = let s = step k ks (leafs.Name m) (tokens_of ms) e in declares_derived (suc k) s.rest ms s.tail
-declares_derived k ks (Identifier Completes m ∷ ms) e = let s = step k ks (leafs.Name m) (tokens_of ms) e in declares_derived (suc k) s.rest ms s.tail
-declares_derived k ks (Identifier Selects m ∷ ms) e = let s = step k ks (leafs.Name m) (tokens_of ms) e in declares_derived (suc k) s.rest ms s.tail
-declares_derived k ks (Identifier Names m ∷ ms) e = let s = step k ks (leafs.Name m) (tokens_of ms) e in declares_derived (suc k) s.rest ms s.tail
-declares_derived k ks (Identifier (Repeats r) m ∷ ms) e = let s = step k ks (leafs.Name m) (tokens_of ms) e in declares_derived (suc k) s.rest ms s.tail
-declares_derived k ks (Value l m ∷ ms) e = let s = step k ks (leafs.Value l m) (tokens_of ms) e in declares_derived (suc k) s.rest ms s.tail
-declares_derived k ks (Word w ∷ ms) e = let s = step k ks (leafs.Word w) (tokens_of ms) e in declares_derived (suc k) s.rest ms s.tail
+    (sym (number_of k m s.kind s.head), counted_derived (suc k) s.rest ms s.tail)
+counted_derived k ks (Value l m ∷ ms) e = let s = step k ks (leafs.Value l m) (tokens_of ms) e in counted_derived (suc k) s.rest ms s.tail
+counted_derived k ks (Word w ∷ ms) e = let s = step k ks (leafs.Word w) (tokens_of ms) e in counted_derived (suc k) s.rest ms s.tail
 
-uses_derived : (k : ℕ) (ks : List Kind) (o : Out) → leaves_from k ks ≡ tokens_of o → uses_at k o ≡ used_in o
-uses_derived k ks [] e = refl
-uses_derived k ks (Begins c m ∷ ms) e = uses_derived k ks ms e
-uses_derived k ks (Ends c ∷ ms) e = uses_derived k ks ms e
-uses_derived k ks (Identifier Uses m ∷ ms) e =
-    let s = step k ks (leafs.Name m) (tokens_of ms) e in
-    ap₂ (λ (n : ℕ) (ns : List ℕ). n ∷ ns) (number_of k m s.kind s.head) (uses_derived (suc k) s.rest ms s.tail)
-uses_derived k ks (Identifier (Declares starred) m ∷ ms) e = let s = step k ks (leafs.Name m) (tokens_of ms) e in uses_derived (suc k) s.rest ms s.tail
-uses_derived k ks (Identifier Aliases m ∷ ms) e = let s = step k ks (leafs.Name m) (tokens_of ms) e in uses_derived (suc k) s.rest ms s.tail
-uses_derived k ks (Identifier Imports m ∷ ms) e = let s = step k ks (leafs.Name m) (tokens_of ms) e in uses_derived (suc k) s.rest ms s.tail
-uses_derived k ks (Identifier Completes m ∷ ms) e = let s = step k ks (leafs.Name m) (tokens_of ms) e in uses_derived (suc k) s.rest ms s.tail
-uses_derived k ks (Identifier Selects m ∷ ms) e = let s = step k ks (leafs.Name m) (tokens_of ms) e in uses_derived (suc k) s.rest ms s.tail
-uses_derived k ks (Identifier Names m ∷ ms) e = let s = step k ks (leafs.Name m) (tokens_of ms) e in uses_derived (suc k) s.rest ms s.tail
-uses_derived k ks (Identifier (Repeats r) m ∷ ms) e = let s = step k ks (leafs.Name m) (tokens_of ms) e in uses_derived (suc k) s.rest ms s.tail
-uses_derived k ks (Value l m ∷ ms) e = let s = step k ks (leafs.Value l m) (tokens_of ms) e in uses_derived (suc k) s.rest ms s.tail
-uses_derived k ks (Word w ∷ ms) e = let s = step k ks (leafs.Word w) (tokens_of ms) e in uses_derived (suc k) s.rest ms s.tail
+declares_counted : (k : ℕ) (o : Out) → AreCounted k o → declares_at k o ≡ declared_in o
+unfolding AreCounted
+declares_counted k [] h = refl
+declares_counted k (Begins c n ∷ ms) h = declares_counted k ms h
+declares_counted k (Ends c ∷ ms) h = declares_counted k ms h
+declares_counted k (Identifier (Declares starred) n ∷ ms) h = ap₂ (λ (i : ℕ) (is : List ℕ). i ∷ is) (sym h.0) (declares_counted (suc k) ms h.1)
+declares_counted k (Identifier Aliases n ∷ ms) h = ap₂ (λ (i : ℕ) (is : List ℕ). i ∷ is) (sym h.0) (declares_counted (suc k) ms h.1)
+declares_counted k (Identifier Imports n ∷ ms) h = declares_counted (suc k) ms h.1
+declares_counted k (Identifier Uses n ∷ ms) h = declares_counted (suc k) ms h.1
+declares_counted k (Identifier Completes n ∷ ms) h = declares_counted (suc k) ms h.1
+declares_counted k (Identifier Selects n ∷ ms) h = declares_counted (suc k) ms h.1
+declares_counted k (Identifier Names n ∷ ms) h = declares_counted (suc k) ms h.1
+declares_counted k (Identifier (Repeats r) n ∷ ms) h = declares_counted (suc k) ms h.1
+declares_counted k (Value l n ∷ ms) h = declares_counted (suc k) ms h
+declares_counted k (Word w ∷ ms) h = declares_counted (suc k) ms h
+
+uses_counted : (k : ℕ) (o : Out) → AreCounted k o → uses_at k o ≡ used_in o
+unfolding AreCounted
+uses_counted k [] h = refl
+uses_counted k (Begins c n ∷ ms) h = uses_counted k ms h
+uses_counted k (Ends c ∷ ms) h = uses_counted k ms h
+uses_counted k (Identifier (Declares starred) n ∷ ms) h = uses_counted (suc k) ms h.1
+uses_counted k (Identifier Aliases n ∷ ms) h = uses_counted (suc k) ms h.1
+uses_counted k (Identifier Imports n ∷ ms) h = uses_counted (suc k) ms h.1
+uses_counted k (Identifier Uses n ∷ ms) h = ap₂ (λ (i : ℕ) (is : List ℕ). i ∷ is) (sym h.0) (uses_counted (suc k) ms h.1)
+uses_counted k (Identifier Completes n ∷ ms) h = uses_counted (suc k) ms h.1
+uses_counted k (Identifier Selects n ∷ ms) h = uses_counted (suc k) ms h.1
+uses_counted k (Identifier Names n ∷ ms) h = uses_counted (suc k) ms h.1
+uses_counted k (Identifier (Repeats r) n ∷ ms) h = uses_counted (suc k) ms h.1
+uses_counted k (Value l n ∷ ms) h = uses_counted (suc k) ms h
+uses_counted k (Word w ∷ ms) h = uses_counted (suc k) ms h
 
 pub counted_declared : (ks : List Kind) (m : Module) → Derives ks m → map (λ (d : Declared). d.number) (rows_of m).declared ≡ declared_in (module_outline m)
-counted_declared ks m d = (m-module m).declares outermost 0 ∙ declares_derived 0 ks (module_outline m) d
+counted_declared ks m d = (m-module m).declares outermost 0 ∙ declares_counted 0 (module_outline m) (counted_derived 0 ks (module_outline m) d)
 
 pub counted_used : (ks : List Kind) (m : Module) → Derives ks m → map (λ (u : Used). u.number) (rows_of m).uses ≡ used_in (module_outline m)
-counted_used ks m d = (m-module m).uses outermost 0 ∙ uses_derived 0 ks (module_outline m) d
+counted_used ks m d = (m-module m).uses outermost 0 ∙ uses_counted 0 (module_outline m) (counted_derived 0 ks (module_outline m) d)
 
 -- ---- the kinds of identifiers
 
@@ -222,6 +231,11 @@ second (x ∷ y ∷ ks) l n ls e = let s : leaf_of 1 y ≡ leafs.Name n = cc in 
 
 pub own_ident : (ks : List Kind) (m : Module) → Derives ks m → (m.name ≡ own_name) × (slice_get ks own_name ≡ Some kinds.Ident)
 own_ident ks m d = let (l, ls, e) = name_spelled m in second ks l m.name ls (d ∙ e)
+
+pub counted_endings : (ks : List Kind) (m : Module) → Derives ks m → map ending_of (rows_of m).ends ≡ endings_in (module_outline m)
+counted_endings ks m d =
+    module_closes m outermost (counted_derived 0 ks (module_outline m) d)
+    ∙ ap (λ (n : ℕ). endings_in (declarations_outline m.declarations) ++ (n, m.end_name) ∷ []) (sym (own_ident ks m d).0) ∙ sym (module_ends m)
 
 -- ---- each identifier
 

@@ -33,6 +33,8 @@ pub mod ReadingModules
 pub mod Quiet
 pub mod QuietExpressions
 pub mod QuietStatements
+pub mod Silent
+pub mod Closing
 pub mod Formed
 pub mod FormedTypes
 pub mod FormedModules

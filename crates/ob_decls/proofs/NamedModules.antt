@@ -37,15 +37,15 @@ use Rattle.ob_decls.proofs.NamedTypes.{n-identdef, n-parameters, n-type, n-var}
 
 -- ---- declarations of one name or more
 
-n-const : (c : ConstDecl) → Named (const_piece c) (const_outline c)
+pub n-const : (c : ConstDecl) → Named (const_piece c) (const_outline c)
 unfolding const_piece const_outline
 n-const c = n-held constructs.ConstDeclaration (n-declaring sorts.Constant (n-both (n-identdef c.name) (n-both (n-word kinds.Equals) (n-expr c.value))))
 
-n-type_decl : (t : TypeDecl) → Named (type_decl_piece t) (type_decl_outline t)
+pub n-type_decl : (t : TypeDecl) → Named (type_decl_piece t) (type_decl_outline t)
 unfolding type_decl_piece type_decl_outline
 n-type_decl t = n-held constructs.TypeDeclaration (n-declaring sorts.Type (n-both (n-identdef t.name) (n-both (n-word kinds.Equals) (n-type t.form))))
 
-n-variables : (v : VarDecl) → Named (variable_piece v) (variable_outline v)
+pub n-variables : (v : VarDecl) → Named (variable_piece v) (variable_outline v)
 unfolding variable_piece variable_outline
 n-variables v = n-held constructs.VariableDeclaration (n-declaring sorts.Variable (n-var v))
 
@@ -53,7 +53,7 @@ pub n-import : (i : ImportItem) → Named (import_piece i) (import_outline i)
 unfolding import_piece import_inner import_outline
 n-import i = n-held constructs.Import (n-declaring sorts.Import (n-item i.of i.name))
 
-n-part : {X : Type 0} (k : Kind) (f : X → Piece) (g : X → Out) (xs : List X) → ((x : X) → Named (f x) (g x)) → Named (told_part f xs) (part k g xs)
+pub n-part : {X : Type 0} (k : Kind) (f : X → Piece) (g : X → Out) (xs : List X) → ((x : X) → Named (f x) (g x)) → Named (told_part f xs) (part k g xs)
 n-part k f g xs w = n-both (n-word k) (c-each named (λ x. both (f x) token) (λ x. g x ++ word kinds.Semicolon) xs (λ x. n-both (w x) (n-word kinds.Semicolon)))
 
 -- each part mirrors its outline
@@ -89,7 +89,7 @@ steps = record {
 pub n-declarations : (d : Declarations) → Named (declarations_piece d) (declarations_outline d)
 n-declarations = declarations_induction predicates steps
 
-n-imports : (l : OneOrMore ImportItem) → Named (imports_piece l) (word kinds.Import ++ (separated kinds.Comma import_outline l ++ word kinds.Semicolon))
+pub n-imports : (l : OneOrMore ImportItem) → Named (imports_piece l) (word kinds.Import ++ (separated kinds.Comma import_outline l ++ word kinds.Semicolon))
 unfolding imports_piece
 n-imports l = n-both (n-word kinds.Import) (c-three named (n-import l.first)
     (c-each named (λ i. both token (import_piece i)) (λ i. word kinds.Comma ++ import_outline i) l.rest.items (λ i. n-both (n-word kinds.Comma) (n-import i))) (n-word kinds.Semicolon))

@@ -1,5 +1,5 @@
--- In which rows an identifier of a module stands (Oberon-07 report, sections 4 to 11).
-use Rattle.std.specs.Prelude.{◌≡◌, ℕ, Some, Contains}
+-- In which rows an identifier of a module stands, and what a name behind END repeats (Oberon-07 report, sections 4 to 11).
+use Rattle.std.specs.Prelude.{◌≡◌, ℕ, Option, None, Some, Contains}
 use Rattle.ob_rows.specs.declared.rows.Declared.{Declared}
 use Rattle.ob_rows.specs.declared.rows.End.{End}
 use Rattle.ob_rows.specs.declared.rows.Import.{Import}
@@ -19,3 +19,12 @@ pub data IsNamed (rows : Rows) (k : ℕ) : Type 0 where
   used : (u : Used) → Contains rows.uses u → u.number ≡ k → IsNamed rows k
   selected : (s : Selector) → Contains rows.selectors s → s.step ≡ steps.Field k → IsNamed rows k
   second : (u : Used) → Contains rows.uses u → u.member ≡ Some k → IsNamed rows k
+
+-- the identifier whose name a name behind END has to repeat: its procedure's, or the module's own
+abbrev pub repeated_by : Option ℕ → ℕ
+repeated_by None = own_name
+repeated_by (Some name) = name
+
+-- a name behind END, behind that identifier
+abbrev pub ending_of : End → ℕ × ℕ
+ending_of e = (repeated_by e.of, e.number)

@@ -4,13 +4,13 @@ ghost use Rattle.ob_scan.specs.declared.kind.Kind.{Kind};
 ghost use Rattle.ob_scan.specs.declared.kind.Kind.TheVariants as kinds;
 ghost use Rattle.ob_tree.specs.declared.declaration.Module.{Module};
 ghost use Rattle.ob_tree.specs.Declaring.{module_outline};
-ghost use Rattle.ob_tree.specs.Derives.{Derives, declared_in, used_in};
+ghost use Rattle.ob_tree.specs.Derives.{Derives, declared_in, endings_in, used_in};
 ghost use Rattle.ob_rows.specs.declared.rows.Declared.{Declared};
 ghost use Rattle.ob_rows.specs.declared.rows.Used.{Used};
 ghost use Rattle.ob_rows.specs.Tables.{own_name};
 ghost use Rattle.ob_rows.specs.Trees.{AreTreeRows};
 ghost use Rattle.ob_decls.specs.Declaring.{rows_of};
-ghost use Rattle.ob_decls.specs.Naming.{IsNamed};
+ghost use Rattle.ob_decls.specs.Naming.{IsNamed, ending_of};
 
 /// Where a tree derives tokens, the identifiers that its table has are those that its outline declares and looks up, each
 /// by its token's number, in order.
@@ -26,6 +26,12 @@ pub fn identifiers()
     ensures used { (ks : List Kind) (m : Module) → Derives ks m → (u : Used) → Contains (rows_of m).uses u → slice_get ks u.number ≡ Some kinds.Ident }
     ensures own { (ks : List Kind) (m : Module) → Derives ks m → slice_get ks own_name ≡ Some kinds.Ident }
     ensures name { (ks : List Kind) (m : Module) → Derives ks m → m.name ≡ own_name }
+{}
+
+/// Where a tree derives tokens, the names behind END of its table are those of its outline, each behind the identifier whose
+/// name it has to repeat, in order.
+pub fn table_endings()
+    ensures { (ks : List Kind) (m : Module) → Derives ks m → map ending_of (rows_of m).ends ≡ endings_in (module_outline m) }
 {}
 
 /// Where a tree derives tokens, its table keeps what the rows of a tree of them keep.

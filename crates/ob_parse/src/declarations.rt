@@ -39,6 +39,7 @@ pub fn begins_declaration(tokens: &[Token], input: Cursor) -> bool
 
 /// Declarations of one kind, which stand in a section of their own.
 trait Declaration: Drop {
+    // how one is read at so many levels, and how it is shown, both without its semicolon
     ghost read: { ℕ → Reader };
 
     ghost shown: { Self → Out };

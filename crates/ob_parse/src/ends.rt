@@ -14,9 +14,14 @@ fn text<'a>(bytes: &'a [u8], token: Token) -> &'a [u8]
     &bytes[token.start as usize..token.end as usize]
 }
 
-fn is_right(bytes: &[u8], tokens: &[Token], name: u32, end: u32) -> bool
+/// Whether a name after END is the one that it has to be: whether the tokens of these numbers, of a text of these bytes, have the same
+/// bytes.
+pub fn is_right(bytes: &[u8], tokens: &[Token], name: u32, end: u32) -> bool
+    // Both are numbers of tokens.
     requires known { (name < length tokens.now) × (end < length tokens.now) }
+    // The tokens lie in the text.
     requires placed { All (IsPlaced bytes.now) tokens.now }
+    // It is the one that it has to be, or not.
     ensures { IsEnd bytes.now tokens.now result (name, end) }
 {
     text(bytes, tokens[name as usize]) == text(bytes, tokens[end as usize])

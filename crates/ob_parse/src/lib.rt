@@ -5,7 +5,7 @@
 
 pub mod cursor;
 pub mod declarations;
-mod ends;
+pub mod ends;
 mod expressions;
 mod fault;
 pub mod labels;
@@ -21,4 +21,4 @@ pub mod tokens;
 pub mod types;
 
 pub use fault::ParseFault;
-pub use parser::{fault_in, parse};
+pub use parser::parse;

@@ -1,6 +1,6 @@
 //! The tree of a text.
 
-ghost use Rattle.std.specs.Prelude.{◌≡◌, ◌<◌, ◌^◌, ℕ, List, length, slice_get, IfOk, IfErr, Ok};
+ghost use Rattle.std.specs.Prelude.{◌≡◌, ◌<◌, ◌^◌, length, slice_get, IfOk, IfErr, Ok};
 ghost use Rattle.ob_scan.specs.Spelling.{IsOutcome};
 ghost use Rattle.ob_scan.specs.declared.token.Token.{Token};
 ghost use Rattle.ob_tree.specs.Declaring.{module_outline};
@@ -89,29 +89,4 @@ pub fn parse(alloc: Global, bytes: &[u8], tokens: &Tokens) -> Result<Module, Par
         None => Ok(Box::into_inner(tree)),
         Some(offset) => Err(ParseFault::EndName { offset }),
     }
-}
-
-/// The fault of what was parsed, or Memory where it is a tree.
-fn fault_or_memory(parsed: &Result<Module, ParseFault>) -> ParseFault
-    ensures { (bytes : List ℕ) (tokens : List Token) → IfErr parsed.now (IsFaultOf bytes tokens) → IsFaultOf bytes tokens result }
-{
-    match parsed {
-        Ok(_) => ParseFault::Memory,
-        Err(fault) => *fault,
-    }
-}
-
-/// The fault that `parse` answers of the tokens of a text of these bytes, or Memory where it gives a tree: for a caller who has no
-/// table of them, since memory was refused to it or a name after END is wrong.
-pub fn fault_in(alloc: Global, bytes: &[u8], tokens: &Tokens) -> ParseFault
-    // The tokens are those of the bytes.
-    requires { IsOutcome bytes.now (Ok tokens.now) }
-    // The fault is so.
-    ensures { IsFaultOf bytes.now tokens.now result }
-{
-    let parsed = parse(alloc, bytes, tokens);
-    let fault = fault_or_memory(&parsed);
-    // One call lets the tree go, so that its parts are no steps of this function.
-    drop(parsed);
-    fault
 }

@@ -1,31 +1,37 @@
--- Names behind END that are compared when they are read.
-use Rattle.std.proofs.Common.{◌≡◌, ◌<◌, ℕ, false, List, length, Option, Some, Ok, get_or, slice_get, refl, sym, ap, ◌∙◌}
-use Rattle.std.proofs.lemmas.Option.{slice_get-get_or}
+-- Rows of names behind END, compared one by one.
+use Rattle.std.proofs.Common.{ℕ, ◌+◌, ◌<◌, ◌≤◌, false, List, None, length, get_or, map, take, sym, subst, arith}
+use Rattle.std.specs.List.{All}
+use Rattle.std.proofs.lemmas.List.{get_or-map, length-map}
 use Rattle.ob_scan.specs.declared.token.Token.{Token}
-use Rattle.ob_tree.specs.Marks.{repeated}
-use Rattle.ob_parse.specs.declared.cursor.Cursor.{Cursor}
-use Rattle.ob_parse.specs.Forms.{identifier_at, name_at}
-use Rattle.ob_parse.specs.Accords.{ahead}
-use Rattle.ob_parse.specs.Parsed.{IsRightEnd}
-use Rattle.ob_rows.specs.declared.draft.Draft.{Draft}
-use Rattle.ob_rows.specs.Drafts.{Stage, ComesTo}
-use Rattle.ob_table.specs.Ended.{RightName}
-use Rattle.ob_table.specs.Tabulating.{Told}
+use Rattle.ob_rows.specs.declared.rows.End.{End}
+use Rattle.ob_decls.specs.Naming.{ending_of}
+use Rattle.ob_parse.specs.Ends.{AreTokenNumbers, IsEnd}
+use Rattle.ob_parse.specs.Parsed.{IsFirstWrong, IsRightEnd}
+use Rattle.ob_parse.proofs.RightEnds.{all_right, first_wrong, right_more}
 
--- a name that was read, compared and told
-pub name_told : (bytes : List ℕ) (ts : List Token) (name end : ℕ) (step : Stage → Stage) (old mid new : Draft) (input rest : Cursor) → identifier_at (ahead ts input) ≡ Ok (end, ahead ts rest) →
-    ComesTo (λ s. s) old mid → (mid.refused ≡ false → IsRightEnd bytes ts (name, end)) → ComesTo step mid new →
-    Told {T = RightName bytes ts name} ts (λ x. repeated name x.number) (λ x s. step s) old new rest (name_at (repeated name) (ahead ts input))
-unfolding name_at
-name_told bytes ts name end step old mid new input rest read h right k = record {
-  out = repeated name end;
-  is_read = rw read refl;
-  telling = λ e. let b = k e in let a = h b.0 in (a.0, record { tree = record { number = end; right = right b.0 }; shows = refl; comes = b.1 ∙ ap step a.1 });
-}
+-- what stands for a row beyond the list
+abbrev pub any_end : End
+any_end = record { number = 0; of = None }
 
-abbrev some : Token → Option Token
-some t = Some t
+module _ (ts : List Token) (es : List End) where
+  pub known_at : (i : ℕ) (d : End) → i < length es → All (AreTokenNumbers ts) (map ending_of es) → AreTokenNumbers ts (ending_of (get_or es i d))
+  known_at i d within all = subst (AreTokenNumbers ts) (get_or-map ending_of es i d (ending_of d) within) (all i (ending_of d) (omega (arith, within, length-map es ending_of)))
 
--- a token that was looked up
-pub looked_up : (ts : List Token) (n : ℕ) (t : Token) → n < length ts → t ≡ get_or ts n t → slice_get ts n ≡ Some t
-looked_up ts n t h e = slice_get-get_or ts n t h ∙ ap some (sym e)
+  -- one right name more
+  pub right_row : (bytes : List ℕ) (i : ℕ) (d : End) → i < length es → All (IsRightEnd bytes ts) (take i (map ending_of es)) → IsRightEnd bytes ts (ending_of (get_or es i d)) →
+      All (IsRightEnd bytes ts) (take (i + 1) (map ending_of es))
+  right_row bytes i d within all one =
+      right_more bytes ts (map ending_of es) i (ending_of d) (omega (arith, within, length-map es ending_of)) all
+      (subst (IsRightEnd bytes ts) (sym (get_or-map ending_of es i d (ending_of d) within)) one)
+
+  pub right_rows : (bytes : List ℕ) (i : ℕ) → length es ≤ i → All (IsRightEnd bytes ts) (take i (map ending_of es)) → All (IsRightEnd bytes ts) (map ending_of es)
+  right_rows bytes i behind all = all_right bytes ts (map ending_of es) i (omega (arith, behind, length-map es ending_of)) all
+
+  -- the first wrong one
+  pub wrong_row : (bytes : List ℕ) (i : ℕ) (d : End) (t : Token) → i < length es → All (IsRightEnd bytes ts) (take i (map ending_of es)) → AreTokenNumbers ts (ending_of (get_or es i d)) →
+      IsEnd bytes ts false (ending_of (get_or es i d)) → IsFirstWrong bytes ts (map ending_of es) (get_or ts (get_or es i d).number t).start
+  wrong_row bytes i d t within all known wrong =
+      let here = get_or-map ending_of es i d (ending_of d) within in
+      subst (λ (p : ℕ × ℕ). IsFirstWrong bytes ts (map ending_of es) (get_or ts p.1 t).start) here
+      (first_wrong bytes ts (map ending_of es) i (ending_of d) t (omega (arith, within, length-map es ending_of)) all
+      (subst (AreTokenNumbers ts) (sym here) known).1 (subst (IsEnd bytes ts false) (sym here) wrong))

@@ -1,20 +1,17 @@
 -- Modules of parts that were told.
-use Rattle.std.proofs.Common.{◌≡◌, ℕ, List, ◌++◌, Option, Some, None, Result, Ok, Err, refl, sym, ap, subst}
-use Rattle.std.specs.List.{All}
-use Rattle.std.proofs.lemmas.List.Elements.{All-push}
+use Rattle.std.proofs.Common.{◌≡◌, ℕ, List, ◌++◌, Option, Some, None, Result, Ok, Err, refl, ap}
 use Rattle.ob_scan.specs.declared.kind.Kind.TheVariants as kinds
 use Rattle.ob_scan.specs.declared.token.Token.{Token}
 use Rattle.ob_tree.specs.Constructs as constructs
 use Rattle.ob_tree.specs.declared.name.OneOrMore.{OneOrMore}
 use Rattle.ob_tree.specs.declared.statement.StatementSequence.{StatementSequence}
+use Rattle.ob_tree.specs.declared.declaration.Declarations.{Declarations}
 use Rattle.ob_tree.specs.declared.declaration.ImportItem.{ImportItem}
 use Rattle.ob_tree.specs.declared.declaration.Module.{Module}
 use Rattle.ob_tree.specs.declared.token.Leaf.{Leaf}
 use Rattle.ob_tree.specs.Marks.{Out, construct, word, named, repeated}
 use Rattle.ob_tree.specs.Declaring.{declarations_outline, module_outline}
-use Rattle.ob_tree.specs.Derives.{endings_in}
 use Rattle.ob_tree.proofs.DeclarationLayers.{module_out}
-use Rattle.ob_tree.proofs.EndNames.{module_ends}
 use Rattle.ob_rows.specs.declared.draft.Context.{Context}
 use Rattle.ob_rows.specs.declared.draft.Draft.{Draft}
 use Rattle.ob_rows.specs.Drafts.{Stage, after, passed, ComesTo}
@@ -27,63 +24,55 @@ use Rattle.ob_parse.specs.declared.stop.Stop.TheVariants as stops
 use Rattle.ob_parse.specs.Front.{uncons}
 use Rattle.ob_parse.specs.Forms.{Refusal, Unexpected, Read, Reader, ◌>>=◌, seq, prefixed, expect_at, identifier_at, name_at}
 use Rattle.ob_parse.specs.Accords.{Fails, ahead}
-use Rattle.ob_parse.specs.Parsed.{IsRightEnd}
 use Rattle.ob_parse.specs.ReadStatements.{block_at}
 use Rattle.ob_parse.specs.ReadModules.{imports_at, declarations_at, body_with, module_behind_name, name_then, module_at, nothing_left, all_of}
 use Rattle.ob_table.specs.DeclarationShapes.{body_outline, body_piece, ModuleParts, parts_shown, parts_step, ModuleEnd, end_shown, end_step, ModuleBehind, imports_shown, behind_shown, behind_step}
-use Rattle.ob_table.specs.Ended.{RightEnds, EndedDeclarations, EndedModule, RightName, WholeTold}
-use Rattle.ob_table.specs.Tabulating.{Told, Tabulates, TabulatesBy}
+use Rattle.ob_table.specs.Tabulating.{Told, Tabulates, TabulatesBy, WholeTold}
 use Rattle.ob_table.proofs.Combine.{told_as, told_node, told_then, told_prefixed, told_behind, failed_node, failed_then}
 use Rattle.ob_table.proofs.SectionTrees.{failed_behind}
 
-pub end_told : (bytes : List ℕ) (ts : List Token) (name : ℕ) (c : Context) (old first second new : Draft) (input a b : Cursor) (result : Result Cursor Stop) →
+pub end_told : (ts : List Token) (name : ℕ) (c : Context) (old first second new : Draft) (input a b : Cursor) (result : Result Cursor Stop) →
     TabulatesBy ts (λ (u : Unit {0}). word kinds.End) (λ u s. passed s) old first (Ok a) (expect_at kinds.End (ahead ts input)) →
-    TabulatesBy {T = RightName bytes ts name} ts (λ x. repeated name x.number) (λ x s. after (tells module_end token) c s) first second (Ok b) (name_at (repeated name) (ahead ts a)) →
+    TabulatesBy ts (repeated name) (λ x s. after (tells module_end token) c s) first second (Ok b) (name_at (repeated name) (ahead ts a)) →
     TabulatesBy ts (λ (u : Unit {0}). word kinds.Dot) (λ u s. passed s) second new result (expect_at kinds.Dot (ahead ts b)) →
-    TabulatesBy {T = ModuleEnd bytes ts name} ts (end_shown {bytes = bytes} {ts = ts} {name = name}) (end_step {bytes = bytes} {ts = ts} {name = name} c) old new result (seq (expect_at kinds.End) (seq (name_at (repeated name)) (expect_at kinds.Dot)) (ahead ts input))
-end_told bytes ts name c old first second new input a b result t u v =
-    told_then ts (λ (u : Unit {0}). word kinds.End) (λ u s. passed s) (λ (x : RightName bytes ts name × Unit {0}). repeated name x.0.number ++ word kinds.Dot) (λ x s. passed (after (tells module_end token) c s))
+    TabulatesBy ts (end_shown name) (end_step c) old new result (seq (expect_at kinds.End) (seq (name_at (repeated name)) (expect_at kinds.Dot)) (ahead ts input))
+end_told ts name c old first second new input a b result t u v =
+    told_then ts (λ (u : Unit {0}). word kinds.End) (λ u s. passed s) (λ (x : ℕ × Unit {0}). repeated name x.0 ++ word kinds.Dot) (λ x s. passed (after (tells module_end token) c s))
     (expect_at kinds.End) (seq (name_at (repeated name)) (expect_at kinds.Dot)) old first new a result (ahead ts input) t
-    (told_then ts (λ (x : RightName bytes ts name). repeated name x.number) (λ x s. after (tells module_end token) c s) (λ (u : Unit {0}). word kinds.Dot) (λ u s. passed s)
+    (told_then ts (repeated name) (λ x s. after (tells module_end token) c s) (λ (u : Unit {0}). word kinds.Dot) (λ u s. passed s)
     (name_at (repeated name)) (expect_at kinds.Dot) first second new b result (ahead ts a) u v)
 
-pub parts_told : (bytes : List ℕ) (ts : List Token) (name d : ℕ) (c : Context) (old first second new : Draft) (input a b : Cursor) (result : Result Cursor Stop) →
-    Tabulates {T = EndedDeclarations bytes ts} ts (λ x. declarations_outline x.tree) (λ x. declarations_piece x.tree) c old first (Ok a) (declarations_at d (ahead ts input)) →
+pub parts_told : (ts : List Token) (name d : ℕ) (c : Context) (old first second new : Draft) (input a b : Cursor) (result : Result Cursor Stop) →
+    Tabulates ts (λ x. declarations_outline x) (λ x. declarations_piece x) c old first (Ok a) (declarations_at d (ahead ts input)) →
     Tabulates ts body_outline body_piece c first second (Ok b) (body_with (block_at d) (ahead ts a)) →
-    TabulatesBy {T = ModuleEnd bytes ts name} ts (end_shown {bytes = bytes} {ts = ts} {name = name}) (end_step {bytes = bytes} {ts = ts} {name = name} c) second new result (seq (expect_at kinds.End) (seq (name_at (repeated name)) (expect_at kinds.Dot)) (ahead ts b)) →
-    TabulatesBy {T = ModuleParts bytes ts name} ts (parts_shown {bytes = bytes} {ts = ts} {name = name}) (parts_step {bytes = bytes} {ts = ts} {name = name} c) old new result
+    TabulatesBy ts (end_shown name) (end_step c) second new result (seq (expect_at kinds.End) (seq (name_at (repeated name)) (expect_at kinds.Dot)) (ahead ts b)) →
+    TabulatesBy ts (parts_shown name) (parts_step c) old new result
     (seq (declarations_at d) (seq (body_with (block_at d)) (seq (expect_at kinds.End) (seq (name_at (repeated name)) (expect_at kinds.Dot)))) (ahead ts input))
-parts_told bytes ts name d c old first second new input a b result t u v =
-    told_then ts (λ (x : EndedDeclarations bytes ts). declarations_outline x.tree) (λ x. after (declarations_piece x.tree) c)
-    (λ (x : Option StatementSequence × ModuleEnd bytes ts name). body_outline x.0 ++ end_shown {bytes = bytes} {ts = ts} {name = name} x.1) (λ x s. end_step {bytes = bytes} {ts = ts} {name = name} c x.1 (after (body_piece x.0) c s))
+parts_told ts name d c old first second new input a b result t u v =
+    told_then ts (λ (x : Declarations). declarations_outline x) (λ x. after (declarations_piece x) c)
+    (λ (x : Option StatementSequence × ModuleEnd). body_outline x.0 ++ end_shown name x.1) (λ x s. end_step c x.1 (after (body_piece x.0) c s))
     (declarations_at d) (seq (body_with (block_at d)) (seq (expect_at kinds.End) (seq (name_at (repeated name)) (expect_at kinds.Dot)))) old first new a result (ahead ts input) t
-    (told_then ts body_outline (λ x. after (body_piece x) c) (end_shown {bytes = bytes} {ts = ts} {name = name}) (end_step {bytes = bytes} {ts = ts} {name = name} c)
+    (told_then ts body_outline (λ x. after (body_piece x) c) (end_shown name) (end_step c)
     (body_with (block_at d)) (seq (expect_at kinds.End) (seq (name_at (repeated name)) (expect_at kinds.Dot))) first second new b result (ahead ts a) u v)
 
 -- ---- behind the name
 
-abbrev module_made : {bytes : List ℕ} {ts : List Token} (n : ℕ) → ModuleBehind bytes ts n → Module
-module_made n x = record { name = n; imports = x.1.0; declarations = x.1.1.0.tree; body = x.1.1.1.0; end_name = x.1.1.1.1.1.0.number }
+abbrev module_made : ℕ → ModuleBehind → Module
+module_made n x = record { name = n; imports = x.1.0; declarations = x.1.1.0; body = x.1.1.1.0; end_name = x.1.1.1.1.1.0 }
 
-module_right : (bytes : List ℕ) (ts : List Token) (m : Module) → RightEnds bytes ts (declarations_outline m.declarations) → IsRightEnd bytes ts (m.name, m.end_name) → RightEnds bytes ts (module_outline m)
-module_right bytes ts m h k = subst (λ (es : List (ℕ × ℕ)). All (IsRightEnd bytes ts) es) (sym (module_ends m)) (All-push (IsRightEnd bytes ts) (endings_in (declarations_outline m.declarations)) (m.name, m.end_name) h k)
-
-abbrev module_of : (bytes : List ℕ) (ts : List Token) (n : ℕ) → ModuleBehind bytes ts n → EndedModule bytes ts
-module_of bytes ts n x = record { tree = module_made {bytes = bytes} {ts = ts} n x; ended = module_right bytes ts (module_made {bytes = bytes} {ts = ts} n x) x.1.1.0.ended x.1.1.1.1.1.0.right }
-
-pub behind_name_told : (bytes : List ℕ) (ts : List Token) (n d : ℕ) (c : Context) (old first second new : Draft) (input a b : Cursor) (result : Result Cursor Stop) →
+pub behind_name_told : (ts : List Token) (n d : ℕ) (c : Context) (old first second new : Draft) (input a b : Cursor) (result : Result Cursor Stop) →
     TabulatesBy ts (λ (u : Unit {0}). word kinds.Semicolon) (λ u s. passed s) old first (Ok a) (expect_at kinds.Semicolon (ahead ts input)) →
     Tabulates ts imports_shown (if_there imports_piece) c first second (Ok b) (imports_at (ahead ts a)) →
-    TabulatesBy {T = ModuleParts bytes ts n} ts (parts_shown {bytes = bytes} {ts = ts} {name = n}) (parts_step {bytes = bytes} {ts = ts} {name = n} c) second new result
+    TabulatesBy ts (parts_shown n) (parts_step c) second new result
     (seq (declarations_at d) (seq (body_with (block_at d)) (seq (expect_at kinds.End) (seq (name_at (repeated n)) (expect_at kinds.Dot)))) (ahead ts b)) →
-    TabulatesBy {T = ModuleBehind bytes ts n} ts (behind_shown {bytes = bytes} {ts = ts} {name = n}) (behind_step {bytes = bytes} {ts = ts} {name = n} c) old new result (module_behind_name d n (ahead ts input))
+    TabulatesBy ts (behind_shown n) (behind_step c) old new result (module_behind_name d n (ahead ts input))
 unfolding module_behind_name
-behind_name_told bytes ts n d c old first second new input a b result t u v =
+behind_name_told ts n d c old first second new input a b result t u v =
     let inner : Reader = seq (declarations_at d) (seq (body_with (block_at d)) (seq (expect_at kinds.End) (seq (name_at (repeated n)) (expect_at kinds.Dot)))) in
     told_then ts (λ (u : Unit {0}). word kinds.Semicolon) (λ u s. passed s)
-    (λ (x : Option (OneOrMore ImportItem) × ModuleParts bytes ts n). imports_shown x.0 ++ parts_shown {bytes = bytes} {ts = ts} {name = n} x.1) (λ x s. parts_step {bytes = bytes} {ts = ts} {name = n} c x.1 (after (if_there imports_piece x.0) c s))
+    (λ (x : Option (OneOrMore ImportItem) × ModuleParts). imports_shown x.0 ++ parts_shown n x.1) (λ x s. parts_step c x.1 (after (if_there imports_piece x.0) c s))
     (expect_at kinds.Semicolon) (seq imports_at inner) old first new a result (ahead ts input) t
-    (told_then ts imports_shown (λ x. after (if_there imports_piece x) c) (parts_shown {bytes = bytes} {ts = ts} {name = n}) (parts_step {bytes = bytes} {ts = ts} {name = n} c) imports_at inner first second new b result (ahead ts a) u v)
+    (told_then ts imports_shown (λ x. after (if_there imports_piece x) c) (parts_shown n) (parts_step c) imports_at inner first second new b result (ahead ts a) u v)
 
 -- ---- modules
 
@@ -91,21 +80,21 @@ module_step : (m : Module) (c : Context) (s : Stage) → after (module_piece m) 
     passed (after (tells module_end token) c (passed (after (body_piece m.body) c (after (declarations_piece m.declarations) c (after (if_there imports_piece m.imports) c (passed (passed (passed s))))))))
 module_step m c s = told.module_after m c s
 
-pub module_told : (bytes : List ℕ) (ts : List Token) (n d : ℕ) (c : Context) (old first second new : Draft) (input here rest : Cursor) (result : Result Cursor Stop) →
+pub module_told : (ts : List Token) (n d : ℕ) (c : Context) (old first second new : Draft) (input here rest : Cursor) (result : Result Cursor Stop) →
     TabulatesBy ts (λ (u : Unit {0}). word kinds.Module) (λ u s. passed s) old first (Ok here) (expect_at kinds.Module (ahead ts input)) →
     identifier_at (ahead ts here) ≡ Ok (n, ahead ts rest) → ComesTo passed first second →
-    TabulatesBy {T = ModuleBehind bytes ts n} ts (behind_shown {bytes = bytes} {ts = ts} {name = n}) (behind_step {bytes = bytes} {ts = ts} {name = n} c) second new result (module_behind_name d n (ahead ts rest)) →
-    Tabulates {T = EndedModule bytes ts} ts (λ m. module_outline m.tree) (λ m. module_piece m.tree) c old new result (module_at d (ahead ts input))
+    TabulatesBy ts (behind_shown n) (behind_step c) second new result (module_behind_name d n (ahead ts rest)) →
+    Tabulates ts module_outline module_piece c old new result (module_at d (ahead ts input))
 unfolding module_at
-module_told bytes ts n d c old first second new input here rest result t e h u =
-    told_as ts (λ (x : Unit {0} × ModuleBehind bytes ts n). construct constructs.Module (word kinds.Module ++ (named n ++ behind_shown {bytes = bytes} {ts = ts} {name = n} x.1))) (λ x s. behind_step {bytes = bytes} {ts = ts} {name = n} c x.1 (passed (passed s)))
-    (λ (m : EndedModule bytes ts). module_outline m.tree) (λ m. after (module_piece m.tree) c) (λ x. module_of bytes ts n x.1) (λ x. module_out (module_made {bytes = bytes} {ts = ts} n x.1)) (λ x s. module_step (module_made {bytes = bytes} {ts = ts} n x.1) c s) old new result _
-    (told_node ts (λ (x : Unit {0} × ModuleBehind bytes ts n). word kinds.Module ++ (named n ++ behind_shown {bytes = bytes} {ts = ts} {name = n} x.1)) (λ x s. behind_step {bytes = bytes} {ts = ts} {name = n} c x.1 (passed (passed s)))
+module_told ts n d c old first second new input here rest result t e h u =
+    told_as ts (λ (x : Unit {0} × ModuleBehind). construct constructs.Module (word kinds.Module ++ (named n ++ behind_shown n x.1))) (λ x s. behind_step c x.1 (passed (passed s)))
+    module_outline (λ m. after (module_piece m) c) (λ x. module_made n x.1) (λ x. module_out (module_made n x.1)) (λ x s. module_step (module_made n x.1) c s) old new result _
+    (told_node ts (λ (x : Unit {0} × ModuleBehind). word kinds.Module ++ (named n ++ behind_shown n x.1)) (λ x s. behind_step c x.1 (passed (passed s)))
     constructs.Module (seq (expect_at kinds.Module) (name_then named (module_behind_name d))) old new result (ahead ts input)
-    (told_then ts (λ (u : Unit {0}). word kinds.Module) (λ u s. passed s) (λ (x : ModuleBehind bytes ts n). named n ++ behind_shown {bytes = bytes} {ts = ts} {name = n} x) (λ x s. behind_step {bytes = bytes} {ts = ts} {name = n} c x (passed s))
+    (told_then ts (λ (u : Unit {0}). word kinds.Module) (λ u s. passed s) (λ (x : ModuleBehind). named n ++ behind_shown n x) (λ x s. behind_step c x (passed s))
     (expect_at kinds.Module) (name_then named (module_behind_name d)) old first new here result (ahead ts input) t
-    (rw e (told_prefixed ts (behind_shown {bytes = bytes} {ts = ts} {name = n}) (λ x s. behind_step {bytes = bytes} {ts = ts} {name = n} c x (passed s)) (named n) (module_behind_name d n) first new result (ahead ts rest)
-    (told_behind ts (behind_shown {bytes = bytes} {ts = ts} {name = n}) (behind_step {bytes = bytes} {ts = ts} {name = n} c) passed first second new result (module_behind_name d n (ahead ts rest)) h u)))))
+    (rw e (told_prefixed ts (behind_shown n) (λ x s. behind_step c x (passed s)) (named n) (module_behind_name d n) first new result (ahead ts rest)
+    (told_behind ts (behind_shown n) (behind_step c) passed first second new result (module_behind_name d n (ahead ts rest)) h u)))))
 
 -- ---- all of the tokens
 

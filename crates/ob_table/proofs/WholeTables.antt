@@ -1,30 +1,59 @@
 -- From the tokens of a whole text to its one tree.
-use Rattle.std.proofs.Common.{◌≡◌, ℕ, List, Some, Result, Ok, length, sym, ap, subst, ◌∙◌}
+use Rattle.std.proofs.Common.{◌≡◌, ℕ, List, Some, Result, Ok, length, map, sym, ap, subst, ◌∙◌}
 use Rattle.std.specs.Prelude.{slice_get}
+use Rattle.std.specs.List.{All}
 use Rattle.std.proofs.lemmas.List.{length-map}
 use Rattle.ob_scan.specs.declared.kind.Kind.TheVariants.{Ident}
 use Rattle.ob_scan.specs.declared.token.Token.{Token}
 use Rattle.ob_tree.specs.declared.declaration.Module.{Module}
 use Rattle.ob_tree.specs.Declaring.{module_outline}
-use Rattle.ob_tree.specs.Leaves.{leaves_from}
+use Rattle.ob_tree.specs.Derives.{Derives, endings_in}
 use Rattle.ob_tree.specs.Marks.{Out}
+use Rattle.ob_parse.specs.Ends.{AreTokenNumbers}
 use Rattle.ob_parse.specs.Forms.{Refusal}
-use Rattle.ob_parse.specs.Parsed.{IsTheTree, kinds_of}
-use Rattle.ob_parse.specs.ReadModules.{all_of}
-use Rattle.ob_parse.proofs.OneTree.{one_tree}
+use Rattle.ob_parse.specs.Parsed.{IsEndFault, IsFirstWrong, IsOneTree, IsRightEnd, IsTheTree, kinds_of, read_left}
+use Rattle.ob_parse.proofs.OneTree.{endings_are_known, one_tree}
 use Rattle.ob_rows.specs.Parts.{Rows}
 use Rattle.ob_rows.specs.Trees.{AreTreeRows}
 use Rattle.ob_decls.specs.Declaring.{rows_of}
-use Rattle.ob_table.specs.Ended.{EndedModule}
+use Rattle.ob_decls.specs.Naming.{ending_of}
 
 -- an outline that was read
 abbrev read_as : Out → Result Out Refusal
 read_as o = Ok o
 
--- a module whose outline was read, and whose names after END are right, is the tree
-pub whole_tree : (bytes : List ℕ) (us ts : List Token) (out : Out) (x : EndedModule bytes us) → us ≡ ts → all_of 200 (leaves_from 0 (kinds_of us)) ≡ Ok out → module_outline x.tree ≡ out → IsTheTree bytes ts x.tree
-whole_tree bytes us ts out x e read shows =
-    subst (λ (vs : List Token). IsTheTree bytes vs x.tree) e (record { tree = one_tree us x.tree (read ∙ ap read_as (sym shows)); ended = x.ended })
+-- the one tree of some tokens, whose rows these are
+pub record Whole (us : List Token) (rows : Rows) : Type 0 where
+  pub of : Module
+  pub tree : IsOneTree us of
+  pub rows_are : rows ≡ rows_of of
+  pub endings_are : map ending_of rows.ends ≡ endings_in (module_outline of)
+  pub known : All (AreTokenNumbers us) (map ending_of rows.ends)
+
+-- a module whose outline was read is the tree
+pub whole_tree : (us : List Token) (out : Out) (rows : Rows) (m : Module) → read_left us ≡ Ok out → module_outline m ≡ out → rows ≡ rows_of m →
+    (Derives (kinds_of us) m → map ending_of (rows_of m).ends ≡ endings_in (module_outline m)) → Whole us rows
+whole_tree us out rows m read shows are law =
+    let as_read = read ∙ ap read_as (sym shows) in
+    let one = one_tree us m as_read in
+    let endings = ap (λ (r : Rows). map ending_of r.ends) are ∙ law one.derived in
+    record {
+      of = m;
+      tree = one;
+      rows_are = are;
+      endings_are = endings;
+      known = subst (All (AreTokenNumbers us)) (sym endings) (endings_are_known us (module_outline m) as_read);
+    }
+
+-- where its names after END are right
+pub right_tree : (bytes : List ℕ) (us ts : List Token) (rows : Rows) (w : Whole us rows) → us ≡ ts → All (IsRightEnd bytes us) (map ending_of rows.ends) → IsTheTree bytes ts w.of
+right_tree bytes us ts rows w e right =
+    subst (λ (vs : List Token). IsTheTree bytes vs w.of) e (record { tree = w.tree; ended = subst (All (IsRightEnd bytes us)) w.endings_are right })
+
+-- where one is wrong
+pub wrong_tree : (bytes : List ℕ) (us ts : List Token) (rows : Rows) (at : ℕ) → Whole us rows → us ≡ ts → IsFirstWrong bytes us (map ending_of rows.ends) at → IsEndFault bytes ts at
+wrong_tree bytes us ts rows at w e wrong =
+    subst (λ (vs : List Token). IsEndFault bytes vs at) e (record { of = w.of; tree = w.tree; first = subst (λ (es : List (ℕ × ℕ)). IsFirstWrong bytes us es at) w.endings_are wrong })
 
 -- the rows of a tree of tokens, by other names of the rows
 pub tree_rows_as : (ts : List Token) (r : Rows) (m : Module) → r ≡ rows_of m → AreTreeRows (λ k. slice_get (kinds_of ts) k ≡ Some Ident) (length (kinds_of ts)) (rows_of m) → AreTreeRows (λ k. slice_get (kinds_of ts) k ≡ Some Ident) (length ts) r

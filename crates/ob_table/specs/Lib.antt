@@ -3,7 +3,6 @@ pub mod Shapes
 pub mod Mending
 pub mod Choosing
 pub mod LoneNames
-pub mod Ended
 pub mod DeclarationShapes
 pub mod TypeShapes
 pub mod StatementShapes

@@ -4,7 +4,7 @@ use Rattle.ob_scan.specs.declared.token.Token.{Token}
 use Rattle.ob_tree.specs.Marks.{Out}
 use Rattle.ob_parse.specs.declared.cursor.Cursor.{Cursor}
 use Rattle.ob_parse.specs.declared.stop.Stop.{Stop}
-use Rattle.ob_parse.specs.Forms.{Read}
+use Rattle.ob_parse.specs.Forms.{Read, Refusal}
 use Rattle.ob_parse.specs.Accords.{Fails, ahead}
 use Rattle.ob_rows.specs.declared.draft.Draft.{Draft}
 use Rattle.ob_rows.specs.declared.draft.Context.{Context}
@@ -35,3 +35,14 @@ TabulatesBy ts outline step old new (Err e) read = Fails ts e read
 -- the same, where what is told is a piece
 abbrev pub Tabulates : {T : Type 0} → List Token → (T → Out) → (T → Piece) → Context → Draft → Draft → Result Cursor Stop → Read → Type 0
 Tabulates ts outline piece inside old new result read = TabulatesBy ts outline (λ x. after (piece x) inside) old new result read
+
+-- an outline was read to the end, and it was told
+pub record WholeTold {T : Type 0} (outline : T → Out) (step : T → Stage → Stage) (old new : Draft) (read : Result Out Refusal) : Type 0 where
+  pub out : Out
+  pub is_read : read ≡ Ok out
+  pub telling : Telling outline step out old new
+
+-- so it is, or reading fails
+abbrev pub TabulatesWhole : {T : Type 0} → List Token → (T → Out) → (T → Stage → Stage) → Draft → Draft → Result (Unit {0}) Stop → Result Out Refusal → Type 0
+TabulatesWhole ts outline step old new (Ok u) read = WholeTold outline step old new read
+TabulatesWhole ts outline step old new (Err e) read = Fails ts e read

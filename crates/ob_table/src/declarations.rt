@@ -4,6 +4,7 @@
 ghost use Rattle.std.specs.Prelude.{ℕ, ◌++◌, Option};
 ghost use Rattle.std.specs.Global.{Vec};
 ghost use Rattle.ob_scan.specs.declared.kind.Kind.TheVariants as kinds;
+ghost use Rattle.ob_tree.specs.declared.declaration.ProcDecl.{ProcDecl};
 ghost use Rattle.ob_tree.specs.Constructs.{Construct};
 ghost use Rattle.ob_tree.specs.Constructs as constructs;
 ghost use Rattle.ob_tree.specs.Marks.{Out, construct, word, each, if_there, repeated};
@@ -27,8 +28,7 @@ ghost use Rattle.ob_parse.specs.Accords.{ahead};
 ghost use Rattle.ob_parse.proofs.Loops.{const_shortens, type_decl_shortens, variable_shortens};
 ghost use Rattle.ob_parse.proofs.SoundExpressions.{expr_at_sound};
 ghost use Rattle.ob_parse.proofs.SoundTypes.{type_at_sound};
-ghost use Rattle.ob_table.specs.DeclarationShapes.{ended_outline, ended_piece, body_outline, body_piece, returned_outline, returned_piece, behind_procedure, behind_procedure_piece, Block, block_shown, block_step, Ending, ending_shown, ending_step};
-ghost use Rattle.ob_table.specs.Ended.{EndedDeclarations, EndedProcedure, EndedProcedures, procedures_outline};
+ghost use Rattle.ob_table.specs.DeclarationShapes.{ended_outline, ended_piece, procedures_outline, body_outline, body_piece, returned_outline, returned_piece, behind_procedure, behind_procedure_piece, block_shown, block_step, ending_shown, ending_step};
 ghost use Rattle.ob_table.specs.Tabulating.{Tabulates, TabulatesBy};
 
 use crate::ends::procedure_name;
@@ -226,17 +226,16 @@ fn declaration_section<D: Declaration>(
 fn procedures(
     draft: &mut Draft,
     inside: Context,
-    bytes: &[u8],
     source: &Source,
     input: Cursor,
     depth: u32,
 ) -> Result<Cursor, Stop>
-    ensures { Tabulates {T = EndedProcedures bytes.now source.now.tokens.now} source.now.tokens.now (λ v. procedures_outline v.tree.items) (λ v. parts.each (ended_piece procedure_piece) v.tree.items) inside draft.old draft.new result
+    ensures { Tabulates {T = Vec ProcDecl} source.now.tokens.now (λ v. procedures_outline v.items) (λ v. parts.each (ended_piece procedure_piece) v.items) inside draft.old draft.new result
         (procedures_with (procedure_at depth) (ahead source.now.tokens.now input)) }
 {
     let mut here = input;
     'more: while is_at(source.tokens, here, Kind::Procedure) {
-        match ended_procedure(draft, inside, bytes, source, here, depth) {
+        match ended_procedure(draft, inside, source, here, depth) {
             Ok(next) => here = next,
             Err(stop) => return Err(stop),
         }
@@ -251,15 +250,14 @@ fn procedures(
 fn ended_procedure(
     draft: &mut Draft,
     inside: Context,
-    bytes: &[u8],
     source: &Source,
     input: Cursor,
     depth: u32,
 ) -> Result<Cursor, Stop>
-    ensures { Tabulates {T = EndedProcedure bytes.now source.now.tokens.now} source.now.tokens.now (λ p. ended_outline procedure_outline p.tree) (λ p. ended_piece procedure_piece p.tree) inside draft.old draft.new result
+    ensures { Tabulates source.now.tokens.now (ended_outline procedure_outline) (ended_piece procedure_piece) inside draft.old draft.new result
         (with_semicolon (procedure_at depth) (ahead source.now.tokens.now input)) }
 {
-    match procedure(draft, inside, bytes, source, input, depth) {
+    match procedure(draft, inside, source, input, depth) {
         Ok(here) => pass_word(draft, source.tokens, here, Kind::Semicolon),
         Err(stop) => Err(stop),
     }
@@ -270,12 +268,11 @@ fn ended_procedure(
 fn procedure(
     draft: &mut Draft,
     inside: Context,
-    bytes: &[u8],
     source: &Source,
     input: Cursor,
     depth: u32,
 ) -> Result<Cursor, Stop>
-    ensures { Tabulates {T = EndedProcedure bytes.now source.now.tokens.now} source.now.tokens.now (λ p. procedure_outline p.tree) (λ p. procedure_piece p.tree) inside draft.old draft.new result (procedure_at depth (ahead source.now.tokens.now input)) }
+    ensures { Tabulates source.now.tokens.now procedure_outline procedure_piece inside draft.old draft.new result (procedure_at depth (ahead source.now.tokens.now input)) }
 {
     if depth == 0 {
         return Err(beyond(
@@ -284,7 +281,7 @@ fn procedure(
             is_at(source.tokens, input, Kind::Procedure),
         ));
     }
-    procedure_within(draft, inside, bytes, source, input, depth - 1)
+    procedure_within(draft, inside, source, input, depth - 1)
 }
 
 /// A procedure, with at most so many levels in its parts.
@@ -292,12 +289,11 @@ fn procedure(
 fn procedure_within(
     draft: &mut Draft,
     inside: Context,
-    bytes: &[u8],
     source: &Source,
     input: Cursor,
     depth: u32,
 ) -> Result<Cursor, Stop>
-    ensures { Tabulates {T = EndedProcedure bytes.now source.now.tokens.now} source.now.tokens.now (λ p. procedure_outline p.tree) (λ p. procedure_piece p.tree) inside draft.old draft.new result
+    ensures { Tabulates source.now.tokens.now procedure_outline procedure_piece inside draft.old draft.new result
         (procedure_with (expr_at depth) (block_at depth) (declarations_at depth) (ahead source.now.tokens.now input)) }
 {
     let first = draft.number;
@@ -308,7 +304,7 @@ fn procedure_within(
         outer: inside.block,
     });
     let around = block_from(declaring_from(inside, first), first);
-    match procedure_inner(draft, around, bytes, source, input, depth) {
+    match procedure_inner(draft, around, source, input, depth) {
         Ok(here) => {
             draft.close(at, row);
             Ok(here)
@@ -323,17 +319,16 @@ fn procedure_within(
 fn procedure_inner(
     draft: &mut Draft,
     inside: Context,
-    bytes: &[u8],
     source: &Source,
     input: Cursor,
     depth: u32,
 ) -> Result<Cursor, Stop>
-    ensures { Tabulates {T = EndedProcedure bytes.now source.now.tokens.now} source.now.tokens.now (λ p. word kinds.Procedure ++ behind_procedure p.tree) (λ p. both token (behind_procedure_piece p.tree)) inside draft.old draft.new result
+    ensures { Tabulates source.now.tokens.now (λ p. word kinds.Procedure ++ behind_procedure p) (λ p. both token (behind_procedure_piece p)) inside draft.old draft.new result
         (seq (expect_at kinds.Procedure) (behind_name (procedure_named (expr_at depth) (block_at depth) (declarations_at depth))) (ahead source.now.tokens.now input)) }
 {
     match pass_word(draft, source.tokens, input, Kind::Procedure) {
         Ok(here) => match identifier(source.tokens, here) {
-            Ok((name, here)) => named_procedure(draft, inside, bytes, source, here, depth, name),
+            Ok((name, here)) => named_procedure(draft, inside, source, here, depth, name),
             Err(stop) => Err(stop),
         },
         Err(stop) => Err(stop),
@@ -346,20 +341,19 @@ fn procedure_inner(
 fn named_procedure(
     draft: &mut Draft,
     inside: Context,
-    bytes: &[u8],
     source: &Source,
     input: Cursor,
     depth: u32,
     name: u32,
 ) -> Result<Cursor, Stop>
-    ensures { Tabulates {T = EndedProcedure bytes.now source.now.tokens.now} source.now.tokens.now (λ p. behind_procedure p.tree) (λ p. behind_procedure_piece p.tree) inside draft.old draft.new result
+    ensures { Tabulates source.now.tokens.now behind_procedure behind_procedure_piece inside draft.old draft.new result
         (procedure_named (expr_at depth) (block_at depth) (declarations_at depth) name (ahead source.now.tokens.now input)) }
 {
     let (starred, here) = skip(source.tokens, input, Kind::Star);
     walk_identdef(draft, inside, Name { name, starred });
     match some_parameters(draft, inside, source.tokens, here) {
         Ok(here) => match pass_word(draft, source.tokens, here, Kind::Semicolon) {
-            Ok(here) => procedure_block(draft, inside, bytes, source, here, depth, name),
+            Ok(here) => procedure_block(draft, inside, source, here, depth, name),
             Err(stop) => Err(stop),
         },
         Err(stop) => Err(stop),
@@ -371,18 +365,17 @@ fn named_procedure(
 fn procedure_block(
     draft: &mut Draft,
     inside: Context,
-    bytes: &[u8],
     source: &Source,
     input: Cursor,
     depth: u32,
     name: u32,
 ) -> Result<Cursor, Stop>
-    ensures { TabulatesBy {T = Block bytes.now source.now.tokens.now name} source.now.tokens.now block_shown (block_step inside) draft.old draft.new result
+    ensures { TabulatesBy source.now.tokens.now (block_shown name) (block_step inside) draft.old draft.new result
         (seq (declarations_at depth) (seq (body_with (block_at depth)) (seq (optional (accept_at kinds.Return) (expr_at depth))
         (seq (expect_at kinds.End) (name_at (repeated name))))) (ahead source.now.tokens.now input)) }
 {
-    match declarations(draft, inside, bytes, source, input, depth) {
-        Ok(here) => ending(draft, inside, bytes, source, here, depth, name),
+    match declarations(draft, inside, source, input, depth) {
+        Ok(here) => ending(draft, inside, source, here, depth, name),
         Err(stop) => Err(stop),
     }
 }
@@ -429,20 +422,19 @@ fn returned(
 fn ending(
     draft: &mut Draft,
     inside: Context,
-    bytes: &[u8],
     source: &Source,
     input: Cursor,
     depth: u32,
     name: u32,
 ) -> Result<Cursor, Stop>
-    ensures { TabulatesBy {T = Ending bytes.now source.now.tokens.now name} source.now.tokens.now ending_shown (ending_step inside) draft.old draft.new result
+    ensures { TabulatesBy source.now.tokens.now (ending_shown name) (ending_step inside) draft.old draft.new result
         (seq (body_with (block_at depth)) (seq (optional (accept_at kinds.Return) (expr_at depth))
         (seq (expect_at kinds.End) (name_at (repeated name)))) (ahead source.now.tokens.now input)) }
 {
     match body(draft, inside, source, input, depth) {
         Ok(here) => match returned(draft, inside, source, here, depth) {
             Ok(here) => match pass_word(draft, source.tokens, here, Kind::End) {
-                Ok(here) => procedure_name(draft, inside, bytes, source.tokens, here, name),
+                Ok(here) => procedure_name(draft, inside, source.tokens, here, name),
                 Err(stop) => Err(stop),
             },
             Err(stop) => Err(stop),
@@ -456,12 +448,11 @@ fn ending(
 pub(crate) fn declarations(
     draft: &mut Draft,
     inside: Context,
-    bytes: &[u8],
     source: &Source,
     input: Cursor,
     depth: u32,
 ) -> Result<Cursor, Stop>
-    ensures { Tabulates {T = EndedDeclarations bytes.now source.now.tokens.now} source.now.tokens.now (λ d. declarations_outline d.tree) (λ d. declarations_piece d.tree) inside draft.old draft.new result (declarations_at depth (ahead source.now.tokens.now input)) }
+    ensures { Tabulates source.now.tokens.now declarations_outline declarations_piece inside draft.old draft.new result (declarations_at depth (ahead source.now.tokens.now input)) }
 {
     match declaration_section::<ConstDecl>(
         draft,
@@ -490,7 +481,7 @@ pub(crate) fn declarations(
                 Kind::Var,
                 Sort::Variable,
             ) {
-                Ok(here) => procedures(draft, inside, bytes, source, here, depth),
+                Ok(here) => procedures(draft, inside, source, here, depth),
                 Err(stop) => Err(stop),
             },
             Err(stop) => Err(stop),

@@ -10,9 +10,8 @@ ghost use Rattle.ob_parse.specs.Forms.{expect_at, name_at, seq};
 ghost use Rattle.ob_parse.specs.Accords.{ahead};
 ghost use Rattle.ob_parse.specs.ReadStatements.{block_at};
 ghost use Rattle.ob_parse.specs.ReadModules.{imports_at, declarations_at, body_with, module_at, module_behind_name, all_of};
-ghost use Rattle.ob_table.specs.DeclarationShapes.{ModuleEnd, end_shown, end_step, ModuleParts, parts_shown, parts_step, ModuleBehind, behind_shown, behind_step, imports_shown};
-ghost use Rattle.ob_table.specs.Ended.{EndedModule, TabulatesWhole};
-ghost use Rattle.ob_table.specs.Tabulating.{Tabulates, TabulatesBy};
+ghost use Rattle.ob_table.specs.DeclarationShapes.{end_shown, end_step, parts_shown, parts_step, behind_shown, behind_step, imports_shown};
+ghost use Rattle.ob_table.specs.Tabulating.{Tabulates, TabulatesBy, TabulatesWhole};
 
 use crate::declarations::{body, declarations};
 use crate::ends::module_name;
@@ -50,16 +49,15 @@ fn imports(
 fn ending(
     draft: &mut Draft,
     inside: Context,
-    bytes: &[u8],
     tokens: &[Token],
     input: Cursor,
     name: u32,
 ) -> Result<Cursor, Stop>
-    ensures { TabulatesBy {T = ModuleEnd bytes.now tokens.now name} tokens.now end_shown (end_step inside) draft.old draft.new result
+    ensures { TabulatesBy tokens.now (end_shown name) (end_step inside) draft.old draft.new result
         (seq (expect_at kinds.End) (seq (name_at (repeated name)) (expect_at kinds.Dot)) (ahead tokens.now input)) }
 {
     match pass_word(draft, tokens, input, Kind::End) {
-        Ok(here) => match module_name(draft, inside, bytes, tokens, here, name) {
+        Ok(here) => match module_name(draft, inside, tokens, here, name) {
             Ok(here) => pass_word(draft, tokens, here, Kind::Dot),
             Err(stop) => Err(stop),
         },
@@ -71,19 +69,18 @@ fn ending(
 fn parts(
     draft: &mut Draft,
     inside: Context,
-    bytes: &[u8],
     source: &Source,
     input: Cursor,
     depth: u32,
     name: u32,
 ) -> Result<Cursor, Stop>
-    ensures { TabulatesBy {T = ModuleParts bytes.now source.now.tokens.now name} source.now.tokens.now parts_shown (parts_step inside) draft.old draft.new result
+    ensures { TabulatesBy source.now.tokens.now (parts_shown name) (parts_step inside) draft.old draft.new result
         (seq (declarations_at depth) (seq (body_with (block_at depth)) (seq (expect_at kinds.End)
         (seq (name_at (repeated name)) (expect_at kinds.Dot)))) (ahead source.now.tokens.now input)) }
 {
-    match declarations(draft, inside, bytes, source, input, depth) {
+    match declarations(draft, inside, source, input, depth) {
         Ok(here) => match body(draft, inside, source, here, depth) {
-            Ok(here) => ending(draft, inside, bytes, source.tokens, here, name),
+            Ok(here) => ending(draft, inside, source.tokens, here, name),
             Err(stop) => Err(stop),
         },
         Err(stop) => Err(stop),
@@ -95,17 +92,16 @@ fn behind(
     alloc: Global,
     draft: &mut Draft,
     inside: Context,
-    bytes: &[u8],
     source: &Source,
     input: Cursor,
     depth: u32,
     name: u32,
 ) -> Result<Cursor, Stop>
-    ensures { TabulatesBy {T = ModuleBehind bytes.now source.now.tokens.now name} source.now.tokens.now behind_shown (behind_step inside) draft.old draft.new result (module_behind_name depth name (ahead source.now.tokens.now input)) }
+    ensures { TabulatesBy source.now.tokens.now (behind_shown name) (behind_step inside) draft.old draft.new result (module_behind_name depth name (ahead source.now.tokens.now input)) }
 {
     match pass_word(draft, source.tokens, input, Kind::Semicolon) {
         Ok(here) => match imports(alloc, draft, inside, source.tokens, here) {
-            Ok(here) => parts(draft, inside, bytes, source, here, depth, name),
+            Ok(here) => parts(draft, inside, source, here, depth, name),
             Err(stop) => Err(stop),
         },
         Err(stop) => Err(stop),
@@ -117,18 +113,17 @@ fn module(
     alloc: Global,
     draft: &mut Draft,
     inside: Context,
-    bytes: &[u8],
     source: &Source,
     input: Cursor,
     depth: u32,
 ) -> Result<Cursor, Stop>
-    ensures { Tabulates {T = EndedModule bytes.now source.now.tokens.now} source.now.tokens.now (λ m. module_outline m.tree) (λ m. module_piece m.tree) inside draft.old draft.new result (module_at depth (ahead source.now.tokens.now input)) }
+    ensures { Tabulates source.now.tokens.now module_outline module_piece inside draft.old draft.new result (module_at depth (ahead source.now.tokens.now input)) }
 {
     match pass_word(draft, source.tokens, input, Kind::Module) {
         Ok(here) => match identifier(source.tokens, here) {
             Ok((name, here)) => {
                 draft.pass();
-                behind(alloc, draft, inside, bytes, source, here, depth, name)
+                behind(alloc, draft, inside, source, here, depth, name)
             }
             Err(stop) => Err(stop),
         },
@@ -141,14 +136,13 @@ pub(crate) fn whole(
     alloc: Global,
     draft: &mut Draft,
     inside: Context,
-    bytes: &[u8],
     source: &Source,
     input: Cursor,
     depth: u32,
 ) -> Result<(), Stop>
-    ensures { TabulatesWhole {T = EndedModule bytes.now source.now.tokens.now} source.now.tokens.now (λ m. module_outline m.tree) (λ m. after (module_piece m.tree) inside) draft.old draft.new result (all_of depth (ahead source.now.tokens.now input)) }
+    ensures { TabulatesWhole source.now.tokens.now module_outline (λ m. after (module_piece m) inside) draft.old draft.new result (all_of depth (ahead source.now.tokens.now input)) }
 {
-    match module(alloc, draft, inside, bytes, source, input, depth) {
+    match module(alloc, draft, inside, source, input, depth) {
         Ok(here) => match here.next(source.tokens) {
             None => Ok(()),
             Some(_) => Err(Stop::Unexpected(here)),

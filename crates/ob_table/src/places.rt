@@ -1,4 +1,4 @@
-//! The places of the rows of selectors, and what is seen ahead of them.
+//! The places of the rows of designators and selectors, and what is seen ahead of them.
 
 ghost use Rattle.std.specs.Prelude.{◌≡◌, ◌+◌, ◌<◌, ◌≤◌, ◌++◌, ◌∷◌, ℕ, false, length, List};
 ghost use Rattle.ob_tree.specs.declared.token.Leaf.{Leaf};

@@ -12,25 +12,26 @@ ghost use Rattle.ob_tree.specs.Leaves.{leaves_from};
 ghost use Rattle.ob_tree.specs.declared.declaration.Module.{Module};
 ghost use Rattle.ob_parse.specs.Parsed.{IsTheTree, IsFaultOf, kinds_of};
 ghost use Rattle.ob_parse.specs.ReadModules.{all_of};
-ghost use Rattle.ob_table.specs.Ended.{EndedModule, TabulatesWhole};
+ghost use Rattle.ob_table.specs.Tabulating.{TabulatesWhole};
 
+use crate::ends::wrong_end;
 use crate::modules::whole;
 use crate::source::{Source, brackets_of};
-use ob_decls::laws::tree_rows;
+use ob_decls::laws::{table_endings, tree_rows};
 use ob_decls::table_from;
+use ob_parse::ParseFault;
 use ob_parse::cursor::Cursor;
 use ob_parse::parser::{DEEPEST, fault_of};
 use ob_parse::stop::Stop;
-use ob_parse::{ParseFault, fault_in};
 use ob_rows::Table;
 use ob_rows::draft::{Context, Draft};
 use ob_scan::{Token, Tokens};
 use std::alloc::Global;
 
 /// All tokens of a text.
-fn pass_all(alloc: Global, draft: &mut Draft, bytes: &[u8], tokens: &[Token]) -> Result<(), Stop>
+fn pass_all(alloc: Global, draft: &mut Draft, tokens: &[Token]) -> Result<(), Stop>
     requires { length tokens.now < 2 ^ 32 }
-    ensures { TabulatesWhole {T = EndedModule bytes.now tokens.now} tokens.now (λ m. module_outline m.tree) (λ m. after (module_piece m.tree) outermost) draft.old draft.new result (all_of 200 (leaves_from 0 (kinds_of tokens.now))) }
+    ensures { TabulatesWhole tokens.now module_outline (λ m. after (module_piece m) outermost) draft.old draft.new result (all_of 200 (leaves_from 0 (kinds_of tokens.now))) }
 {
     let brackets = brackets_of(alloc, tokens)?;
     let source = Source {
@@ -41,7 +42,6 @@ fn pass_all(alloc: Global, draft: &mut Draft, bytes: &[u8], tokens: &[Token]) ->
         alloc,
         draft,
         Context::OUTERMOST,
-        bytes,
         &source,
         Cursor::ALL,
         DEEPEST,
@@ -51,9 +51,7 @@ fn pass_all(alloc: Global, draft: &mut Draft, bytes: &[u8], tokens: &[Token]) ->
 /// The table of the module that the tokens of a text of these bytes are of, or why there is none: the rows of the tree that `parse`
 /// makes of them, and its faults. No tree is made on the way.
 ///
-/// A text that is read to its end has no table only where a name after END is wrong, memory was refused to a row, or a count doesn't
-/// fit 32 bits, which none of a text's tokens comes to. Then `fault_in` tells the name, or want of memory. Where memory is refused to
-/// the list of brackets or to that of imports, that is told at once.
+/// Memory is answered where a growth of memory is refused, or a count doesn't fit 32 bits, which none of a text's tokens comes to.
 ///
 /// It recurses a few calls for each level, so at most 200 levels deep, for which a stack of 2 MiB is enough. Lists are loops.
 pub fn read_table(alloc: Global, bytes: &[u8], tokens: &Tokens) -> Result<Table, ParseFault>
@@ -67,9 +65,10 @@ pub fn read_table(alloc: Global, bytes: &[u8], tokens: &Tokens) -> Result<Table,
     ensures fault { IfErr result (IsFaultOf bytes.now tokens.now) }
 {
     tree_rows();
+    table_endings();
     let list = tokens.as_slice();
     let mut draft = Draft::new(alloc, list.len() as u32);
-    match pass_all(alloc, &mut draft, bytes, list) {
+    match pass_all(alloc, &mut draft, list) {
         Err(stop) => {
             drop(draft);
             return Err(fault_of(bytes.len() as u32, list, stop));
@@ -78,7 +77,11 @@ pub fn read_table(alloc: Global, bytes: &[u8], tokens: &Tokens) -> Result<Table,
     }
     if draft.refused {
         drop(draft);
-        return Err(fault_in(alloc, bytes, tokens));
+        return Err(ParseFault::Memory);
     }
-    Ok(table_from(draft))
+    let table = table_from(draft);
+    match wrong_end(bytes, list, &table) {
+        None => Ok(table),
+        Some(offset) => Err(ParseFault::EndName { offset }),
+    }
 }

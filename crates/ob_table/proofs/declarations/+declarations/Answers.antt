@@ -1,7 +1,5 @@
-use Rattle.std.proofs.Common.{[], Ok, refl, sym, ap, ◌∙◌, arith}
-use Rattle.std.proofs.lemmas.List.Elements.{All-nil}
+use Rattle.std.proofs.Common.{[], refl, sym, ap, ◌∙◌, arith}
 use Rattle.ob_scan.specs.declared.kind.Kind.TheVariants as kinds
-use Rattle.ob_tree.specs.declared.declaration.ProcDecl.{ProcDecl}
 use Rattle.ob_tree.specs.Declaring.{const_outline, type_decl_outline, variable_outline, procedure_outline}
 use Rattle.ob_tree.specs.Marks.{repeated}
 use Rattle.ob_decls.specs.Declaring.{const_piece, type_decl_piece, variable_piece, procedure_piece}
@@ -9,11 +7,9 @@ use Rattle.ob_rows.specs.declared.draft.Context.{Context}
 use Rattle.ob_rows.specs.Drafts.{after}
 use Rattle.ob_rows.specs.Parts.{in_block}
 use Rattle.ob_rows.specs.Parts.{each as pieces}
-use Rattle.ob_rows.proofs.Steps.{after_nothing, after_each}
 use Rattle.ob_parse.specs.Front.{is_word}
 use Rattle.ob_parse.specs.Forms.{begins, seq, expect_at, name_at, optional, accept_at, limit_at}
 use Rattle.ob_parse.specs.Accords.{ahead}
-use Rattle.ob_parse.specs.Parsed.{IsRightEnd}
 use Rattle.ob_parse.specs.ReadExpressions.{expr_at}
 use Rattle.ob_parse.specs.ReadStatements.{block_at}
 use Rattle.ob_parse.specs.ReadTypes.{type_at}
@@ -21,49 +17,43 @@ use Rattle.ob_parse.specs.ReadModules.{const_with, type_decl_with, variable_with
 use Rattle.ob_parse.proofs.Loops.{has_begun, has_not_begun}
 use Rattle.ob_parse.proofs.LoopProcedures.{procedure_advances}
 use Rattle.ob_table.specs.DeclarationShapes.{ended_outline, ended_piece}
-use Rattle.ob_table.specs.Ended.{RightEnds, EndedProcedure, EndedProcedures, procedures_outline}
-use Rattle.ob_table.proofs.Combine.{told_as, failed_then}
-use Rattle.ob_table.proofs.Lists.{Gathered, listing_begun, listing_more, listing_smaller, listing_failed, listing_done}
+use Rattle.ob_table.proofs.Combine.{failed_then}
+use Rattle.ob_table.proofs.Lists.{Any, listing_failed, listing_smaller, pieces_begun, pieces_done, pieces_more}
 use Rattle.ob_table.proofs.SectionTrees.{with_semicolon_told}
-use Rattle.ob_table.proofs.ProcedureTrees.{star_told, behind_heading_told, named_told, named_failed, named_failed_behind, inner_told, within_told, within_failed, procedure_deeper, procedures_right, sections_told, first_failed, second_failed, third_failed}
+use Rattle.ob_table.proofs.ProcedureTrees.{star_told, behind_heading_told, named_told, named_failed, named_failed_behind, inner_told, within_told, within_failed, procedure_deeper, sections_told, first_failed, second_failed, third_failed}
 use Rattle.ob_table.proofs.declarations.+declarations.Goals as goal
 
 pub procedures-more-init : goal.procedures-more-init
 procedures-more-init t c =
-    listing_begun c.args.source.now.tokens.now (begins (is_word kinds.Procedure)) (with_semicolon (procedure_at c.args.depth)) (ended_outline procedure_outline) (λ xs. after (pieces (ended_piece procedure_piece) xs) c.args.inside)
-    (λ xs. RightEnds c.args.bytes.now c.args.source.now.tokens.now (procedures_outline xs)) _ c.args.input (λ s. after_nothing c.args.inside s) (All-nil (IsRightEnd c.args.bytes.now c.args.source.now.tokens.now))
+    pieces_begun c.args.source.now.tokens.now (begins (is_word kinds.Procedure)) (with_semicolon (procedure_at c.args.depth)) (ended_outline procedure_outline) (ended_piece procedure_piece) c.args.inside _ c.args.input
 
 pub procedures-more-smaller : goal.procedures-more-smaller
 procedures-more-smaller t c =
-    listing_smaller {A = EndedProcedure c.args.bytes.now c.args.source.now.tokens.now} c.args.source.now.tokens.now (begins (is_word kinds.Procedure)) (with_semicolon (procedure_at c.args.depth)) (λ p. ended_outline procedure_outline p.tree) (λ p. after (ended_piece procedure_piece p.tree) c.args.inside) []
+    listing_smaller c.args.source.now.tokens.now (begins (is_word kinds.Procedure)) (with_semicolon (procedure_at c.args.depth)) (ended_outline procedure_outline) (λ p. after (ended_piece procedure_piece p) c.args.inside) []
     (procedure_advances c.args.depth) _ _ c.more.here c.more.here c.in-Ok.next (has_begun (is_word kinds.Procedure) _ (sym c.is_at.ensures ∙ c.more-test.true)) c.in-Ok.ensures
 
 pub procedures-more-preserved : goal.procedures-more-preserved
 procedures-more-preserved t c =
-    listing_more {X = ProcDecl} c.args.source.now.tokens.now (begins (is_word kinds.Procedure)) (with_semicolon (procedure_at c.args.depth)) (ended_outline procedure_outline) (λ xs. after (pieces (ended_piece procedure_piece) xs) c.args.inside)
-    {A = EndedProcedure c.args.bytes.now c.args.source.now.tokens.now} (λ xs. RightEnds c.args.bytes.now c.args.source.now.tokens.now (procedures_outline xs)) (λ xs. RightEnds c.args.bytes.now c.args.source.now.tokens.now (procedures_outline xs))
-    (λ p. ended_outline procedure_outline p.tree) (λ p. after (ended_piece procedure_piece p.tree) c.args.inside) (λ p. p.tree) [] (procedure_advances c.args.depth) (λ p. refl)
-    _ _ _ c.args.input c.more.here c.more.here c.in-Ok.next (λ e xs p so. (procedures_right c.args.bytes.now c.args.source.now.tokens.now xs p so, λ s. after_each (ended_piece procedure_piece) xs p.tree c.args.inside s))
-    (has_begun (is_word kinds.Procedure) _ (sym c.is_at.ensures ∙ c.more-test.true)) c.more.invariant c.in-Ok.ensures
+    pieces_more c.args.source.now.tokens.now (begins (is_word kinds.Procedure)) (with_semicolon (procedure_at c.args.depth)) (ended_outline procedure_outline) (ended_piece procedure_piece) c.args.inside
+    (ended_outline procedure_outline) (λ p. after (ended_piece procedure_piece p) c.args.inside) (λ p. p) [] (procedure_advances c.args.depth) (λ p. refl) (λ p s. refl)
+    _ _ _ c.args.input c.more.here c.more.here c.in-Ok.next (has_begun (is_word kinds.Procedure) _ (sym c.is_at.ensures ∙ c.more-test.true)) c.more.invariant c.in-Ok.ensures
 
 pub procedures-returns-in-Err : goal.procedures-returns-in-Err
 unfolding procedures_with
 procedures-returns-in-Err t c =
     listing_failed c.args.source.now.tokens.now (begins (is_word kinds.Procedure)) (with_semicolon (procedure_at c.args.depth)) (ended_outline procedure_outline) (λ xs. after (pieces (ended_piece procedure_piece) xs) c.args.inside)
-    (λ xs. RightEnds c.args.bytes.now c.args.source.now.tokens.now (procedures_outline xs)) c.in-Err.stop [] (procedure_advances c.args.depth) _ _ c.args.input c.more.here c.more.here
+    Any c.in-Err.stop [] (procedure_advances c.args.depth) _ _ c.args.input c.more.here c.more.here
     (has_begun (is_word kinds.Procedure) _ (sym c.is_at.ensures ∙ c.more-test.true)) c.more.invariant c.in-Err.ensures
 
 pub procedures-returns : goal.procedures-returns
 unfolding procedures_with
 procedures-returns t c =
-    told_as c.args.source.now.tokens.now (λ (v : Gathered (λ xs. RightEnds c.args.bytes.now c.args.source.now.tokens.now (procedures_outline xs))). procedures_outline v.list.items) (λ v. after (pieces (ended_piece procedure_piece) v.list.items) c.args.inside)
-    (λ (v : EndedProcedures c.args.bytes.now c.args.source.now.tokens.now). procedures_outline v.tree.items) (λ v. after (pieces (ended_piece procedure_piece) v.tree.items) c.args.inside) (λ v. record { tree = v.list; ended = v.so }) (λ v. refl) (λ v s. refl) _ _ (Ok c.more.here) _
-    (listing_done c.args.source.now.tokens.now (begins (is_word kinds.Procedure)) (with_semicolon (procedure_at c.args.depth)) (ended_outline procedure_outline) (λ xs. after (pieces (ended_piece procedure_piece) xs) c.args.inside)
-    (λ xs. RightEnds c.args.bytes.now c.args.source.now.tokens.now (procedures_outline xs)) (procedure_advances c.args.depth) _ _ c.args.input c.more.here (has_not_begun (is_word kinds.Procedure) _ (sym c.is_at.ensures ∙ c.more-test.false)) c.more.invariant)
+    pieces_done c.args.source.now.tokens.now (begins (is_word kinds.Procedure)) (with_semicolon (procedure_at c.args.depth)) (ended_outline procedure_outline) (ended_piece procedure_piece) c.args.inside
+    (procedure_advances c.args.depth) _ _ c.args.input c.more.here (has_not_begun (is_word kinds.Procedure) _ (sym c.is_at.ensures ∙ c.more-test.false)) c.more.invariant
 
 pub ended_procedure-returns-in-Ok : goal.ended_procedure-returns-in-Ok
 ended_procedure-returns-in-Ok t c =
-    with_semicolon_told {A = EndedProcedure c.args.bytes.now c.args.source.now.tokens.now} c.args.source.now.tokens.now (λ p. procedure_outline p.tree) (λ p. procedure_piece p.tree) c.args.inside (procedure_at c.args.depth) _ _ _ c.args.input c.in-Ok.here _ c.in-Ok.ensures c.pass_word.ensures
+    with_semicolon_told c.args.source.now.tokens.now procedure_outline procedure_piece c.args.inside (procedure_at c.args.depth) _ _ _ c.args.input c.in-Ok.here _ c.in-Ok.ensures c.pass_word.ensures
 
 pub ended_procedure-returns-in-Err : goal.ended_procedure-returns-in-Err
 ended_procedure-returns-in-Err t c = failed_then c.args.source.now.tokens.now (procedure_at c.args.depth) (expect_at kinds.Semicolon) c.in-Err.stop _ c.in-Err.ensures
@@ -77,7 +67,7 @@ procedure-returns t c = rw (procedure_deeper c.args.depth (ahead c.args.source.n
 
 pub procedure_within-returns-in-Ok : goal.procedure_within-returns-in-Ok
 procedure_within-returns-in-Ok t c =
-    within_told c.args.bytes.now c.args.source.now.tokens.now (expr_at c.args.depth) (block_at c.args.depth) (declarations_at c.args.depth) c.args.inside c.block_from-around.result c.declarer_at-row.result c.open-at.result _ c.open-at.new.self c.add_block.new.self _ _ c.args.input c.in-Ok.here
+    within_told c.args.source.now.tokens.now (expr_at c.args.depth) (block_at c.args.depth) (declarations_at c.args.depth) c.args.inside c.block_from-around.result c.declarer_at-row.result c.open-at.result _ c.open-at.new.self c.add_block.new.self _ _ c.args.input c.in-Ok.here
     c.declarer_at-row.ensures (c.block_from-around.ensures ∙ ap (λ (d : Context). in_block d c.args.draft.now.number) c.declaring_from.ensures) c.open-at.ensures.place c.open-at.ensures.row c.add_block.ensures c.in-Ok.ensures c.close.ensures
 
 pub procedure_within-returns-in-Err : goal.procedure_within-returns-in-Err
@@ -85,12 +75,12 @@ procedure_within-returns-in-Err t c = within_failed c.args.source.now.tokens.now
 
 pub procedure_inner-returns-in-Ok-identifier : goal.procedure_inner-returns-in-Ok-identifier
 procedure_inner-returns-in-Ok-identifier t c =
-    inner_told c.args.bytes.now c.args.source.now.tokens.now (procedure_named (expr_at c.args.depth) (block_at c.args.depth) (declarations_at c.args.depth)) c.in-Ok-identifier.name c.args.inside _ _ _ c.args.input c.in-Ok.here c.in-Ok-identifier.here _
+    inner_told c.args.source.now.tokens.now (procedure_named (expr_at c.args.depth) (block_at c.args.depth) (declarations_at c.args.depth)) c.in-Ok-identifier.name c.args.inside _ _ _ c.args.input c.in-Ok.here c.in-Ok-identifier.here _
     c.in-Ok.ensures c.in-Ok-identifier.ensures c.named_procedure.ensures
 
 pub named_procedure-returns-in-Ok-pass_word : goal.named_procedure-returns-in-Ok-pass_word
 named_procedure-returns-in-Ok-pass_word t c =
-    named_told c.args.bytes.now c.args.source.now.tokens.now c.args.name (expr_at c.args.depth) (block_at c.args.depth) (declarations_at c.args.depth) c.args.inside _ _ _ _ _ c.args.input c.skip-starred.result.1 c.in-Ok.here c.in-Ok-pass_word.here _
+    named_told c.args.source.now.tokens.now c.args.name (expr_at c.args.depth) (block_at c.args.depth) (declarations_at c.args.depth) c.args.inside _ _ _ _ _ c.args.input c.skip-starred.result.1 c.in-Ok.here c.in-Ok-pass_word.here _
     (star_told c.args.source.now.tokens.now c.args.name c.skip-starred.result.0 c.args.inside _ _ c.args.input c.skip-starred.result.1 c.skip-starred.ensures c.walk_identdef.ensures) c.in-Ok.ensures c.in-Ok-pass_word.ensures c.procedure_block.ensures
 
 pub named_procedure-returns-in-Err : goal.named_procedure-returns-in-Err
@@ -100,13 +90,13 @@ named_procedure-returns-in-Err t c =
 
 pub procedure_block-returns-in-Ok : goal.procedure_block-returns-in-Ok
 procedure_block-returns-in-Ok t c =
-    behind_heading_told c.args.bytes.now c.args.source.now.tokens.now c.args.name (declarations_at c.args.depth) (seq (body_with (block_at c.args.depth)) (seq (optional (accept_at kinds.Return) (expr_at c.args.depth)) (seq (expect_at kinds.End) (name_at (repeated c.args.name)))))
+    behind_heading_told c.args.source.now.tokens.now c.args.name (declarations_at c.args.depth) (seq (body_with (block_at c.args.depth)) (seq (optional (accept_at kinds.Return) (expr_at c.args.depth)) (seq (expect_at kinds.End) (name_at (repeated c.args.name)))))
     c.args.inside _ _ _ c.args.input c.in-Ok.here _ c.in-Ok.ensures c.ending.ensures
 
 pub declarations-returns-in-Ok-declaration_section-2 : goal.declarations-returns-in-Ok-declaration_section-2
 unfolding const_with const_outline const_piece type_decl_with type_decl_outline type_decl_piece variable_with variable_outline variable_piece
 declarations-returns-in-Ok-declaration_section-2 t c =
-    sections_told c.args.bytes.now c.args.source.now.tokens.now (expr_at c.args.depth) (type_at c.args.depth) (procedure_at c.args.depth) c.args.inside _ _ _ _ _ c.args.input c.in-Ok.here c.in-Ok-declaration_section.here c.in-Ok-declaration_section-2.here _
+    sections_told c.args.source.now.tokens.now (expr_at c.args.depth) (type_at c.args.depth) (procedure_at c.args.depth) c.args.inside _ _ _ _ _ c.args.input c.in-Ok.here c.in-Ok-declaration_section.here c.in-Ok-declaration_section-2.here _
     c.in-Ok.ensures c.in-Ok-declaration_section.ensures c.in-Ok-declaration_section-2.ensures c.procedures.ensures
 
 pub named_procedure-returns-in-Err-pass_word : goal.named_procedure-returns-in-Err-pass_word

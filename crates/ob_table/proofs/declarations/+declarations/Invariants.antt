@@ -1,17 +1,13 @@
 use Rattle.std.proofs.Common.{◌+◌, ◌*◌, length}
 use Rattle.ob_scan.specs.declared.kind.Kind.TheVariants as kinds
-use Rattle.ob_tree.specs.declared.declaration.ProcDecl.{ProcDecl}
 use Rattle.ob_tree.specs.Declaring.{procedure_outline}
 use Rattle.ob_decls.specs.Declaring.{procedure_piece}
-use Rattle.ob_rows.specs.Drafts.{after}
-use Rattle.ob_rows.specs.Parts.{each}
 use Rattle.ob_parse.specs.Front.{is_word}
 use Rattle.ob_parse.specs.Forms.{begins}
 use Rattle.ob_parse.specs.Accords.{ahead}
 use Rattle.ob_parse.specs.ReadModules.{with_semicolon, procedure_at}
 use Rattle.ob_table.specs.DeclarationShapes.{ended_outline, ended_piece}
-use Rattle.ob_table.specs.Ended.{RightEnds, procedures_outline}
-use Rattle.ob_table.proofs.Lists.{Listing}
+use Rattle.ob_table.proofs.Lists.{PieceListing}
 use Rattle.ob_table.proofs.declarations.+declarations.Given as goal
 
 abbrev pub decreases-procedure : goal.decreases-procedure
@@ -40,8 +36,7 @@ decreases-procedure_within l = 16 * l.depth + 7
 
 abbrev pub invariant-procedures-more : goal.invariant-procedures-more
 invariant-procedures-more l =
-    Listing {X = ProcDecl} l.fn.source.tokens.now (begins (is_word kinds.Procedure)) (with_semicolon (procedure_at l.depth)) (ended_outline procedure_outline) (λ xs. after (each (ended_piece procedure_piece) xs) l.inside)
-    (λ xs. RightEnds l.fn.bytes l.fn.source.tokens.now (procedures_outline xs)) l.initial.draft l.draft l.fn.input l.here
+    PieceListing l.fn.source.tokens.now (begins (is_word kinds.Procedure)) (with_semicolon (procedure_at l.depth)) (ended_outline procedure_outline) (ended_piece procedure_piece) l.inside l.initial.draft l.draft l.fn.input l.here
 
 abbrev pub decreases-procedures-more : goal.decreases-procedures-more
 decreases-procedures-more l = length (ahead l.fn.source.tokens.now l.here)

@@ -3,7 +3,7 @@ use Rattle.ob_table.proofs.modules.behind.Goals as goal
 
 pub returns-in-Ok-imports : goal.returns-in-Ok-imports
 returns-in-Ok-imports c =
-    behind_name_told c.args.bytes.now c.args.source.now.tokens.now c.args.name c.args.depth c.args.inside _ _ _ _ c.args.input c.in-Ok.here c.in-Ok-imports.here _ c.in-Ok.ensures c.in-Ok-imports.ensures c.parts.ensures
+    behind_name_told c.args.source.now.tokens.now c.args.name c.args.depth c.args.inside _ _ _ _ c.args.input c.in-Ok.here c.in-Ok-imports.here _ c.in-Ok.ensures c.in-Ok-imports.ensures c.parts.ensures
 
 pub returns-in-Err : goal.returns-in-Err
 returns-in-Err c = semicolon_failed c.args.source.now.tokens.now c.args.depth c.args.name c.in-Err.stop _ c.in-Err.ensures

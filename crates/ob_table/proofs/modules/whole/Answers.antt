@@ -3,18 +3,17 @@ use Rattle.ob_tree.specs.Declaring.{module_outline}
 use Rattle.ob_decls.specs.Declaring.{module_piece}
 use Rattle.ob_rows.specs.Drafts.{after}
 use Rattle.ob_parse.specs.Accords.{ahead, seen}
-use Rattle.ob_table.specs.Ended.{EndedModule}
 use Rattle.ob_table.proofs.ModuleTrees.{whole_told, whole_failed, whole_left}
 use Rattle.ob_table.proofs.modules.whole.Goals as goal
 
 pub returns-in-None : goal.returns-in-None
 returns-in-None c =
-    whole_told {T = EndedModule c.args.bytes.now c.args.source.now.tokens.now} c.args.source.now.tokens.now (λ m. module_outline m.tree) (λ m. after (module_piece m.tree) c.args.inside) c.args.depth _ _ c.in-Ok.here _ c.in-Ok.ensures
+    whole_told c.args.source.now.tokens.now module_outline (λ m. after (module_piece m) c.args.inside) c.args.depth _ _ c.in-Ok.here _ c.in-Ok.ensures
     (sym c.next.ensures ∙ ap (seen c.args.source.now.tokens.now) c.in-None.is)
 
 pub returns-in-Some : goal.returns-in-Some
 returns-in-Some c =
-    whole_left {T = EndedModule c.args.bytes.now c.args.source.now.tokens.now} c.args.source.now.tokens.now (λ m. module_outline m.tree) (λ m. after (module_piece m.tree) c.args.inside) c.args.depth _ _ c.in-Ok.here (ahead c.args.source.now.tokens.now c.args.input) _ c.in-Ok.ensures
+    whole_left c.args.source.now.tokens.now module_outline (λ m. after (module_piece m) c.args.inside) c.args.depth _ _ c.in-Ok.here (ahead c.args.source.now.tokens.now c.args.input) _ c.in-Ok.ensures
     (sym c.next.ensures ∙ ap (seen c.args.source.now.tokens.now) c.in-Some.is)
 
 pub returns-in-Err : goal.returns-in-Err
