@@ -10,14 +10,15 @@ use Rattle.ob_parse.specs.declared.cursor.Cursor.{Cursor}
 use Rattle.ob_parse.specs.Forms.{Read, many, accept_at, expect_at}
 use Rattle.ob_parse.specs.Accords.{ahead, kind_of}
 use Rattle.ob_parse.proofs.Ahead.{leaves_length}
-use Rattle.ob_parse.proofs.Sound.{expect_sound}
+use Rattle.ob_parse.proofs.Compatible.{expect_held}
+use Rattle.ob_parse.proofs.Sound.{sound}
 use Rattle.ob_parse.proofs.Loops.{Advances, with_front, goes_on, accept_advances}
 
 abbrev pub array_of : Out
 array_of = word kinds.Array ++ word kinds.Of
 
 pub array_advances : Advances (accept_at kinds.Array) (expect_at kinds.Of)
-array_advances = accept_advances zero kinds.Array _ (expect_sound zero kinds.Of)
+array_advances = accept_advances zero kinds.Array _ (expect_held sound kinds.Of)
 
 pub fewer : (ls rest after : List Leaf) → accept_at kinds.Array ls ≡ Some (word kinds.Array, rest) → expect_at kinds.Of rest ≡ Ok (word kinds.Of, after)
     → length after < length ls

@@ -31,8 +31,8 @@ use Rattle.ob_parse.specs.Front.{uncons, is_word}
 use Rattle.ob_parse.specs.Forms.{Reader, expect_at, accept_at, name_at, begins, seq, optional, many, several, nothing}
 use Rattle.ob_parse.specs.ReadExpressions.{mul_start, add_start, relation_start, sign_start, mul_at, add_at, relation_at, sign_at, selector_first, factor_first, expr_first, term_with, sum_with, expr_with, element_with, selector_from, selector_with, designator_with, factor_from, factor_with, expr_at, negated_at, factor_at, term_at}
 use Rattle.ob_parse.proofs.ReadsBack.{Reads, low_left, low_right, low_within, low_level, low_same, reads_same, reads_closed, reads_seq, reads_node, reads_after, reads_nothing, reads_something, reads_each, reads_several, reads_word, reads_name, accepts_word, follows, Opens, opens_node, opens_front, opens_same, opens_weaker, begins_there}
-use Rattle.ob_parse.proofs.Sound.{tokens_of-construct}
-use Rattle.ob_parse.proofs.SoundExpressions.{expr_at_sound, factor_at_sound, term_at_sound, element_sound}
+use Rattle.ob_parse.proofs.CompatibleProductions.{element_held}
+use Rattle.ob_parse.proofs.Sound.{sound, tokens_of-construct, expr_at_sound, factor_at_sound, term_at_sound}
 use Rattle.ob_parse.proofs.Loops.{Advances, mul_advances, add_advances, accept_advances, selector_advances}
 
 -- ---- what can't go on
@@ -445,8 +445,7 @@ factor_again r n d adv h g f rest le end =
 loops_end : (d : ℕ) → Loops (expr_at d)
 loops_end d = record {
   exprs = accept_advances d kinds.Comma (expr_at d) (expr_at_sound d);
-  elements = accept_advances d kinds.Comma (element_with (expr_at d))
-      (element_sound d (expr_at d) (expr_at_sound d));
+  elements = accept_advances d kinds.Comma (element_with (expr_at d)) (element_held sound (expr_at_sound d));
   selectors = selector_advances d (expr_at d) (expr_at_sound d);
 }
 

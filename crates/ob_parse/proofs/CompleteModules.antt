@@ -38,10 +38,8 @@ use Rattle.ob_parse.specs.ReadExpressions.{expr_at}
 use Rattle.ob_parse.specs.ReadStatements.{block_at}
 use Rattle.ob_parse.specs.ReadTypes.{some_parameters_at, type_at}
 use Rattle.ob_parse.specs.ReadModules.{is_identifier, const_with, type_decl_with, variable_with, with_semicolon, part_with, procedures_with, declarations_with, body_with, procedure_named, name_then, procedure_with, procedure_at, declarations_at, import_item_at, imports_at, module_behind_name, module_at, all_of}
-use Rattle.ob_parse.proofs.Sound.{tokens_of-construct}
-use Rattle.ob_parse.proofs.SoundExpressions.{expr_at_sound}
-use Rattle.ob_parse.proofs.SoundTypes.{type_at_sound}
-use Rattle.ob_parse.proofs.SoundModules.{import_sound}
+use Rattle.ob_parse.proofs.CompatibleProductions.{import_held}
+use Rattle.ob_parse.proofs.Sound.{sound, tokens_of-construct, expr_at_sound, type_at_sound}
 use Rattle.ob_parse.proofs.Loops.{Advances, accept_advances, declared_advances, const_shortens, type_decl_shortens, variable_shortens}
 use Rattle.ob_parse.proofs.LoopProcedures.{procedure_advances}
 use Rattle.ob_parse.proofs.ReadsBack.{Reads, low_right, split}
@@ -317,7 +315,7 @@ again_imports d o rest none =
     again_option d kinds.Import (seq (several kinds.Comma import_item_at) (expect_at kinds.Semicolon)) (λ l. separated kinds.Comma import_outline l ++ word kinds.Semicolon) o
     rest none (λ l.
     again_seq (again_end d kinds.Semicolon rest)
-    (again_several kinds.Comma import_item_at import_outline (λ ls. accept_at kinds.Assign ls ≡ None) d (accept_advances d kinds.Comma import_item_at (import_sound d))
+    (again_several kinds.Comma import_item_at import_outline (λ ls. accept_at kinds.Assign ls ≡ None) d (accept_advances d kinds.Comma import_item_at (import_held sound))
     (λ ls. not_accepted kinds.Assign kinds.Comma ls refl) (again_import d) l.first l.rest.items _ (not_accepted kinds.Assign kinds.Semicolon _ refl)
     (not_accepted kinds.Comma kinds.Semicolon _ refl)))
 

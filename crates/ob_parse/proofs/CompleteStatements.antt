@@ -30,14 +30,13 @@ use Rattle.ob_parse.specs.Forms.{Reader, expect_at, accept_at, name_at, identifi
 use Rattle.ob_parse.specs.ReadNames.{qualident_at, qualident_after}
 use Rattle.ob_parse.specs.ReadExpressions.{mul_at, add_at, relation_at, designator_with, factor_from, expr_at, negated_at}
 use Rattle.ob_parse.specs.ReadStatements.{label_first, statement_first, case_label_at, label_range_at, case_with, block_with, branch_with, if_with, cases_with, while_with, repeat_with, for_with, assign_with, statement_from, statement_with, empty_at, statement_at, block_at}
-use Rattle.ob_parse.proofs.Sound.{tokens_of-construct}
+use Rattle.ob_parse.proofs.CompatibleProductions.{label_range_held, case_held, branch_held}
+use Rattle.ob_parse.proofs.Sound.{sound, tokens_of-construct, expr_at_sound, statement_at_sound, block_at_sound}
 use Rattle.ob_parse.proofs.Loops.{accept_advances}
 use Rattle.ob_parse.proofs.ReadsBack.{Reads, Opens, split, low_level, opens_front, begins_there}
 use Rattle.ob_parse.proofs.Bounded.{Again, again_is, again_as, again_seq, again_end, again_word, again_name, again_node, again_level, too_high, again_nothing, again_something, again_accepted, again_option, past_option, past_there, again_each_after, past_each, again_several, not_accepted}
 use Rattle.ob_parse.proofs.CompleteNames.{qualident_again}
 use Rattle.ob_parse.proofs.CompleteExpressions.{EndsFactor, EndsExpr, ends_expr, exprs_again, designator_spelled, designator_again}
-use Rattle.ob_parse.proofs.SoundExpressions.{expr_at_sound}
-use Rattle.ob_parse.proofs.SoundStatements.{label_range_sound, case_sound, branch_sound, statement_at_sound, block_at_sound}
 
 -- ---- what can't go on
 
@@ -202,7 +201,7 @@ again_branches : (d : ℕ) → AgainBlocks d → (k : Kind) → is_after_expr k 
     accept_at kinds.Elsif rest ≡ None → Again d (many (accept_at kinds.Elsif) (branch_with (expr_at d) (block_at d) k)) (each_after kinds.Elsif (λ b. branch_outline b k) bs) rest
 again_branches d h k e bs rest end none =
     again_each_after kinds.Elsif (branch_with (expr_at d) (block_at d) k) (λ b. branch_outline b k) EndsBlock d
-    (accept_advances d kinds.Elsif _ (branch_sound d (expr_at d) (block_at d) k (expr_at_sound d) (block_at_sound d))) (λ ls. block_ends kinds.Elsif ls refl)
+    (accept_advances d kinds.Elsif _ (branch_held sound k (expr_at_sound d) (block_at_sound d))) (λ ls. block_ends kinds.Elsif ls refl)
     (again_branch d h k e) bs rest end none
 
 ranges_opens : (x : LabelRange) (xs : List LabelRange) (o : Out) (y : List Leaf) →
@@ -215,7 +214,7 @@ again_case_layer : (d : ℕ) → AgainBlocks d → (x : Case-F Case Stmt Branch 
 again_case_layer d h layers.Nothing rest end = again_nothing d (begins label_first) _ rest end.label
 again_case_layer d h (layers.Labelled ranges body) rest end =
     let behind = again_word kinds.Colon (h body.value rest end.block) in
-    let ls = again_several kinds.Comma label_range_at label_range_outline EndsRange d (accept_advances d kinds.Comma label_range_at (label_range_sound d))
+    let ls = again_several kinds.Comma label_range_at label_range_outline EndsRange d (accept_advances d kinds.Comma label_range_at (label_range_held sound))
     comma_ends_range (again_range d) ranges.first ranges.rest.items (leafs.Word kinds.Colon ∷ (tokens_of (block_outline body.value) ++ rest)) (colon_ends_range _)
     (not_accepted kinds.Comma kinds.Colon _ refl) in
     again_something (begins label_first) [] (begins_there label_first _ (ranges_opens ranges.first ranges.rest.items (word kinds.Colon ++ block_outline body.value) rest))
@@ -228,7 +227,7 @@ again_case d h c rest end = again_is (case_out c) (again_node constructs.Case (a
 again_cases : (d : ℕ) → AgainBlocks d → (cs : List Case) (rest : List Leaf) → EndsCase rest → accept_at kinds.Bar rest ≡ None →
     Again d (many (accept_at kinds.Bar) (case_with (block_at d))) (each_after kinds.Bar case_outline cs) rest
 again_cases d h cs rest end none =
-    again_each_after kinds.Bar (case_with (block_at d)) case_outline EndsCase d (accept_advances d kinds.Bar _ (case_sound d (block_at d) (block_at_sound d))) bar_ends
+    again_each_after kinds.Bar (case_with (block_at d)) case_outline EndsCase d (accept_advances d kinds.Bar _ (case_held sound (block_at_sound d))) bar_ends
     (again_case d h) cs rest end none
 
 -- ---- a statement of each form

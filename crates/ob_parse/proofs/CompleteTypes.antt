@@ -4,6 +4,7 @@ use Rattle.std.specs.declared.boxed.Box.{Box}
 use Rattle.std.specs.declared.alloc.Global.{Global}
 use Rattle.ob_scan.specs.declared.kind.Kind.{Kind}
 use Rattle.ob_scan.specs.declared.kind.Kind.TheVariants as kinds
+use Rattle.ob_tree.specs.declared.role.Role.TheVariants.{Declares}
 use Rattle.ob_tree.specs.declared.token.Leaf.{Leaf}
 use Rattle.ob_tree.specs.declared.token.Leaf.TheVariants as leafs
 use Rattle.ob_tree.specs.declared.name.OneOrMore.{OneOrMore}
@@ -28,9 +29,9 @@ use Rattle.ob_parse.specs.Forms.{Reader, expect_at, accept_at, name_at, identifi
 use Rattle.ob_parse.specs.ReadNames.{qualident_after, qualident_at, identdef_at}
 use Rattle.ob_parse.specs.ReadExpressions.{expr_at}
 use Rattle.ob_parse.specs.ReadTypes.{section_at, parameters_at, some_parameters_at, var_with, field_start, fields_with, record_with, type_with, type_at}
-use Rattle.ob_parse.proofs.Sound.{expect_sound, sound_flat, tokens_of-construct}
-use Rattle.ob_parse.proofs.SoundExpressions.{declared_sound, identdef_sound}
-use Rattle.ob_parse.proofs.SoundTypes.{section_sound, var_sound, type_at_sound}
+use Rattle.ob_parse.proofs.Compatible.{expect_held, name_held}
+use Rattle.ob_parse.proofs.CompatibleProductions.{identdef_held, section_held, field_held}
+use Rattle.ob_parse.proofs.Sound.{sound, tokens_of-construct, type_at_sound}
 use Rattle.ob_parse.proofs.Loops.{accept_advances, field_advances, has_begun}
 use Rattle.ob_parse.proofs.ReadsBack.{Reads, low_level, Opens, opens_node, open_there, opens_front, accepts_word, reads_none, reads_more, reads_word}
 use Rattle.ob_parse.proofs.CompleteNames.{member_shown, qualident_again, qualident_spelled, identdef_again}
@@ -57,9 +58,9 @@ qualident_opens q x = record { number = q.head; tail = _; is = qualident_spelled
 
 times_read : (n : ℕ) (rest : List Leaf) → accept_at kinds.Array rest ≡ None →
     Reads (many (accept_at kinds.Array) (expect_at kinds.Of)) (times n (word kinds.Array ++ word kinds.Of)) rest
-times_read zero rest e = reads_none _ _ (accept_advances zero kinds.Array (expect_at kinds.Of) (expect_sound zero kinds.Of)) rest e
+times_read zero rest e = reads_none _ _ (accept_advances zero kinds.Array (expect_at kinds.Of) (expect_held sound kinds.Of)) rest e
 times_read (suc n) rest e =
-    reads_more (accept_at kinds.Array) (expect_at kinds.Of) (accept_advances zero kinds.Array (expect_at kinds.Of) (expect_sound zero kinds.Of)) (word kinds.Array)
+    reads_more (accept_at kinds.Array) (expect_at kinds.Of) (accept_advances zero kinds.Array (expect_at kinds.Of) (expect_held sound kinds.Of)) (word kinds.Array)
     (word kinds.Of) (times n (word kinds.Array ++ word kinds.Of)) rest (accepts_word kinds.Array _) (reads_word kinds.Of _) (times_read n rest e)
 
 again_section : (d : ℕ) (s : ParameterSection) (rest : List Leaf) → accept_at kinds.Dot rest ≡ None → Again d section_at (section_outline s) rest
@@ -68,7 +69,7 @@ again_section d s rest dot =
     let arrays : Again d (many (accept_at kinds.Array) (expect_at kinds.Of)) (times s.open_arrays (word kinds.Array ++ word kinds.Of))
     (tokens_of (qualident_outline s.of) ++ rest) = record { reads = λ le. times_read s.open_arrays _ (name_not_accepted kinds.Array _ (qualident_opens s.of rest)) } in
     let form = again_word kinds.Colon (again_seq (again_qualident d s.of rest dot) arrays) in
-    let names = again_several kinds.Comma (name_at (declared false)) (declared false) (λ ls. Unit {0}) d (accept_advances d kinds.Comma (name_at (declared false)) (declared_sound d)) (λ ls. tt)
+    let names = again_several kinds.Comma (name_at (declared false)) (declared false) (λ ls. Unit {0}) d (accept_advances d kinds.Comma (name_at (declared false)) (name_held sound (Declares false) tt)) (λ ls. tt)
     (λ n ls good. again_name d (declared false) n ls refl) s.names.first s.names.rest.items _ tt (not_accepted kinds.Comma kinds.Colon _ refl) in
     let all = again_seq form names in
     again_is (section_out s) (again_node constructs.FPSection
@@ -105,7 +106,7 @@ sections_free l x = open_there kinds.RightParen section_first no_paren _
 again_sections : (d : ℕ) (l : OneOrMore ParameterSection) (rest : List Leaf) →
     Again d (several kinds.Semicolon section_at) (separated kinds.Semicolon section_outline l) (leafs.Word kinds.RightParen ∷ rest)
 again_sections d l rest =
-    again_several kinds.Semicolon section_at section_outline (λ ls. accept_at kinds.Dot ls ≡ None) d (accept_advances d kinds.Semicolon section_at (section_sound d))
+    again_several kinds.Semicolon section_at section_outline (λ ls. accept_at kinds.Dot ls ≡ None) d (accept_advances d kinds.Semicolon section_at (section_held sound))
     (λ ls. not_accepted kinds.Dot kinds.Semicolon ls refl) (again_section d) l.first l.rest.items _ (not_accepted kinds.Dot kinds.RightParen rest refl)
     (not_accepted kinds.Semicolon kinds.RightParen rest refl)
 
@@ -152,7 +153,7 @@ unfolding var_with
 again_var d h v rest end =
     let x = out-VarDecl v in
     let names = again_several kinds.Comma identdef_at identdef_outline (λ ls. accept_at kinds.Star ls ≡ None) d
-    (accept_advances d kinds.Comma identdef_at (identdef_sound d)) (λ ls. not_accepted kinds.Star kinds.Comma ls refl) (again_identdef d) x.names.first
+    (accept_advances d kinds.Comma identdef_at (identdef_held sound)) (λ ls. not_accepted kinds.Star kinds.Comma ls refl) (again_identdef d) x.names.first
     x.names.rest.items _ (not_accepted kinds.Star kinds.Colon _ refl) (not_accepted kinds.Comma kinds.Colon _ refl) in
     again_is (var_out v) (again_seq (again_word kinds.Colon (h x.form rest end)) names)
 
@@ -190,7 +191,7 @@ again_fields d h f rest =
     let end : EndsType (tokens_of closing ++ behind) = past_if_so EndsType kinds.Semicolon x.closing_semicolon behind semicolon_ends_type (end_ends_type rest) in
     let reader : Reader = node constructs.FieldList (var_with (type_at d)) in
     let others = again_each field_start reader (λ v. word kinds.Semicolon) field_outline EndsType d
-    (field_advances d reader (sound_flat d constructs.FieldList _ refl (var_sound d (type_at d) (type_at_sound d)))) (λ v ls. field_found _ (field_opens v ls))
+    (field_advances d reader (field_held sound (type_at_sound d))) (λ v ls. field_found _ (field_opens v ls))
     (λ v ls. semicolon_ends_type _) (again_field d h) x.rest.items (tokens_of closing ++ behind) end (no_field x.closing_semicolon rest) in
     let more = again_seq (again_if_so d kinds.Semicolon x.closing_semicolon behind (not_accepted kinds.Semicolon kinds.End rest refl)) others in
     again_is (fields_out f) (again_seq more (again_field d h x.first _ (past_each EndsType kinds.Semicolon field_outline x.rest.items closing behind semicolon_ends_type end)))

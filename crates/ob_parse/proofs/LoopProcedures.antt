@@ -6,10 +6,9 @@ use Rattle.ob_tree.specs.Marks.{Out}
 use Rattle.ob_parse.specs.Front.{uncons, front, is_word}
 use Rattle.ob_parse.specs.Forms.{Unexpected, deep_at, Reader, begins, limit_at}
 use Rattle.ob_parse.specs.ReadModules.{Shortens, with_semicolon, procedure_with, procedure_at}
-use Rattle.ob_parse.proofs.Sound.{Sound, expect_sound}
-use Rattle.ob_parse.proofs.SoundExpressions.{expr_at_sound}
-use Rattle.ob_parse.proofs.SoundStatements.{block_at_sound}
-use Rattle.ob_parse.proofs.SoundModules.{procedure_name_sound, declarations_at_sound}
+use Rattle.ob_parse.proofs.Compatible.{expect_held}
+use Rattle.ob_parse.proofs.CompatibleProductions.{procedure_name_held}
+use Rattle.ob_parse.proofs.Sound.{Sound, sound, expr_at_sound, block_at_sound, declarations_at_sound}
 use Rattle.ob_parse.proofs.Loops.{Advances, sound_no_longer, shortens_seq, shortens_node, shortens_expect, begins_advances}
 
 -- nothing is read at the limit
@@ -24,7 +23,7 @@ limit_shortens p ls x e = limited_shortens (front p (uncons ls)) (uncons ls) ls 
 procedure_with_shortens : (d : ℕ) (expr block declarations : Reader) → Sound d expr → Sound d block → Sound d declarations → Shortens (procedure_with expr block declarations)
 unfolding procedure_with
 procedure_with_shortens d expr block declarations he hb hd =
-    shortens_node _ _ (shortens_seq _ _ (shortens_expect kinds.Procedure) (sound_no_longer d _ (procedure_name_sound d expr block declarations he hb hd)))
+    shortens_node _ _ (shortens_seq _ _ (shortens_expect kinds.Procedure) (sound_no_longer d _ (procedure_name_held sound he hb hd)))
 
 procedure_shortens : (d : ℕ) → Shortens (procedure_at d)
 unfolding procedure_at
@@ -32,4 +31,4 @@ procedure_shortens zero = limit_shortens _
 procedure_shortens (suc d) = procedure_with_shortens d _ _ _ (expr_at_sound d) (block_at_sound d) (declarations_at_sound d)
 
 pub procedure_advances : (d : ℕ) → Advances (begins (is_word kinds.Procedure)) (with_semicolon (procedure_at d))
-procedure_advances d = begins_advances (is_word kinds.Procedure) _ (shortens_seq _ _ (procedure_shortens d) (sound_no_longer d _ (expect_sound d kinds.Semicolon)))
+procedure_advances d = begins_advances (is_word kinds.Procedure) _ (shortens_seq _ _ (procedure_shortens d) (sound_no_longer d _ (expect_held sound kinds.Semicolon)))

@@ -17,8 +17,10 @@ use Rattle.ob_parse.specs.ReadNames.{identdef_after, identdef_at}
 use Rattle.ob_parse.specs.ReadExpressions.{mul_start, add_start, mul_at, add_at, as_word, selector_first, selector_from, selector_with}
 use Rattle.ob_parse.specs.ReadTypes.{var_with, behind_semicolon, next_field, field_start}
 use Rattle.ob_parse.specs.ReadModules.{is_identifier, Shortens, with_semicolon, const_with, type_decl_with, variable_with}
-use Rattle.ob_parse.proofs.Sound.{Sound, Takes, bind_ok, ok_is, done, some_is, identifier_spelt, expect_sound, accept_sound, sound_nothing, sound_optional, sound_seq, sound_many, sound_several}
-use Rattle.ob_parse.proofs.SoundExpressions.{Spelt, mul_spelt, add_spelt, role_sound, identdef_sound, closed_sound}
+use Rattle.ob_parse.proofs.Compatible.{Started, nothing_held, seq_held, optional_held, many_held, expect_held, accept_starts, several_held, name_held}
+use Rattle.ob_parse.proofs.CompatibleProductions.{identdef_held, mul_starts, add_starts, closed_held}
+use Rattle.ob_parse.proofs.Sound.{Sound, Takes, sound, bind_ok, ok_is, done, some_is, identifier_spelt}
+use Rattle.ob_parse.proofs.Taking.{GivesBy, given}
 
 -- what was read before, and what is still read
 abbrev pub with_front : Out → Read → Read
@@ -99,7 +101,7 @@ takes_no_longer : (d : ℕ) (ls : List Leaf) (o : Out) (rest : List Leaf) → Ta
 takes_no_longer d ls o rest t = omega (arith, ap length t.parts, length-append (tokens_of o) rest)
 
 pub sound_no_longer : (d : ℕ) (r : Reader) → Sound d r → NoLonger r
-sound_no_longer d r h ls x e = takes_no_longer d ls x.0 x.1 (h ls x e)
+sound_no_longer d r h ls x e = takes_no_longer d ls x.0 x.1 (given Takes h ls x e)
 
 -- the tokens that are left, of a front and what was read behind it
 left_same : (o : Out) (rest : List Leaf) (x : Out × List Leaf) → done (o, rest) ≡ Ok x → rest ≡ x.1
@@ -133,7 +135,7 @@ no_longer_led ms r hr ls x e =
 
 pub shortens_several : (d : ℕ) (k : Kind) (item : Reader) → Sound d item → Shortens item → Shortens (several k item)
 unfolding several
-shortens_several d k item h s = shortens_seq item (many (accept_at k) item) s (sound_no_longer d (many (accept_at k) item) (sound_many d (accept_at k) item (accept_sound d k) h))
+shortens_several d k item h s = shortens_seq item (many (accept_at k) item) s (sound_no_longer d (many (accept_at k) item) (many_held sound (accept_starts sound k) h))
 
 shortens_behind_name : (r : ℕ → Reader) → ((n : ℕ) → NoLonger (r n)) → Shortens (behind_name r)
 shortens_behind_name r hr ls x e =
@@ -154,20 +156,20 @@ shortens_expect k (leafs.Word j ∷ rest) x e = expected_shortens k (same_kind j
 
 -- ---- what advances
 
-word_front : {X : Type 0} (kind : X → Kind) (ls : List Leaf) (f : Front X) (x : Out × List Leaf) → ((y : X × List Leaf) → f ≡ Some y → Spelt kind ls y) → as_word kind f ≡ Some x
+word_front : {X : Type 0} (d : ℕ) (kind : X → Kind) (ls : List Leaf) (f : Front X) (x : Out × List Leaf) → Started (GivesBy Takes) d ls (as_word kind f) → as_word kind f ≡ Some x
     → length x.1 < length ls
-word_front kind ls None x h e = absurd cc
-word_front kind ls (Some y) x h e =
+word_front d kind ls None x t e = absurd cc
+word_front d kind ls (Some y) x t e =
     let same : y.1 ≡ x.1 = ap (λ (z : Out × List Leaf). z.1) (some_is (word (kind y.0), y.1) x e) in
-    omega (arith, ap length (h y refl), ap length same)
+    omega (arith, ap length t.parts, ap length same)
 
 pub mul_advances : (d : ℕ) (r : Reader) → Sound d r → Advances mul_start r
 unfolding mul_at
-mul_advances d r h = record { empty = refl; shorter = λ ls s a e f. omega (arith, word_front mul_kind ls (mul_at ls) s (mul_spelt ls) e, sound_no_longer d r h s.1 a f) }
+mul_advances d r h = record { empty = refl; shorter = λ ls s a e f. omega (arith, word_front d mul_kind ls (mul_at ls) s ((mul_starts sound).at ls) e, sound_no_longer d r h s.1 a f) }
 
 pub add_advances : (d : ℕ) (r : Reader) → Sound d r → Advances add_start r
 unfolding add_at
-add_advances d r h = record { empty = refl; shorter = λ ls s a e f. omega (arith, word_front add_kind ls (add_at ls) s (add_spelt ls) e, sound_no_longer d r h s.1 a f) }
+add_advances d r h = record { empty = refl; shorter = λ ls s a e f. omega (arith, word_front d add_kind ls (add_at ls) s ((add_starts sound).at ls) e, sound_no_longer d r h s.1 a f) }
 
 accepted_shorter : (k : Kind) (b : Bool) (rest : List Leaf) (j : Kind) (x : Out × List Leaf) → cond b (Some (word k, rest)) None ≡ Some x → length x.1 < length (leafs.Word j ∷ rest)
 accepted_shorter k true rest j x e = omega (arith, ap length (ap (λ (z : Out × List Leaf). z.1) (some_is (word k, rest) x e)))
@@ -221,12 +223,12 @@ shortens_behind l ms r h rest x e = let no_more : length x.1 ≤ length rest = n
 
 selector_from_shortens : (d : ℕ) (r : Reader) → Sound d r → Shortens (λ ls. selector_from r (uncons ls))
 selector_from_shortens d r h [] x e = absurd cc
-selector_from_shortens d r h (leafs.Word kinds.Dot ∷ rest) x e = shortens_behind (leafs.Word kinds.Dot) (word kinds.Dot) _ (sound_no_longer d _ (role_sound d Selects)) rest x e
+selector_from_shortens d r h (leafs.Word kinds.Dot ∷ rest) x e = shortens_behind (leafs.Word kinds.Dot) (word kinds.Dot) _ (sound_no_longer d _ (name_held sound Selects tt)) rest x e
 selector_from_shortens d r h (leafs.Word kinds.LeftBracket ∷ rest) x e =
-    shortens_behind (leafs.Word kinds.LeftBracket) (word kinds.LeftBracket) _ (sound_no_longer d _ (sound_seq d _ _ (sound_several d kinds.Comma r h) (expect_sound d kinds.RightBracket))) rest x e
+    shortens_behind (leafs.Word kinds.LeftBracket) (word kinds.LeftBracket) _ (sound_no_longer d _ (seq_held sound (several_held sound kinds.Comma h) (expect_held sound kinds.RightBracket))) rest x e
 selector_from_shortens d r h (leafs.Word kinds.Caret ∷ rest) x e = omega (arith, ap length (left_same (word kinds.Caret) rest x e))
 selector_from_shortens d r h (leafs.Word kinds.LeftParen ∷ rest) x e =
-    shortens_behind (leafs.Word kinds.LeftParen) (word kinds.LeftParen) _ (sound_no_longer d _ (closed_sound d kinds.RightParen r h)) rest x e
+    shortens_behind (leafs.Word kinds.LeftParen) (word kinds.LeftParen) _ (sound_no_longer d _ (closed_held sound kinds.RightParen h)) rest x e
 selector_from_shortens d r h (l ∷ rest) x e = absurd cc
 
 selector_shortens : (d : ℕ) (r : Reader) → Sound d r → Shortens (selector_with r)
@@ -238,22 +240,22 @@ selector_advances d r h = begins_advances selector_first _ (selector_shortens d 
 
 identdef_shortens : Shortens identdef_at
 unfolding identdef_at identdef_after
-identdef_shortens = shortens_behind_name _ (λ n. no_longer_led (λ star. declared (is_something star) n) _ (sound_no_longer zero _ (sound_optional zero _ _ (accept_sound zero kinds.Star) (sound_nothing zero))))
+identdef_shortens = shortens_behind_name _ (λ n. no_longer_led (λ star. declared (is_something star) n) _ (sound_no_longer zero _ (optional_held sound (accept_starts sound kinds.Star) (nothing_held sound))))
 
 pub declared_advances : (r : Reader) → Shortens r → Advances (begins is_identifier) (with_semicolon r)
-declared_advances r h = begins_advances is_identifier _ (shortens_seq r (expect_at kinds.Semicolon) h (sound_no_longer zero _ (expect_sound zero kinds.Semicolon)))
+declared_advances r h = begins_advances is_identifier _ (shortens_seq r (expect_at kinds.Semicolon) h (sound_no_longer zero _ (expect_held sound kinds.Semicolon)))
 
 pub const_shortens : (d : ℕ) (r : Reader) → Sound d r → Shortens (const_with r)
 unfolding const_with
-const_shortens d r h = shortens_node _ _ (shortens_seq _ _ identdef_shortens (sound_no_longer d _ (sound_seq d _ _ (expect_sound d kinds.Equals) h)))
+const_shortens d r h = shortens_node _ _ (shortens_seq _ _ identdef_shortens (sound_no_longer d _ (seq_held sound (expect_held sound kinds.Equals) h)))
 
 pub type_decl_shortens : (d : ℕ) (r : Reader) → Sound d r → Shortens (type_decl_with r)
 unfolding type_decl_with
-type_decl_shortens d r h = shortens_node _ _ (shortens_seq _ _ identdef_shortens (sound_no_longer d _ (sound_seq d _ _ (expect_sound d kinds.Equals) h)))
+type_decl_shortens d r h = shortens_node _ _ (shortens_seq _ _ identdef_shortens (sound_no_longer d _ (seq_held sound (expect_held sound kinds.Equals) h)))
 
 var_shortens : (d : ℕ) (r : Reader) → Sound d r → Shortens (var_with r)
 unfolding var_with
-var_shortens d r h = shortens_seq _ _ (shortens_several d kinds.Comma _ (identdef_sound d) identdef_shortens) (sound_no_longer d _ (sound_seq d _ _ (expect_sound d kinds.Colon) h))
+var_shortens d r h = shortens_seq _ _ (shortens_several d kinds.Comma _ (identdef_held sound) identdef_shortens) (sound_no_longer d _ (seq_held sound (expect_held sound kinds.Colon) h))
 
 pub variable_shortens : (d : ℕ) (r : Reader) → Sound d r → Shortens (variable_with r)
 unfolding variable_with

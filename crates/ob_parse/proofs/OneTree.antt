@@ -28,7 +28,7 @@ use Rattle.ob_parse.specs.Ends.{AreTokenNumbers, IsPlaced, deep_told, told}
 use Rattle.ob_parse.specs.Parsed.{Pair, IsOneTree, IsTheTree, IsRightEnd, IsWrongEnd, IsEndFault, IsFaultOf, IsPlace, kinds_of, from_token, read_left, start_or}
 use Rattle.ob_parse.specs.ReadModules.{all_of}
 use Rattle.ob_parse.proofs.Ahead.{leaves_length}
-use Rattle.ob_parse.proofs.SoundModules.{all_sound}
+use Rattle.ob_parse.proofs.Sound.{all_sound}
 use Rattle.ob_parse.proofs.Whole.{still_wrong, still_ok}
 use Rattle.ob_parse.proofs.CompleteModules.{all_again}
 use Rattle.ob_parse.proofs.Endings.{endings_known, leaves_below}

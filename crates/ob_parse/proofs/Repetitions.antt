@@ -1,5 +1,5 @@
 -- What the grammar repeats, of at most so many levels.
-use Rattle.std.proofs.Common.{ℕ, zero, Bool, false, ◌++◌, [], refl}
+use Rattle.std.proofs.Common.{ℕ, zero, Bool, false, ◌++◌, []}
 use Rattle.ob_scan.specs.declared.kind.Kind.{Kind}
 use Rattle.ob_scan.specs.declared.kind.Kind.TheVariants as kinds
 use Rattle.ob_tree.specs.declared.declaration.ImportItem.{ImportItem}
@@ -34,11 +34,9 @@ use Rattle.ob_parse.specs.ReadExpressions.{add_at, mul_at, element_with, expr_at
 use Rattle.ob_parse.specs.ReadStatements.{block_at, branch_with, case_with, label_range_at, statement_at}
 use Rattle.ob_parse.specs.ReadTypes.{field_start, section_at, type_at, var_with}
 use Rattle.ob_parse.specs.ReadModules.{Shortens, import_item_at, is_identifier, procedure_at, with_semicolon}
-use Rattle.ob_parse.proofs.Sound.{Sound, name_sound, role_takes, sound_flat}
-use Rattle.ob_parse.proofs.SoundExpressions.{element_sound, expr_at_sound, factor_at_sound, identdef_sound, term_at_sound}
-use Rattle.ob_parse.proofs.SoundStatements.{block_at_sound, branch_sound, case_sound, label_range_sound, statement_at_sound}
-use Rattle.ob_parse.proofs.SoundTypes.{section_sound, type_at_sound, var_sound}
-use Rattle.ob_parse.proofs.SoundModules.{import_sound}
+use Rattle.ob_parse.proofs.Compatible.{name_held}
+use Rattle.ob_parse.proofs.CompatibleProductions.{branch_held, case_held, element_held, field_held, identdef_held, import_held, label_range_held, section_held}
+use Rattle.ob_parse.proofs.Sound.{Sound, sound, block_at_sound, expr_at_sound, factor_at_sound, statement_at_sound, term_at_sound, type_at_sound}
 use Rattle.ob_parse.proofs.Loops.{Advances, accept_advances, add_advances, mul_advances, declared_advances, field_advances, selector_advances}
 use Rattle.ob_parse.proofs.LoopProcedures.{procedure_advances}
 use Rattle.ob_parse.proofs.Turns.{Operation, Repetition}
@@ -59,7 +57,7 @@ abbrev pub expressions : ℕ → Repetition Expr
 expressions d = each_behind kinds.Comma d (expr_at d) (expr_at_sound d) expr_outline
 
 abbrev pub elements : ℕ → Repetition Element
-elements d = each_behind kinds.Comma d (element_with (expr_at d)) (element_sound d _ (expr_at_sound d)) element_outline
+elements d = each_behind kinds.Comma d (element_with (expr_at d)) (element_held sound (expr_at_sound d)) element_outline
 
 abbrev pub selectors : ℕ → Repetition Selector
 selectors d = each_at selector_first (selector_with (expr_at d)) (selector_advances d _ (expr_at_sound d)) selector_outline
@@ -68,34 +66,34 @@ abbrev pub statements : ℕ → Repetition Stmt
 statements d = each_behind kinds.Semicolon d (statement_at d) (statement_at_sound d) stmt_outline
 
 abbrev pub branches : ℕ → Kind → Repetition Branch
-branches d k = each_behind kinds.Elsif d (branch_with (expr_at d) (block_at d) k) (branch_sound d _ _ k (expr_at_sound d) (block_at_sound d)) (λ b. branch_outline b k)
+branches d k = each_behind kinds.Elsif d (branch_with (expr_at d) (block_at d) k) (branch_held sound k (expr_at_sound d) (block_at_sound d)) (λ b. branch_outline b k)
 
 abbrev pub cases : ℕ → Repetition Case
-cases d = each_behind kinds.Bar d (case_with (block_at d)) (case_sound d _ (block_at_sound d)) case_outline
+cases d = each_behind kinds.Bar d (case_with (block_at d)) (case_held sound (block_at_sound d)) case_outline
 
 abbrev pub label_ranges : Repetition LabelRange
-label_ranges = each_behind kinds.Comma zero label_range_at (label_range_sound zero) label_range_outline
+label_ranges = each_behind kinds.Comma zero label_range_at (label_range_held sound) label_range_outline
 
 abbrev pub declared_names : Repetition Identdef
-declared_names = each_behind kinds.Comma zero identdef_at (identdef_sound zero) identdef_outline
+declared_names = each_behind kinds.Comma zero identdef_at (identdef_held sound) identdef_outline
 
 abbrev pub parameter_names : Repetition ℕ
-parameter_names = each_behind kinds.Comma zero (name_at (declared false)) (name_sound zero (declared false) (λ n. role_takes zero (Declares false) n)) (declared false)
+parameter_names = each_behind kinds.Comma zero (name_at (declared false)) (name_held sound (Declares false) tt) (declared false)
 
 abbrev pub sections : Repetition ParameterSection
-sections = each_behind kinds.Semicolon zero section_at (section_sound zero) section_outline
+sections = each_behind kinds.Semicolon zero section_at (section_held sound) section_outline
 
 abbrev pub field_lists : ℕ → Repetition VarDecl
 field_lists d = record {
   marks = word kinds.Semicolon;
   start = field_start;
   read = node constructs.FieldList (var_with (type_at d));
-  advances = field_advances d _ (sound_flat d _ _ refl (var_sound d _ (type_at_sound d)));
+  advances = field_advances d _ (field_held sound (type_at_sound d));
   shown = λ v. construct constructs.FieldList (var_outline v);
 }
 
 abbrev pub imports : Repetition ImportItem
-imports = each_behind kinds.Comma zero import_item_at (import_sound zero) import_outline
+imports = each_behind kinds.Comma zero import_item_at (import_held sound) import_outline
 
 abbrev pub declarations : {T : Type 0} → (r : Reader) → Shortens r → (T → Out) → Repetition T
 declarations r h f = each_at is_identifier (with_semicolon r) (declared_advances r h) (ended f)

@@ -5,7 +5,7 @@ use Rattle.ob_tree.specs.Marks.{Out}
 use Rattle.ob_parse.specs.Front.{uncons}
 use Rattle.ob_parse.specs.Forms.{Refusal, Unexpected, TooDeep, ◌>>=◌, Read}
 use Rattle.ob_parse.specs.ReadModules.{nothing_left, all_of}
-use Rattle.ob_parse.proofs.DeeperModules.{module_at_extends}
+use Rattle.ob_parse.proofs.Deeper.{module_at_extends}
 
 pub never_deep : (r : Result Out Refusal) (x : Leaf × List Leaf) (o : Option (Leaf × List Leaf)) → r ≡ Err (TooDeep x) → r ≡ Err (Unexpected o) → ⊥
 never_deep r x o d w = cc

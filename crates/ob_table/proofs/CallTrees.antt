@@ -31,8 +31,9 @@ use Rattle.ob_parse.specs.Forms.{Reader, seq, node, prefixed, optional, unless, 
 use Rattle.ob_parse.specs.Accords.{ahead}
 use Rattle.ob_parse.specs.ReadExpressions.{expr_at}
 use Rattle.ob_parse.proofs.Loops.{Advances, shortens_expect}
-use Rattle.ob_parse.proofs.Sound.{Sound, sound_optional, sound_several, unless_sound}
-use Rattle.ob_parse.proofs.SoundExpressions.{expr_at_sound}
+use Rattle.ob_parse.proofs.Compatible.{optional_held, several_held, unless_starts}
+use Rattle.ob_parse.proofs.Sound.{Sound, Takes, sound, expr_at_sound}
+use Rattle.ob_parse.proofs.Taking.{given}
 use Rattle.ob_table.specs.Choosing.{is_there, Picked, picked_outline, picking, Counted, counted_outline, Counts, Further, further_outline, CountsFurther}
 use Rattle.ob_table.specs.LoneNames.{lone_of}
 use Rattle.ob_table.specs.Shapes.{exprs_outline, exprs_piece, arguments_outline, arguments_piece}
@@ -112,13 +113,13 @@ record Spelt {A : Type 0} (ts : List Token) (f : A → Out) (input here : Cursor
 
 told_spelt : {A : Type 0} (ts : List Token) (f : A → Out) (p : A → Stage → Stage) (d : ℕ) (r : Reader) (old new : Draft) (input rest : Cursor) → Sound d r → Told ts f p old new rest (r (ahead ts input)) →
     Told {T = Spelt ts f input rest} ts (λ x. f x.tree) (λ x. p x.tree) old new rest (r (ahead ts input))
-told_spelt ts f p d r old new input rest sound t = record {
+told_spelt ts f p d r old new input rest h t = record {
   out = t.out;
   is_read = t.is_read;
   telling = λ e. let k = t.telling e in (
     k.0,
     record {
-      tree = record { tree = k.1.tree; spelt = (sound (ahead ts input) (t.out, ahead ts rest) t.is_read).parts ∙ ap (λ (o : Out). tokens_of o ++ ahead ts rest) (sym k.1.shows) };
+      tree = record { tree = k.1.tree; spelt = (given Takes h (ahead ts input) (t.out, ahead ts rest) t.is_read).parts ∙ ap (λ (o : Out). tokens_of o ++ ahead ts rest) (sym k.1.shows) };
       shows = k.1.shows;
       comes = k.1.comes;
     },
@@ -169,5 +170,5 @@ call_told ts c d head at opening name old mid list named late new input here res
     ∙ ap (λ (n : Option TypeName). after (both token (both (arguments_piece o) token)) c (settled at (record { of = head; step = steps.Arguments n }) s)) same)
     (told_settled Left ts (λ (x : Seen). arguments_outline x.0.tree) (λ x. arguments_piece x.0.tree) c kinds.LeftParen kinds.RightParen r at row old mid named late new input here result known h
     (told_knowing_then ts (λ (x : Spelt ts arguments_outline input here). arguments_outline x.tree) (λ x. after (arguments_piece x.tree) c) (λ s. s) mid list named here (r (ahead ts input))
-    (told_spelt ts arguments_outline (λ x. after (arguments_piece x) c) d r mid list input here (sound_optional d _ _ (unless_sound d kinds.RightParen) (sound_several d kinds.Comma _ (expr_at_sound d))) a) l seen)
+    (told_spelt ts arguments_outline (λ x. after (arguments_piece x) c) d r mid list input here (optional_held sound (unless_starts sound kinds.RightParen) (several_held sound kinds.Comma (expr_at_sound d))) a) l seen)
     k (told_left ts kinds.RightParen late new here result b))

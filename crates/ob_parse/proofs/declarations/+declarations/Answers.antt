@@ -7,8 +7,7 @@ use Rattle.ob_parse.specs.ReadNames.{identdef_after}
 use Rattle.ob_parse.specs.ReadModules.{procedure_at, declarations_with, procedure_named, procedure_with, procedures_with}
 use Rattle.ob_parse.specs.ReadExpressions.{expr_at}
 use Rattle.ob_parse.specs.ReadTypes.{type_at}
-use Rattle.ob_parse.proofs.SoundExpressions.{expr_at_sound}
-use Rattle.ob_parse.proofs.SoundTypes.{type_at_sound}
+use Rattle.ob_parse.proofs.Sound.{expr_at_sound, type_at_sound}
 use Rattle.ob_parse.proofs.Loops.{has_begun, has_not_begun, const_shortens, type_decl_shortens, variable_shortens}
 use Rattle.ob_tree.proofs.DeclarationLayers.{declaring_made, declarations_made}
 use Rattle.ob_tree.proofs.NameLayers.{names_made}
