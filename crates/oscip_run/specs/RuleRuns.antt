@@ -31,15 +31,15 @@ AreThese net files other others = (other ≡ net) × (others ≡ files)
 -- Below IsOf says of a network and of files that they are those of the input.
 
 -- the text is refused for nothing
-abbrev pub IsSound : Network → List File → List ℕ → Type 0
-IsSound net files rules = (fault : RulesFault) → IsRefusal net files (pieces_of rules) fault → ⊥
+abbrev pub IsFaultless : Network → List File → List ℕ → Type 0
+IsFaultless net files rules = (fault : RulesFault) → IsRefusal net files (pieces_of rules) fault → ⊥
 
 -- the text has a line for each chain that is told of its rules, or it is yes where there is none, which is the answer
 pub record IsRulesText (IsOf : Network → List File → Type 0) (rules text : List ℕ) (agrees : Bool) : Type 0 where
   pub net : Network
   pub files : List File
   pub reads : IsOf net files
-  pub sound : IsSound net files rules
+  pub sound : IsFaultless net files rules
   pub broken : List Broken
   pub are_broken : AreBroken net files (pieces_of rules) broken
   pub text_is : text ≡ verdict_text net broken
@@ -54,7 +54,7 @@ pub record PutsRulesFront (IsOf : Network → List File → Type 0) (rules : Lis
   pub net : Network
   pub files : List File
   pub reads : IsOf net files
-  pub sound : IsSound net files rules
+  pub sound : IsFaultless net files rules
   pub front : PutsSome net files (pieces_of rules) old new
   pub in_order : (broken : List Broken) → AreBroken net files (pieces_of rules) broken → AppendsFront old new (verdict_text net broken)
 
