@@ -1,6 +1,6 @@
 //! The tokens that are still to be read.
 
-ghost use Rattle.std.specs.Prelude.{◌≡◌};
+ghost use Rattle.std.specs.Prelude.{◌≡◌, ◌+◌, IfSome};
 
 use ob_scan::Token;
 use ob_tree::token::{Leaf, leaf_at};
@@ -22,7 +22,8 @@ impl Cursor {
     #[inline(always)]
     #[tactic(auto, unfolding(crate::specs::Accords::ahead))]
     pub fn next(self, tokens: &[Token]) -> Option<(Leaf, Cursor)>
-        ensures { seen tokens.now result ≡ uncons (ahead tokens.now self) }
+        ensures read { seen tokens.now result ≡ uncons (ahead tokens.now self) }
+        ensures number { IfSome result (λ x. x.1.at ≡ self.at + 1) }
     {
         let token = tokens.get(self.at as usize)?;
         let at = self.at.checked_add(1)?;

@@ -1,6 +1,7 @@
 //! Modules (Oberon-07 report, section 11).
 
-ghost use Rattle.std.specs.Prelude.{◌≡◌, ◌++◌};
+ghost use Rattle.std.specs.Prelude.{◌≡◌, ◌+◌, ◌++◌, IfOk};
+ghost use Rattle.ob_tree.specs.Widths.{name_width};
 ghost use Rattle.ob_scan.specs.declared.kind.Kind.TheVariants as kinds;
 ghost use Rattle.ob_tree.specs.Marks.{word, each_after, separated, if_there, imported, repeated};
 ghost use Rattle.ob_tree.specs.Statements.{block_outline};
@@ -24,7 +25,8 @@ use std::alloc::Global;
 /// The name of a module that is imported under another, behind `:=`.
 #[tactic(auto, unfolding(crate::specs::Forms::name_at))]
 fn renamed(tokens: &[Token], input: Cursor) -> Result<(Option<u32>, Cursor), Stop>
-    ensures { Accords tokens.now (λ x. (if_there (λ m. word kinds.Assign ++ imported m) x.0, ahead tokens.now x.1)) result (optional (accept_at kinds.Assign) (name_at imported) (ahead tokens.now input)) }
+    ensures read { Accords tokens.now (λ x. (if_there (λ m. word kinds.Assign ++ imported m) x.0, ahead tokens.now x.1)) result (optional (accept_at kinds.Assign) (name_at imported) (ahead tokens.now input)) }
+    ensures number { IfOk result (λ x. x.1.at + 1 ≡ input.at + name_width x.0) }
 {
     match accept(tokens, input, Kind::Assign) {
         Some(rest) => {
@@ -37,8 +39,9 @@ fn renamed(tokens: &[Token], input: Cursor) -> Result<(Option<u32>, Cursor), Sto
 
 /// An imported module.
 #[tactic(auto, using(ob_tree::proofs::DeclarationLayers::declaring_made), unfolding(crate::specs::ReadModules::import_item_at, crate::specs::Forms::name_at))]
-fn import(tokens: &[Token], input: Cursor) -> Result<(ImportItem, Cursor), Stop>
-    ensures { Accords tokens.now (λ x. (import_outline x.0, ahead tokens.now x.1)) result (import_item_at (ahead tokens.now input)) }
+pub fn import(tokens: &[Token], input: Cursor) -> Result<(ImportItem, Cursor), Stop>
+    ensures read { Accords tokens.now (λ x. (import_outline x.0, ahead tokens.now x.1)) result (import_item_at (ahead tokens.now input)) }
+    ensures number { IfOk result (λ x. x.1.at ≡ input.at + name_width x.0.of) }
 {
     let (name, here) = identifier(tokens, input)?;
     let (of, here) = renamed(tokens, here)?;
@@ -77,7 +80,7 @@ fn import_list(
 
 /// The imports, if IMPORT stands here.
 #[tactic(auto, unfolding(crate::specs::ReadModules::imports_at))]
-pub fn imports(
+fn imports(
     alloc: Global,
     tokens: &[Token],
     input: Cursor,

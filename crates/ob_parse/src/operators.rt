@@ -1,6 +1,6 @@
 //! Operators, and the tokens that expressions and their parts begin with (Oberon-07 report, section 8).
 
-ghost use Rattle.std.specs.Prelude.{◌≡◌, Ok};
+ghost use Rattle.std.specs.Prelude.{◌≡◌, ◌+◌, Ok, is_some, IfSome, if◌then◌else◌};
 ghost use Rattle.ob_tree.specs.Marks.{word, if_there};
 ghost use Rattle.ob_tree.specs.Expressions.{sign_kind};
 ghost use Rattle.ob_parse.specs.Front.{uncons, front};
@@ -16,7 +16,8 @@ use ob_tree::token::Leaf;
 /// The relation that stands here, if one does.
 #[tactic(auto, unfolding(crate::specs::ReadExpressions::relation_at))]
 pub fn relation(tokens: &[Token], input: Cursor) -> Option<(Relation, Cursor)>
-    ensures { seen tokens.now result ≡ relation_at (ahead tokens.now input) }
+    ensures read { seen tokens.now result ≡ relation_at (ahead tokens.now input) }
+    ensures number { IfSome result (λ x. x.1.at ≡ input.at + 1) }
 {
     let (leaf, rest) = input.next(tokens)?;
     let relation = match leaf {
@@ -36,7 +37,8 @@ pub fn relation(tokens: &[Token], input: Cursor) -> Option<(Relation, Cursor)>
 /// The sign that stands here, if one does, and the tokens behind it.
 #[tactic(auto, unfolding(crate::specs::ReadExpressions::sign_at))]
 pub fn sign(tokens: &[Token], input: Cursor) -> (Option<Sign>, Cursor)
-    ensures { Ok (if_there (λ x. word (sign_kind x)) result.0, ahead tokens.now result.1) ≡ optional sign_start nothing (ahead tokens.now input) }
+    ensures read { Ok (if_there (λ x. word (sign_kind x)) result.0, ahead tokens.now result.1) ≡ optional sign_start nothing (ahead tokens.now input) }
+    ensures number { result.1.at ≡ input.at + (if is_some result.0 then 1 else 0) }
 {
     match input.next(tokens) {
         Some((Leaf::Word(Kind::Plus), rest)) => (Some(Sign::Plus), rest),
@@ -48,7 +50,8 @@ pub fn sign(tokens: &[Token], input: Cursor) -> (Option<Sign>, Cursor)
 /// The operator between terms that stands here, if one does.
 #[tactic(auto, unfolding(crate::specs::ReadExpressions::add_at))]
 pub fn add_operator(tokens: &[Token], input: Cursor) -> Option<(AddOperator, Cursor)>
-    ensures { seen tokens.now result ≡ add_at (ahead tokens.now input) }
+    ensures read { seen tokens.now result ≡ add_at (ahead tokens.now input) }
+    ensures number { IfSome result (λ x. x.1.at ≡ input.at + 1) }
 {
     match input.next(tokens) {
         Some((Leaf::Word(Kind::Plus), rest)) => Some((AddOperator::Plus, rest)),
@@ -61,7 +64,8 @@ pub fn add_operator(tokens: &[Token], input: Cursor) -> Option<(AddOperator, Cur
 /// The operator between factors that stands here, if one does.
 #[tactic(auto, unfolding(crate::specs::ReadExpressions::mul_at))]
 pub fn mul_operator(tokens: &[Token], input: Cursor) -> Option<(MulOperator, Cursor)>
-    ensures { seen tokens.now result ≡ mul_at (ahead tokens.now input) }
+    ensures read { seen tokens.now result ≡ mul_at (ahead tokens.now input) }
+    ensures number { IfSome result (λ x. x.1.at ≡ input.at + 1) }
 {
     match input.next(tokens) {
         Some((Leaf::Word(Kind::Star), rest)) => Some((MulOperator::Times, rest)),

@@ -1,6 +1,6 @@
 //! One token: expected, accepted or looked at.
 
-ghost use Rattle.std.specs.Prelude.{◌≡◌, Ok};
+ghost use Rattle.std.specs.Prelude.{◌≡◌, ◌+◌, Ok, IfOk, IfSome, if◌then◌else◌};
 ghost use Rattle.ob_parse.specs.Front.{uncons, front, is_word};
 ghost use Rattle.ob_parse.specs.Forms.{expect_at, accept_at, identifier_at, limited, nothing, optional};
 ghost use Rattle.ob_parse.specs.Accords.{Fails, Accords, ahead, skipped};
@@ -14,7 +14,8 @@ use ob_tree::token::Leaf;
 /// A token of this kind, which has to stand here.
 #[tactic(auto, unfolding(crate::specs::Forms::expect_at))]
 pub fn expect(tokens: &[Token], input: Cursor, kind: Kind) -> Result<Cursor, Stop>
-    ensures { Accords tokens.now (λ rest. (word kind, ahead tokens.now rest)) result (expect_at kind (ahead tokens.now input)) }
+    ensures read { Accords tokens.now (λ rest. (word kind, ahead tokens.now rest)) result (expect_at kind (ahead tokens.now input)) }
+    ensures number { IfOk result (λ rest. rest.at ≡ input.at + 1) }
 {
     match input.next(tokens) {
         Some((Leaf::Word(found), rest)) if found == kind => Ok(rest),
@@ -25,7 +26,8 @@ pub fn expect(tokens: &[Token], input: Cursor, kind: Kind) -> Result<Cursor, Sto
 /// The tokens behind one of this kind, if it stands here.
 #[tactic(auto, unfolding(crate::specs::Forms::accept_at))]
 pub fn accept(tokens: &[Token], input: Cursor, kind: Kind) -> Option<Cursor>
-    ensures { skipped tokens.now kind result ≡ accept_at kind (ahead tokens.now input) }
+    ensures read { skipped tokens.now kind result ≡ accept_at kind (ahead tokens.now input) }
+    ensures number { IfSome result (λ rest. rest.at ≡ input.at + 1) }
 {
     match input.next(tokens) {
         Some((Leaf::Word(found), rest)) if found == kind => Some(rest),
@@ -35,7 +37,8 @@ pub fn accept(tokens: &[Token], input: Cursor, kind: Kind) -> Option<Cursor>
 
 /// Whether a token of this kind stands here, and the tokens behind it then.
 pub fn skip(tokens: &[Token], input: Cursor, kind: Kind) -> (bool, Cursor)
-    ensures { Ok (if_so result.0 (word kind), ahead tokens.now result.1) ≡ optional (accept_at kind) nothing (ahead tokens.now input) }
+    ensures read { Ok (if_so result.0 (word kind), ahead tokens.now result.1) ≡ optional (accept_at kind) nothing (ahead tokens.now input) }
+    ensures number { result.1.at ≡ input.at + (if result.0 then 1 else 0) }
 {
     match accept(tokens, input, kind) {
         None => (false, input),
@@ -56,7 +59,8 @@ pub fn is_at(tokens: &[Token], input: Cursor, kind: Kind) -> bool
 /// An identifier, which has to stand here.
 #[tactic(auto, unfolding(crate::specs::Forms::identifier_at))]
 pub fn identifier(tokens: &[Token], input: Cursor) -> Result<(u32, Cursor), Stop>
-    ensures { Accords tokens.now (λ x. (x.0, ahead tokens.now x.1)) result (identifier_at (ahead tokens.now input)) }
+    ensures read { Accords tokens.now (λ x. (x.0, ahead tokens.now x.1)) result (identifier_at (ahead tokens.now input)) }
+    ensures number { IfOk result (λ x. x.1.at ≡ input.at + 1) }
 {
     match input.next(tokens) {
         Some((Leaf::Name(number), rest)) => Ok((number, rest)),

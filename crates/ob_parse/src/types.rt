@@ -1,11 +1,12 @@
 //! Types (Oberon-07 report, section 6).
 
-ghost use Rattle.std.specs.Prelude.{◌≡◌, ◌++◌};
+ghost use Rattle.std.specs.Prelude.{◌≡◌, ◌+◌, ◌++◌, IfOk, IfSome};
 ghost use Rattle.ob_scan.specs.declared.kind.Kind.TheVariants as kinds;
 ghost use Rattle.ob_tree.specs.Constructs as constructs;
 ghost use Rattle.ob_tree.specs.Marks.{construct, word, if_there, each_after, separated};
 ghost use Rattle.ob_tree.specs.Names.{qualident_outline, identdef_outline};
 ghost use Rattle.ob_tree.specs.Types.{type_outline, fields_outline, var_outline};
+ghost use Rattle.ob_tree.specs.Widths.{base_width};
 ghost use Rattle.ob_parse.specs.Front.{front, uncons};
 ghost use Rattle.ob_parse.specs.Forms.{optional, accept_at, expect_at, many, several, unless, seq, node, prefixed};
 ghost use Rattle.ob_parse.specs.ReadExpressions.{expr_at};
@@ -92,7 +93,8 @@ pub(crate) fn var_declaration(
 #[inline(always)]
 #[tactic(auto, unfolding(crate::specs::ReadTypes::field_start))]
 pub fn next_fields(tokens: &[Token], input: Cursor) -> Option<Cursor>
-    ensures { skipped tokens.now kinds.Semicolon result ≡ field_start (ahead tokens.now input) }
+    ensures read { skipped tokens.now kinds.Semicolon result ≡ field_start (ahead tokens.now input) }
+    ensures number { IfSome result (λ rest. rest.at ≡ input.at + 1) }
 {
     match input.next(tokens) {
         Some((Leaf::Word(Kind::Semicolon), rest)) => match rest.next(tokens) {
@@ -160,8 +162,9 @@ fn fields(
 /// The base of a record in parentheses, if it stands here.
 #[inline(always)]
 pub fn base(tokens: &[Token], input: Cursor) -> Result<(Option<Qualident>, Cursor), Stop>
-    ensures { Accords tokens.now (λ x. (if_there (λ q. word kinds.LeftParen ++ (qualident_outline q ++ word kinds.RightParen)) x.0, ahead tokens.now x.1)) result
+    ensures read { Accords tokens.now (λ x. (if_there (λ q. word kinds.LeftParen ++ (qualident_outline q ++ word kinds.RightParen)) x.0, ahead tokens.now x.1)) result
         (optional (accept_at kinds.LeftParen) (seq qualident_at (expect_at kinds.RightParen)) (ahead tokens.now input)) }
+    ensures number { IfOk result (λ x. x.1.at ≡ input.at + base_width x.0) }
 {
     match accept(tokens, input, Kind::LeftParen) {
         Some(rest) => {

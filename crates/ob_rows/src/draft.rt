@@ -1,6 +1,6 @@
 //! A table that is being made.
 
-ghost use Rattle.std.specs.Prelude.{◌≡◌, ◌+◌, ◌++◌, ◌∷◌, [], false, length};
+ghost use Rattle.std.specs.Prelude.{◌≡◌, ◌+◌, ◌<◌, ◌^◌, ◌++◌, ◌∷◌, [], false, length};
 ghost use Rattle.ob_rows.specs.Order.{AreRowsInOrder};
 ghost use Rattle.ob_rows.specs.Tables.{rows_in};
 ghost use Rattle.ob_rows.specs.Parts.{declarer, declaring_at, in_block, one_block, one_declarer, one_declared, one_designator, one_end, one_import, one_part, one_record, one_used, these_selectors};
@@ -35,13 +35,12 @@ impl Context {
     };
 }
 
-/// The rows so far, and the number of the next token. A draft that was refused memory, or a number that no row can hold, says
-/// nothing of its rows from then on.
+/// The rows so far, and the number of the next token. A draft that was refused memory says nothing of its rows from then on.
 #[derive(Drop)]
 pub struct Draft {
     /// The number of the next token, from 0.
     pub number: u32,
-    /// Whether memory was refused, or a number that no row can hold, or what fills the draft refused it.
+    /// Whether memory was refused.
     pub refused: bool,
     /// The constructs that declare.
     pub declarers: Vec<Declarer>,
@@ -77,21 +76,21 @@ fn add_row<T: Drop>(rows: &mut Vec<T>, row: T, refused: &mut bool)
 }
 
 impl Draft {
-    /// Passes a token, of which there are 2^32 - 1 at most.
+    /// Passes a token.
     #[tactic(auto, using(crate::proofs::Steps::growing), unfolding(crate::specs::Drafts::stage_of, crate::specs::Drafts::passed, crate::specs::Drafts::added, crate::specs::Drafts::closed, crate::specs::Parts::joined))]
     pub fn pass(&mut self)
-        ensures { ComesTo passed self.old self.new }
+        requires { self.old.number + 1 < 2 ^ 32 }
+        ensures stage { ComesTo passed self.old self.new }
+        ensures number { self.new.number ≡ self.old.number + 1 }
     {
-        match self.number.checked_add(1) {
-            None => self.refused = true,
-            Some(number) => self.number = number,
-        }
+        self.number += 1;
     }
 
     /// Adds an identifier that is declared.
     #[tactic(auto, using(crate::proofs::Steps::growing), unfolding(crate::specs::Drafts::stage_of, crate::specs::Drafts::passed, crate::specs::Drafts::added, crate::specs::Drafts::closed, crate::specs::Parts::joined))]
     pub fn add_declared(&mut self, row: Declared)
-        ensures { ComesTo (added (one_declared row)) self.old self.new }
+        ensures stage { ComesTo (added (one_declared row)) self.old self.new }
+        ensures number { self.new.number ≡ self.old.number }
     {
         add_row(&mut self.declared, row, &mut self.refused);
     }
@@ -99,7 +98,8 @@ impl Draft {
     /// Adds an identifier that is looked up.
     #[tactic(auto, using(crate::proofs::Steps::growing), unfolding(crate::specs::Drafts::stage_of, crate::specs::Drafts::passed, crate::specs::Drafts::added, crate::specs::Drafts::closed, crate::specs::Parts::joined))]
     pub fn add_used(&mut self, row: Used)
-        ensures { ComesTo (added (one_used row)) self.old self.new }
+        ensures stage { ComesTo (added (one_used row)) self.old self.new }
+        ensures number { self.new.number ≡ self.old.number }
     {
         add_row(&mut self.uses, row, &mut self.refused);
     }
@@ -107,7 +107,8 @@ impl Draft {
     /// Adds a block that begins with the next token.
     #[tactic(auto, using(crate::proofs::Steps::growing), unfolding(crate::specs::Drafts::stage_of, crate::specs::Drafts::passed, crate::specs::Drafts::added, crate::specs::Drafts::closed, crate::specs::Parts::joined))]
     pub fn add_block(&mut self, row: Block)
-        ensures { ComesTo (added (one_block row)) self.old self.new }
+        ensures stage { ComesTo (added (one_block row)) self.old self.new }
+        ensures number { self.new.number ≡ self.old.number }
     {
         add_row(&mut self.blocks, row, &mut self.refused);
     }
@@ -115,7 +116,8 @@ impl Draft {
     /// Adds an import item.
     #[tactic(auto, using(crate::proofs::Steps::growing), unfolding(crate::specs::Drafts::stage_of, crate::specs::Drafts::passed, crate::specs::Drafts::added, crate::specs::Drafts::closed, crate::specs::Parts::joined))]
     pub fn add_import(&mut self, row: Import)
-        ensures { ComesTo (added (one_import row)) self.old self.new }
+        ensures stage { ComesTo (added (one_import row)) self.old self.new }
+        ensures number { self.new.number ≡ self.old.number }
     {
         add_row(&mut self.imports, row, &mut self.refused);
     }
@@ -123,7 +125,8 @@ impl Draft {
     /// Adds a part of a form.
     #[tactic(auto, using(crate::proofs::Steps::growing), unfolding(crate::specs::Drafts::stage_of, crate::specs::Drafts::passed, crate::specs::Drafts::added, crate::specs::Drafts::closed, crate::specs::Parts::joined))]
     pub fn add_part(&mut self, row: FormPart)
-        ensures { ComesTo (added (one_part row)) self.old self.new }
+        ensures stage { ComesTo (added (one_part row)) self.old self.new }
+        ensures number { self.new.number ≡ self.old.number }
     {
         add_row(&mut self.parts, row, &mut self.refused);
     }
@@ -131,7 +134,8 @@ impl Draft {
     /// Adds a record.
     #[tactic(auto, using(crate::proofs::Steps::growing), unfolding(crate::specs::Drafts::stage_of, crate::specs::Drafts::passed, crate::specs::Drafts::added, crate::specs::Drafts::closed, crate::specs::Parts::joined))]
     pub fn add_record(&mut self, row: Record)
-        ensures { ComesTo (added (one_record row)) self.old self.new }
+        ensures stage { ComesTo (added (one_record row)) self.old self.new }
+        ensures number { self.new.number ≡ self.old.number }
     {
         add_row(&mut self.records, row, &mut self.refused);
     }
@@ -139,7 +143,8 @@ impl Draft {
     /// Adds a designator.
     #[tactic(auto, using(crate::proofs::Steps::growing), unfolding(crate::specs::Drafts::stage_of, crate::specs::Drafts::passed, crate::specs::Drafts::added, crate::specs::Drafts::closed, crate::specs::Parts::joined))]
     pub fn add_designator(&mut self, row: Designator)
-        ensures { ComesTo (added (one_designator row)) self.old self.new }
+        ensures stage { ComesTo (added (one_designator row)) self.old self.new }
+        ensures number { self.new.number ≡ self.old.number }
     {
         add_row(&mut self.designators, row, &mut self.refused);
     }
@@ -147,7 +152,8 @@ impl Draft {
     /// Adds a selector.
     #[tactic(auto, using(crate::proofs::Steps::growing), unfolding(crate::specs::Drafts::stage_of, crate::specs::Drafts::passed, crate::specs::Drafts::added, crate::specs::Drafts::closed, crate::specs::Parts::joined))]
     pub fn add_selector(&mut self, row: Selector)
-        ensures { ComesTo (added (these_selectors (row ∷ []))) self.old self.new }
+        ensures stage { ComesTo (added (these_selectors (row ∷ []))) self.old self.new }
+        ensures number { self.new.number ≡ self.old.number }
     {
         add_row(&mut self.selectors, row, &mut self.refused);
     }
@@ -155,33 +161,28 @@ impl Draft {
     /// Adds a name behind END.
     #[tactic(auto, using(crate::proofs::Steps::growing), unfolding(crate::specs::Drafts::stage_of, crate::specs::Drafts::passed, crate::specs::Drafts::added, crate::specs::Drafts::closed, crate::specs::Parts::joined))]
     pub fn add_end(&mut self, row: End)
-        ensures { ComesTo (added (one_end row)) self.old self.new }
+        ensures stage { ComesTo (added (one_end row)) self.old self.new }
+        ensures number { self.new.number ≡ self.old.number }
     {
         add_row(&mut self.ends, row, &mut self.refused);
     }
 
-    /// Gives the row in this place, and answers the place behind it.
+    /// Gives the row in this place.
     #[tactic(auto, using(crate::proofs::Steps::growing), unfolding(crate::specs::Drafts::stage_of, crate::specs::Drafts::passed, crate::specs::Drafts::added, crate::specs::Drafts::settled, crate::specs::Parts::joined))]
-    pub fn settle(&mut self, at: usize, row: Selector) -> usize
-        ensures row { ComesTo (settled at row) self.old self.new }
-        ensures place { self.new.refused ≡ false → result ≡ at + 1 }
+    pub fn settle(&mut self, at: usize, row: Selector)
+        ensures stage { ComesTo (settled at row) self.old self.new }
+        ensures number { self.new.number ≡ self.old.number }
     {
         if at < self.selectors.len() {
             self.selectors[at] = row;
-        }
-        match at.checked_add(1) {
-            None => {
-                self.refused = true;
-                at
-            }
-            Some(next) => next,
         }
     }
 
     /// Begins a construct that declares, whose last token isn't known yet.
     #[tactic(auto, using(crate::proofs::Steps::growing), unfolding(crate::specs::Drafts::stage_of, crate::specs::Drafts::passed, crate::specs::Drafts::added, crate::specs::Drafts::closed, crate::specs::Parts::joined))]
     pub fn open(&mut self, row: Declarer) -> usize
-        ensures row { ComesTo (added (one_declarer row)) self.old self.new }
+        ensures stage { ComesTo (added (one_declarer row)) self.old self.new }
+        ensures number { self.new.number ≡ self.old.number }
         ensures place { result ≡ length self.old.declarers.items }
     {
         let at = self.declarers.len();
@@ -192,7 +193,8 @@ impl Draft {
     /// Ends the construct of this row, behind its last token.
     #[tactic(auto, using(crate::proofs::Steps::growing), unfolding(crate::specs::Drafts::stage_of, crate::specs::Drafts::passed, crate::specs::Drafts::added, crate::specs::Drafts::closed, crate::specs::Parts::joined))]
     pub fn close(&mut self, at: usize, row: Declarer)
-        ensures { ComesTo (closed at row) self.old self.new }
+        ensures stage { ComesTo (closed at row) self.old self.new }
+        ensures number { self.new.number ≡ self.old.number }
     {
         if at < self.declarers.len() {
             self.declarers[at] = Declarer {
@@ -280,23 +282,6 @@ impl Draft {
             designators: with_room(alloc, tokens / 4),
             selectors: with_room(alloc, tokens / 8),
             ends: Vec::new(alloc),
-        }
-    }
-}
-
-impl Draft {
-    /// The number of the token that stands so many tokens behind this one.
-    #[tactic(auto, unfolding(crate::specs::Drafts::stage_of))]
-    pub fn behind(&mut self, number: u32, by: u32) -> u32
-        ensures stage { ComesTo (λ s. s) self.old self.new }
-        ensures number { self.new.refused ≡ false → result ≡ number + by }
-    {
-        match number.checked_add(by) {
-            None => {
-                self.refused = true;
-                number
-            }
-            Some(number) => number,
         }
     }
 }

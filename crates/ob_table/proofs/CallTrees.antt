@@ -1,5 +1,5 @@
 -- Lists of expressions, and what stands in the parentheses of a call, of parts that were told.
-use Rattle.std.proofs.Common.{◌≡◌, ℕ, suc, ◌+◌, ◌<◌, false, List, [], ◌∷◌, ◌++◌, length, Option, Some, None, Ok, Err, refl, sym, ap, ◌∙◌, arith, length-append}
+use Rattle.std.proofs.Common.{◌≡◌, ℕ, suc, ◌+◌, ◌<◌, false, List, [], ◌∷◌, ◌++◌, length, Option, Some, None, Ok, Err, refl, sym, ap, ◌∙◌, arith, length-append, ◌≤◌, ◌-◌, ◌^◌, min}
 use Rattle.std.specs.Global.{Box, Vec}
 use Rattle.std.specs.Prelude.{Result}
 use Rattle.ob_scan.specs.declared.kind.Kind.{Kind}
@@ -20,14 +20,14 @@ use Rattle.ob_rows.specs.declared.rows.TypeName.{TypeName}
 use Rattle.ob_rows.specs.declared.draft.Context.{Context}
 use Rattle.ob_rows.specs.declared.draft.Draft.{Draft}
 use Rattle.ob_rows.specs.Drafts.{Stage, stage_of, after, passed, settled, ComesTo}
-use Rattle.ob_rows.specs.Parts.{token, both}
+use Rattle.ob_rows.specs.Parts.{Piece, token, both}
 use Rattle.ob_rows.specs.Parts.{each as pieces}
 use Rattle.ob_decls.specs.Expressions.{Selected, between, listed, expr_piece, expr_list_piece}
 use Rattle.ob_decls.proofs.ExpressionLayers as told
 use Rattle.ob_rows.proofs.Steps.{after_each, after_nothing, number_of}
 use Rattle.ob_parse.specs.declared.cursor.Cursor.{Cursor}
 use Rattle.ob_parse.specs.declared.stop.Stop.{Stop}
-use Rattle.ob_parse.specs.Forms.{Reader, seq, node, prefixed, optional, unless, many, several, accept_at, expect_at}
+use Rattle.ob_parse.specs.Forms.{Read, Reader, seq, node, prefixed, optional, unless, many, several, accept_at, expect_at}
 use Rattle.ob_parse.specs.Accords.{ahead}
 use Rattle.ob_parse.specs.ReadExpressions.{expr_at}
 use Rattle.ob_parse.proofs.Loops.{Advances, shortens_expect}
@@ -38,7 +38,7 @@ use Rattle.ob_table.specs.Choosing.{is_there, Picked, picked_outline, picking, C
 use Rattle.ob_table.specs.LoneNames.{lone_of}
 use Rattle.ob_table.specs.Shapes.{exprs_outline, exprs_piece, arguments_outline, arguments_piece}
 use Rattle.ob_table.specs.Tabulating.{Told, Tabulates, TabulatesBy}
-use Rattle.ob_table.proofs.Combine.{told_as, told_at, told_then, told_there, told_behind, told_before, told_knowing_then}
+use Rattle.ob_table.proofs.Combine.{told_as, told_at, told_then, told_there, told_behind, told_with}
 use Rattle.ob_table.proofs.DesignatorTrees.{picking_shown, told_settled}
 use Rattle.ob_table.proofs.ExpressionTrees.{both_after}
 use Rattle.ob_table.proofs.Lists.{Gathered, Listing, listing_begun, listing_more, listing_done, word_after}
@@ -68,6 +68,16 @@ list_told ts c r old mid new input here (Ok y) a b =
 list_told ts c r old mid new input here (Err e) a b =
     told_then ts expr_outline (λ x. after (expr_piece x) c) (λ (x : Unit {0}). []) (λ x s. s) r (many (accept_at kinds.Comma) r) old mid new here (Err e) (ahead ts input) a b
 
+-- each has a token of its own in front
+each_long : {X : Type 0} (f : X → Piece) (xs : List X) → length xs ≤ (pieces (λ x. both token (f x)) xs).width
+unfolding both token
+each_long f [] = omega arith
+each_long f (x ∷ xs) = omega (arith, each_long f xs)
+
+after_number : (p : Piece) (c : Context) (s : Stage) → (after p c s).number ≡ s.number + p.width
+unfolding after
+after_number p c s = refl
+
 -- what a loop over the expressions behind the first one keeps
 abbrev pub FurtherListing : List Token → Reader → Context → ℕ → Draft → Draft → Cursor → Cursor → Type 0
 FurtherListing ts r c count old now input here =
@@ -77,16 +87,31 @@ pub further_begun : (ts : List Token) (r : Reader) (c : Context) (d : Draft) (in
 further_begun ts r c d input =
     listing_begun ts (accept_at kinds.Comma) r (λ e. word kinds.Comma ++ expr_outline e) (λ xs. after (pieces (λ e. both token (expr_piece e)) xs) c) (λ xs. suc (length xs) ≡ 1) d input (λ s. after_nothing c s) refl
 
-pub further_more : (ts : List Token) (r : Reader) (c : Context) (count later : ℕ) → Advances (accept_at kinds.Comma) r → (old now mid more new : Draft) (input here behind next : Cursor) →
+-- a comma more than there are turns yet
+turns_few : (ts : List Token) (r : Reader) (c : Context) (count : ℕ) (old now : Draft) (input here : Cursor) → (old.refused ≡ false → 0 < old.number) →
+    FurtherListing ts r c count old now input here → now.refused ≡ false → count ≤ now.number
+turns_few ts r c count old now input here begun l e =
+    let a = l.telling e in
+    let p : Piece = pieces (λ (x : Expr). both token (expr_piece x)) a.1.list in
+    omega (arith, begun a.0, a.1.so, each_long (λ (x : Expr). expr_piece x) a.1.list, ap (λ (s : Stage). s.number) a.1.comes, number_of now, after_number p c (stage_of old), number_of old)
+
+-- a first expression doesn't undo that there was a token before it
+pub still_begun : (ts : List Token) (c : Context) (old new : Draft) (rest : Cursor) (read : Read) → (old.refused ≡ false → 0 < old.number) →
+    Told ts expr_outline (λ x. after (expr_piece x) c) old new rest read → new.refused ≡ false → 0 < new.number
+still_begun ts c old new rest read begun t e =
+    let k = t.telling e in
+    omega (arith, begun k.0, ap (λ (s : Stage). s.number) k.1.comes, number_of new, after_number (expr_piece k.1.tree) c (stage_of old), number_of old)
+
+pub further_more : (ts : List Token) (r : Reader) (c : Context) (count later : ℕ) → Advances (accept_at kinds.Comma) r → (old now mid new : Draft) (input here behind next : Cursor) →
     accept_at kinds.Comma (ahead ts here) ≡ Some (word kinds.Comma, ahead ts behind) → FurtherListing ts r c count old now input here → ComesTo passed now mid →
-    Tabulates ts expr_outline expr_piece c mid more (Ok next) (r (ahead ts behind)) → ComesTo (λ s. s) more new → (new.refused ≡ false → later ≡ count + 1) → FurtherListing ts r c later old new input next
-further_more ts r c count later adv old now mid more new input here behind next found l h t k known =
+    Tabulates ts expr_outline expr_piece c mid new (Ok next) (r (ahead ts behind)) →
+    (old.refused ≡ false → 0 < old.number) → now.number + 1 < 2 ^ 32 → later ≡ min (count + 1) (2 ^ 32 - 1) → FurtherListing ts r c later old new input next
+further_more ts r c count later adv old now mid new input here behind next found l h t begun small counts =
     listing_more ts (accept_at kinds.Comma) r (λ e. word kinds.Comma ++ expr_outline e) (λ xs. after (pieces (λ e. both token (expr_piece e)) xs) c)
     (λ xs. suc (length xs) ≡ count) (λ xs. suc (length xs) ≡ later) expr_outline (λ a s. after (expr_piece a) c (passed s)) (λ a. a) (word kinds.Comma) adv (λ a. refl) old now new input here behind next
-    (λ e xs a so. (omega (arith, known e, so, length-append xs (a ∷ [])), λ s. after_each (λ e. both token (expr_piece e)) xs a c s ∙ word_after (expr_piece a) c (after (pieces (λ e. both token (expr_piece e)) xs) c s)))
+    (λ e xs a so. (omega (arith, counts, small, turns_few ts r c count old now input here begun l (h (t.telling e).0).0, so, length-append xs (a ∷ [])), λ s. after_each (λ e. both token (expr_piece e)) xs a c s ∙ word_after (expr_piece a) c (after (pieces (λ e. both token (expr_piece e)) xs) c s)))
     found l
-    (told_before ts expr_outline (λ a s. after (expr_piece a) c (passed s)) (λ s. s) now more new next (r (ahead ts behind))
-    (told_behind ts expr_outline (λ a. after (expr_piece a) c) passed now mid more (Ok next) (r (ahead ts behind)) h t) k)
+    (told_behind ts expr_outline (λ a. after (expr_piece a) c) passed now mid new (Ok next) (r (ahead ts behind)) h t)
 
 pub further_done : (ts : List Token) (r : Reader) (c : Context) (count : ℕ) → Advances (accept_at kinds.Comma) r → (old now : Draft) (input here : Cursor) →
     accept_at kinds.Comma (ahead ts here) ≡ None → FurtherListing ts r c count old now input here → CountsFurther ts c old now (Ok (here, count)) (many (accept_at kinds.Comma) r (ahead ts input))
@@ -144,16 +169,15 @@ LoneSeen ts input here name opening = (ls : List Leaf) → ahead ts input ≡ ls
 call_picked : Option (Box ExprList) → Picked false
 call_picked o = record { selector = selectors.Arguments o; named = ap (λ (x : Selected). is_there x.name) (told.arguments_made o) }
 
-pub call_told : (ts : List Token) (c : Context) (d : ℕ) (head at opening : ℕ) (name : Option TypeName) (old mid list named late new : Draft) (input here : Cursor) (result : Result Cursor Stop) →
+pub call_told : (ts : List Token) (c : Context) (d : ℕ) (head at opening : ℕ) (name : Option TypeName) (old mid list late new : Draft) (input here : Cursor) (result : Result Cursor Stop) →
     opening ≡ old.number → (old.refused ≡ false → at < length old.selectors.items) → ComesTo passed old mid →
     Told ts arguments_outline (λ x. after (arguments_piece x) c) mid list here (optional (unless kinds.RightParen) (several kinds.Comma (expr_at d)) (ahead ts input)) →
-    ComesTo (λ s. s) list named → (named.refused ≡ false → LoneSeen ts input here name opening) →
-    ComesTo (settled at (record { of = head; step = steps.Arguments name })) named late →
+    LoneSeen ts input here name opening → ComesTo (settled at (record { of = head; step = steps.Arguments name })) list late →
     TabulatesBy ts (λ (x : Unit {0}). word kinds.RightParen) (λ x s. passed s) late new result (expect_at kinds.RightParen (ahead ts here)) →
     TabulatesBy {T = Picked false} ts picked_outline (picking head at c) old new result
     (node constructs.Selector (prefixed (word kinds.LeftParen) (seq (optional (unless kinds.RightParen) (several kinds.Comma (expr_at d))) (expect_at kinds.RightParen))) (ahead ts input))
 unfolding call_picked
-call_told ts c d head at opening name old mid list named late new input here result opens known h a l seen k b =
+call_told ts c d head at opening name old mid list late new input here result opens known h a seen k b =
     let r : Reader = optional (unless kinds.RightParen) (several kinds.Comma (expr_at d)) in
     let row : SelectorRow = record { of = head; step = steps.Arguments name } in
     let Seen : Type 0 = Spelt ts arguments_outline input here × LoneSeen ts input here name opening in
@@ -168,7 +192,7 @@ call_told ts c d head at opening name old mid list named late new input here res
     lone_between o s.number ∙ ap (λ (n : ℕ). lone_of (tokens_of (arguments_outline o)) (n + 1)) (number_of old ∙ sym opens) ∙ sym (x.0.1 (tokens_of (arguments_outline o)) x.0.0.spelt x.1) in
     picking_shown head at c (call_picked o) (told.selector_shown (layers.Arguments o)) s (told.arguments_made o)
     ∙ ap (λ (n : Option TypeName). after (both token (both (arguments_piece o) token)) c (settled at (record { of = head; step = steps.Arguments n }) s)) same)
-    (told_settled Left ts (λ (x : Seen). arguments_outline x.0.tree) (λ x. arguments_piece x.0.tree) c kinds.LeftParen kinds.RightParen r at row old mid named late new input here result known h
-    (told_knowing_then ts (λ (x : Spelt ts arguments_outline input here). arguments_outline x.tree) (λ x. after (arguments_piece x.tree) c) (λ s. s) mid list named here (r (ahead ts input))
-    (told_spelt ts arguments_outline (λ x. after (arguments_piece x) c) d r mid list input here (optional_held sound (unless_starts sound kinds.RightParen) (several_held sound kinds.Comma (expr_at_sound d))) a) l seen)
+    (told_settled Left ts (λ (x : Seen). arguments_outline x.0.tree) (λ x. arguments_piece x.0.tree) c kinds.LeftParen kinds.RightParen r at row old mid list late new input here result known h
+    (told_with ts (λ (x : Spelt ts arguments_outline input here). arguments_outline x.tree) (λ x. after (arguments_piece x.tree) c) mid list here (r (ahead ts input))
+    (told_spelt ts arguments_outline (λ x. after (arguments_piece x) c) d r mid list input here (optional_held sound (unless_starts sound kinds.RightParen) (several_held sound kinds.Comma (expr_at_sound d))) a) seen)
     k (told_left ts kinds.RightParen late new here result b))

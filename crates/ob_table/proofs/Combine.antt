@@ -83,13 +83,12 @@ module _ {A : Type 0} (ts : List Token) (f : A → Out) (p : A → Stage → Sta
   }
   told_knowing step old mid new (Err e) read h known t = t
 
-  -- before such a step
-  pub told_knowing_then : {Fact : Type 0} (step : Stage → Stage) (old mid new : Draft) (rest : Cursor) (read : Read) → Told ts f p old mid rest read → ComesTo step mid new → (new.refused ≡ false → Fact) →
-      Told ts (λ (x : A × Fact). f x.0) (λ x s. step (p x.0 s)) old new rest read
-  told_knowing_then step old mid new rest read t h known = record {
+  -- with what is known anyway
+  pub told_with : {Fact : Type 0} (old new : Draft) (rest : Cursor) (read : Read) → Told ts f p old new rest read → Fact → Told ts (λ (x : A × Fact). f x.0) (λ x. p x.0) old new rest read
+  told_with old new rest read t known = record {
     out = t.out;
     is_read = t.is_read;
-    telling = λ e. let b = h e in let k = t.telling b.0 in (k.0, record { tree = (k.1.tree, known e); shows = k.1.shows; comes = b.1 ∙ ap step k.1.comes });
+    telling = λ e. let k = t.telling e in (k.0, record { tree = (k.1.tree, known); shows = k.1.shows; comes = k.1.comes });
   }
 
   -- one part and then another

@@ -102,25 +102,24 @@ target_told ts c head at old mid new input rest same h k = record {
 field_picked : ℕ → Picked true
 field_picked n = record { selector = selectors.Field n; named = ap (λ (x : Selected). is_there x.name) (told.field_made n) }
 
-pub field_told : (ts : List Token) (c : Context) (head at number m : ℕ) (old first mid late new : Draft) (input behind rest : Cursor) → rest ≡ behind →
-    ComesTo (λ s. s) old first → (first.refused ≡ false → number ≡ old.number + 1) → ComesTo (settled at (record { of = head; step = steps.Field number })) first mid → ComesTo passed mid late →
+pub field_told : (ts : List Token) (c : Context) (head at number m : ℕ) (old mid late new : Draft) (input behind rest : Cursor) → rest ≡ behind → number ≡ old.number + 1 →
+    ComesTo (settled at (record { of = head; step = steps.Field number })) old mid → ComesTo passed mid late →
     identifier_at (ahead ts input) ≡ Ok (m, ahead ts behind) → ComesTo passed late new →
     Told ts picked_outline (picking {dot = true} head at c) old new rest (node constructs.Selector (prefixed (word kinds.Dot) (name_at marks.selected)) (ahead ts input))
 unfolding field_picked name_at
-field_told ts c head at number m old first mid late new input behind rest equal g known h k e l = record {
+field_told ts c head at number m old mid late new input behind rest equal known h k e l = record {
   out = construct constructs.Selector (word kinds.Dot ++ marks.selected m);
   is_read = rw e (ap (λ (i : Cursor). done (construct constructs.Selector (word kinds.Dot ++ marks.selected m), ahead ts i)) (sym equal));
   telling = λ q.
       let z = l q in
       let b = k z.0 in
       let a = h b.0 in
-      let o = g a.0 in
-      let same : number ≡ (stage_of old).number + 1 = known a.0 ∙ ap (λ (n : ℕ). n + 1) (sym (number_of old)) in (
-        o.0,
+      let same : number ≡ (stage_of old).number + 1 = known ∙ ap (λ (n : ℕ). n + 1) (sym (number_of old)) in (
+        a.0,
         record {
           tree = field_picked m;
           shows = shown.field_made m;
-          comes = z.1 ∙ ap passed (b.1 ∙ ap passed (a.1 ∙ ap (settled at (record { of = head; step = steps.Field number })) o.1 ∙ ap (λ (n : ℕ). settled at (record { of = head; step = steps.Field n }) (stage_of old)) same))
+          comes = z.1 ∙ ap passed (b.1 ∙ ap passed (a.1 ∙ ap (λ (n : ℕ). settled at (record { of = head; step = steps.Field n }) (stage_of old)) same))
               ∙ sym (after_both token token c _ ∙ after_token c _ ∙ ap passed (after_token c _))
               ∙ sym (picking_shown head at c (field_picked m) (told.selector_shown (layers.Field m)) (stage_of old) (told.field_made m));
         },

@@ -1,5 +1,5 @@
 -- Modules of parts that were told.
-use Rattle.std.proofs.Common.{◌≡◌, ℕ, List, ◌++◌, Option, Some, None, Result, Ok, Err, refl, ap}
+use Rattle.std.proofs.Common.{◌≡◌, ℕ, List, ◌++◌, Option, Some, None, Result, Ok, Err, refl, sym, ap, ◌∙◌}
 use Rattle.ob_scan.specs.declared.kind.Kind.TheVariants as kinds
 use Rattle.ob_scan.specs.declared.token.Token.{Token}
 use Rattle.ob_tree.specs.Constructs as constructs
@@ -9,26 +9,31 @@ use Rattle.ob_tree.specs.declared.declaration.Declarations.{Declarations}
 use Rattle.ob_tree.specs.declared.declaration.ImportItem.{ImportItem}
 use Rattle.ob_tree.specs.declared.declaration.Module.{Module}
 use Rattle.ob_tree.specs.declared.token.Leaf.{Leaf}
-use Rattle.ob_tree.specs.Marks.{Out, construct, word, named, repeated}
-use Rattle.ob_tree.specs.Declaring.{declarations_outline, module_outline}
+use Rattle.ob_tree.specs.Marks.{Out, construct, word, named, repeated, separated}
+use Rattle.ob_tree.specs.Marks.{if_there as shown_there}
+use Rattle.ob_tree.specs.Declaring.{declarations_outline, import_outline, module_outline}
 use Rattle.ob_tree.proofs.DeclarationLayers.{module_out}
 use Rattle.ob_rows.specs.declared.draft.Context.{Context}
 use Rattle.ob_rows.specs.declared.draft.Draft.{Draft}
 use Rattle.ob_rows.specs.Drafts.{Stage, after, passed, ComesTo}
-use Rattle.ob_rows.specs.Parts.{token, tells, if_there}
-use Rattle.ob_decls.specs.Declaring.{declarations_piece, imports_piece, module_end, module_piece}
+use Rattle.ob_rows.specs.Parts.{token, both, tells, if_there}
+use Rattle.ob_decls.specs.Declaring.{declarations_piece, import_piece, imports_piece, module_end, module_piece}
+use Rattle.ob_decls.specs.Expressions.{each_after}
 use Rattle.ob_decls.proofs.DeclarationLayers as told
 use Rattle.ob_parse.specs.declared.cursor.Cursor.{Cursor}
 use Rattle.ob_parse.specs.declared.stop.Stop.{Stop}
 use Rattle.ob_parse.specs.declared.stop.Stop.TheVariants as stops
 use Rattle.ob_parse.specs.Front.{uncons}
-use Rattle.ob_parse.specs.Forms.{Refusal, Unexpected, Read, Reader, ◌>>=◌, seq, prefixed, expect_at, identifier_at, name_at}
+use Rattle.ob_parse.specs.Forms.{Refusal, Unexpected, Read, Reader, ◌>>=◌, seq, several, prefixed, accept_at, expect_at, identifier_at, name_at}
 use Rattle.ob_parse.specs.Accords.{Fails, ahead}
 use Rattle.ob_parse.specs.ReadStatements.{block_at}
-use Rattle.ob_parse.specs.ReadModules.{imports_at, declarations_at, body_with, module_behind_name, name_then, module_at, nothing_left, all_of}
-use Rattle.ob_table.specs.DeclarationShapes.{body_outline, body_piece, ModuleParts, parts_shown, parts_step, ModuleEnd, end_shown, end_step, ModuleBehind, imports_shown, behind_shown, behind_step}
+use Rattle.ob_parse.specs.ReadModules.{import_item_at, imports_at, with_semicolon, declarations_at, body_with, module_behind_name, name_then, module_at, nothing_left, all_of}
+use Rattle.ob_table.specs.DeclarationShapes.{body_outline, body_piece, ModuleParts, parts_shown, parts_step, ModuleEnd, end_shown, end_step, ModuleBehind, imports_shown, behind_shown, behind_step, ended_outline, ended_piece}
+use Rattle.ob_table.specs.TypeShapes.{list_piece}
 use Rattle.ob_table.specs.Tabulating.{Told, Tabulates, TabulatesBy, WholeTold}
 use Rattle.ob_table.proofs.Combine.{told_as, told_node, told_then, told_prefixed, told_behind, failed_node, failed_then}
+use Rattle.ob_table.proofs.Behind.{regrouped, word_there_told}
+use Rattle.ob_table.proofs.Lists.{word_after}
 use Rattle.ob_table.proofs.SectionTrees.{failed_behind}
 
 pub end_told : (ts : List Token) (name : ℕ) (c : Context) (old first second new : Draft) (input a b : Cursor) (result : Result Cursor Stop) →
@@ -54,6 +59,26 @@ parts_told ts name d c old first second new input a b result t u v =
     (declarations_at d) (seq (body_with (block_at d)) (seq (expect_at kinds.End) (seq (name_at (repeated name)) (expect_at kinds.Dot)))) old first new a result (ahead ts input) t
     (told_then ts body_outline (λ x. after (body_piece x) c) (end_shown name) (end_step c)
     (body_with (block_at d)) (seq (expect_at kinds.End) (seq (name_at (repeated name)) (expect_at kinds.Dot))) first second new b result (ahead ts a) u v)
+
+-- ---- imports
+
+imports_after : (o : Option (OneOrMore ImportItem)) (c : Context) (s : Stage) →
+    after (if_there imports_piece o) c s ≡ after (if_there (λ l. both token (ended_piece (list_piece import_piece) l)) o) c s
+unfolding imports_piece
+imports_after None c s = refl
+imports_after (Some l) c s =
+    word_after _ c s ∙ sym (regrouped (import_piece l.first) (each_after import_piece l.rest.items) token c (passed s)) ∙ sym (word_after (ended_piece (list_piece import_piece) l) c s)
+
+pub imports_told : (ts : List Token) (c : Context) (old mid new : Draft) (input rest : Cursor) (result : Result Cursor Stop) →
+    accept_at kinds.Import (ahead ts input) ≡ Some (word kinds.Import, ahead ts rest) → ComesTo passed old mid →
+    Tabulates ts (ended_outline (separated kinds.Comma import_outline)) (ended_piece (list_piece import_piece)) c mid new result (with_semicolon (several kinds.Comma import_item_at) (ahead ts rest)) →
+    Tabulates ts imports_shown (if_there imports_piece) c old new result (imports_at (ahead ts input))
+unfolding imports_at
+imports_told ts c old mid new input rest result found h t =
+    let f : OneOrMore ImportItem → Out = ended_outline (separated kinds.Comma import_outline) in
+    told_as ts (shown_there (λ l. word kinds.Import ++ f l)) (λ o. after (if_there (λ l. both token (ended_piece (list_piece import_piece) l)) o) c) imports_shown (λ o. after (if_there imports_piece o) c) (λ o. o) (λ o. refl)
+    (λ o s. imports_after o c s) old new result _
+    (word_there_told ts c kinds.Import f (ended_piece (list_piece import_piece)) (with_semicolon (several kinds.Comma import_item_at)) old mid new input rest result found h t)
 
 -- ---- behind the name
 

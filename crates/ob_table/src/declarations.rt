@@ -1,7 +1,7 @@
 //! Declarations: constants, types, variables and procedures (Oberon-07 report, sections 5, 6, 7 and 10), from their tokens to
 //! their rows.
 
-ghost use Rattle.std.specs.Prelude.{ℕ, ◌++◌, Option};
+ghost use Rattle.std.specs.Prelude.{◌≡◌, ◌+◌, ◌<◌, ◌^◌, ◌++◌, ℕ, Option, IfOk};
 ghost use Rattle.std.specs.Global.{Vec};
 ghost use Rattle.ob_scan.specs.declared.kind.Kind.TheVariants as kinds;
 ghost use Rattle.ob_tree.specs.declared.declaration.ProcDecl.{ProcDecl};
@@ -70,7 +70,9 @@ trait Declaration {
         input: Cursor,
         depth: u32,
     ) -> Result<Cursor, Stop>
-        ensures { Tabulates source.now.tokens.now shown told inside draft.old draft.new result (read depth (ahead source.now.tokens.now input)) };
+        requires { draft.old.number ≡ input.at }
+        ensures told { Tabulates source.now.tokens.now shown told inside draft.old draft.new result (read depth (ahead source.now.tokens.now input)) }
+        ensures number { IfOk result (λ rest. draft.new.number ≡ rest.at) };
 
     ghost shortens: { (depth : ℕ) → Shortens (node production (read depth)) };
 }
@@ -162,8 +164,10 @@ fn ended<D: Declaration>(
     depth: u32,
     sort: Sort,
 ) -> Result<Cursor, Stop>
-    ensures { Tabulates source.now.tokens.now (ended_outline (λ x. construct D.production (D.shown x))) (ended_piece (λ x. declaring sort (D.told x))) inside draft.old draft.new result
+    requires { draft.old.number ≡ input.at }
+    ensures told { Tabulates source.now.tokens.now (ended_outline (λ x. construct D.production (D.shown x))) (ended_piece (λ x. declaring sort (D.told x))) inside draft.old draft.new result
         (with_semicolon (node D.production (D.read depth)) (ahead source.now.tokens.now input)) }
+    ensures number { IfOk result (λ rest. draft.new.number ≡ rest.at) }
 {
     let first = draft.number;
     let row = declarer_at(sort, inside, first);
@@ -186,8 +190,10 @@ fn declared<D: Declaration>(
     depth: u32,
     sort: Sort,
 ) -> Result<Cursor, Stop>
-    ensures { Tabulates {T = Vec D} source.now.tokens.now (λ v. each (ended_outline (λ x. construct D.production (D.shown x))) v.items) (λ v. parts.each (ended_piece (λ x. declaring sort (D.told x))) v.items) inside draft.old draft.new result
+    requires { draft.old.number ≡ input.at }
+    ensures told { Tabulates {T = Vec D} source.now.tokens.now (λ v. each (ended_outline (λ x. construct D.production (D.shown x))) v.items) (λ v. parts.each (ended_piece (λ x. declaring sort (D.told x))) v.items) inside draft.old draft.new result
         (many (begins is_identifier) (with_semicolon (node D.production (D.read depth))) (ahead source.now.tokens.now input)) }
+    ensures number { IfOk result (λ rest. draft.new.number ≡ rest.at) }
 {
     let mut here = input;
     'more: while begins_declaration(source.tokens, here) {
@@ -209,8 +215,10 @@ fn declaration_section<D: Declaration>(
     keyword: Kind,
     sort: Sort,
 ) -> Result<Cursor, Stop>
-    ensures { Tabulates {T = Option (Vec D)} source.now.tokens.now (if_there (λ v. part keyword (λ x. construct D.production (D.shown x)) v.items)) (parts.if_there (λ v. telling.part (λ x. declaring sort (D.told x)) v.items)) inside draft.old draft.new result
+    requires { draft.old.number ≡ input.at }
+    ensures told { Tabulates {T = Option (Vec D)} source.now.tokens.now (if_there (λ v. part keyword (λ x. construct D.production (D.shown x)) v.items)) (parts.if_there (λ v. telling.part (λ x. declaring sort (D.told x)) v.items)) inside draft.old draft.new result
         (part_with keyword (node D.production (D.read depth)) (ahead source.now.tokens.now input)) }
+    ensures number { IfOk result (λ rest. draft.new.number ≡ rest.at) }
 {
     match accept(source.tokens, input, keyword) {
         None => Ok(input),
@@ -230,8 +238,10 @@ fn procedures(
     input: Cursor,
     depth: u32,
 ) -> Result<Cursor, Stop>
-    ensures { Tabulates {T = Vec ProcDecl} source.now.tokens.now (λ v. procedures_outline v.items) (λ v. parts.each (ended_piece procedure_piece) v.items) inside draft.old draft.new result
+    requires { draft.old.number ≡ input.at }
+    ensures told { Tabulates {T = Vec ProcDecl} source.now.tokens.now (λ v. procedures_outline v.items) (λ v. parts.each (ended_piece procedure_piece) v.items) inside draft.old draft.new result
         (procedures_with (procedure_at depth) (ahead source.now.tokens.now input)) }
+    ensures number { IfOk result (λ rest. draft.new.number ≡ rest.at) }
 {
     let mut here = input;
     'more: while is_at(source.tokens, here, Kind::Procedure) {
@@ -254,8 +264,10 @@ fn ended_procedure(
     input: Cursor,
     depth: u32,
 ) -> Result<Cursor, Stop>
-    ensures { Tabulates source.now.tokens.now (ended_outline procedure_outline) (ended_piece procedure_piece) inside draft.old draft.new result
+    requires { draft.old.number ≡ input.at }
+    ensures told { Tabulates source.now.tokens.now (ended_outline procedure_outline) (ended_piece procedure_piece) inside draft.old draft.new result
         (with_semicolon (procedure_at depth) (ahead source.now.tokens.now input)) }
+    ensures number { IfOk result (λ rest. draft.new.number ≡ rest.at) }
 {
     match procedure(draft, inside, source, input, depth) {
         Ok(here) => pass_word(draft, source.tokens, here, Kind::Semicolon),
@@ -272,7 +284,9 @@ fn procedure(
     input: Cursor,
     depth: u32,
 ) -> Result<Cursor, Stop>
-    ensures { Tabulates source.now.tokens.now procedure_outline procedure_piece inside draft.old draft.new result (procedure_at depth (ahead source.now.tokens.now input)) }
+    requires { draft.old.number ≡ input.at }
+    ensures told { Tabulates source.now.tokens.now procedure_outline procedure_piece inside draft.old draft.new result (procedure_at depth (ahead source.now.tokens.now input)) }
+    ensures number { IfOk result (λ rest. draft.new.number ≡ rest.at) }
 {
     if depth == 0 {
         return Err(beyond(
@@ -293,8 +307,10 @@ fn procedure_within(
     input: Cursor,
     depth: u32,
 ) -> Result<Cursor, Stop>
-    ensures { Tabulates source.now.tokens.now procedure_outline procedure_piece inside draft.old draft.new result
+    requires { draft.old.number ≡ input.at }
+    ensures told { Tabulates source.now.tokens.now procedure_outline procedure_piece inside draft.old draft.new result
         (procedure_with (expr_at depth) (block_at depth) (declarations_at depth) (ahead source.now.tokens.now input)) }
+    ensures number { IfOk result (λ rest. draft.new.number ≡ rest.at) }
 {
     let first = draft.number;
     let row = declarer_at(Sort::Procedure, inside, first);
@@ -323,8 +339,11 @@ fn procedure_inner(
     input: Cursor,
     depth: u32,
 ) -> Result<Cursor, Stop>
-    ensures { Tabulates source.now.tokens.now (λ p. word kinds.Procedure ++ behind_procedure p) (λ p. both token (behind_procedure_piece p)) inside draft.old draft.new result
+    requires declarer { inside.declarer ≡ draft.old.number }
+    requires number { draft.old.number ≡ input.at }
+    ensures told { Tabulates source.now.tokens.now (λ p. word kinds.Procedure ++ behind_procedure p) (λ p. both token (behind_procedure_piece p)) inside draft.old draft.new result
         (seq (expect_at kinds.Procedure) (behind_name (procedure_named (expr_at depth) (block_at depth) (declarations_at depth))) (ahead source.now.tokens.now input)) }
+    ensures number { IfOk result (λ rest. draft.new.number ≡ rest.at) }
 {
     match pass_word(draft, source.tokens, input, Kind::Procedure) {
         Ok(here) => match identifier(source.tokens, here) {
@@ -346,8 +365,11 @@ fn named_procedure(
     depth: u32,
     name: u32,
 ) -> Result<Cursor, Stop>
-    ensures { Tabulates source.now.tokens.now behind_procedure behind_procedure_piece inside draft.old draft.new result
+    requires declarer { inside.declarer + 1 < 2 ^ 32 }
+    requires number { draft.old.number + 1 ≡ input.at }
+    ensures told { Tabulates source.now.tokens.now behind_procedure behind_procedure_piece inside draft.old draft.new result
         (procedure_named (expr_at depth) (block_at depth) (declarations_at depth) name (ahead source.now.tokens.now input)) }
+    ensures number { IfOk result (λ rest. draft.new.number ≡ rest.at) }
 {
     let (starred, here) = skip(source.tokens, input, Kind::Star);
     walk_identdef(draft, inside, Name { name, starred });
@@ -370,9 +392,12 @@ fn procedure_block(
     depth: u32,
     name: u32,
 ) -> Result<Cursor, Stop>
-    ensures { TabulatesBy source.now.tokens.now (block_shown name) (block_step inside) draft.old draft.new result
+    requires declarer { inside.declarer + 1 < 2 ^ 32 }
+    requires number { draft.old.number ≡ input.at }
+    ensures told { TabulatesBy source.now.tokens.now (block_shown name) (block_step inside) draft.old draft.new result
         (seq (declarations_at depth) (seq (body_with (block_at depth)) (seq (optional (accept_at kinds.Return) (expr_at depth))
         (seq (expect_at kinds.End) (name_at (repeated name))))) (ahead source.now.tokens.now input)) }
+    ensures number { IfOk result (λ rest. draft.new.number ≡ rest.at) }
 {
     match declarations(draft, inside, source, input, depth) {
         Ok(here) => ending(draft, inside, source, here, depth, name),
@@ -388,7 +413,9 @@ pub(crate) fn body(
     input: Cursor,
     depth: u32,
 ) -> Result<Cursor, Stop>
-    ensures { Tabulates source.now.tokens.now body_outline body_piece inside draft.old draft.new result (body_with (block_at depth) (ahead source.now.tokens.now input)) }
+    requires { draft.old.number ≡ input.at }
+    ensures told { Tabulates source.now.tokens.now body_outline body_piece inside draft.old draft.new result (body_with (block_at depth) (ahead source.now.tokens.now input)) }
+    ensures number { IfOk result (λ rest. draft.new.number ≡ rest.at) }
 {
     match accept(source.tokens, input, Kind::Begin) {
         None => Ok(input),
@@ -407,7 +434,9 @@ fn returned(
     input: Cursor,
     depth: u32,
 ) -> Result<Cursor, Stop>
-    ensures { Tabulates source.now.tokens.now returned_outline returned_piece inside draft.old draft.new result (optional (accept_at kinds.Return) (expr_at depth) (ahead source.now.tokens.now input)) }
+    requires { draft.old.number ≡ input.at }
+    ensures told { Tabulates source.now.tokens.now returned_outline returned_piece inside draft.old draft.new result (optional (accept_at kinds.Return) (expr_at depth) (ahead source.now.tokens.now input)) }
+    ensures number { IfOk result (λ rest. draft.new.number ≡ rest.at) }
 {
     match accept(source.tokens, input, Kind::Return) {
         None => Ok(input),
@@ -427,9 +456,12 @@ fn ending(
     depth: u32,
     name: u32,
 ) -> Result<Cursor, Stop>
-    ensures { TabulatesBy source.now.tokens.now (ending_shown name) (ending_step inside) draft.old draft.new result
+    requires declarer { inside.declarer + 1 < 2 ^ 32 }
+    requires number { draft.old.number ≡ input.at }
+    ensures told { TabulatesBy source.now.tokens.now (ending_shown name) (ending_step inside) draft.old draft.new result
         (seq (body_with (block_at depth)) (seq (optional (accept_at kinds.Return) (expr_at depth))
         (seq (expect_at kinds.End) (name_at (repeated name)))) (ahead source.now.tokens.now input)) }
+    ensures number { IfOk result (λ rest. draft.new.number ≡ rest.at) }
 {
     match body(draft, inside, source, input, depth) {
         Ok(here) => match returned(draft, inside, source, here, depth) {
@@ -452,7 +484,9 @@ pub(crate) fn declarations(
     input: Cursor,
     depth: u32,
 ) -> Result<Cursor, Stop>
-    ensures { Tabulates source.now.tokens.now declarations_outline declarations_piece inside draft.old draft.new result (declarations_at depth (ahead source.now.tokens.now input)) }
+    requires { draft.old.number ≡ input.at }
+    ensures told { Tabulates source.now.tokens.now declarations_outline declarations_piece inside draft.old draft.new result (declarations_at depth (ahead source.now.tokens.now input)) }
+    ensures number { IfOk result (λ rest. draft.new.number ≡ rest.at) }
 {
     match declaration_section::<ConstDecl>(
         draft,

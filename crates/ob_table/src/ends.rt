@@ -1,6 +1,6 @@
 //! The names behind END: read and told one by one, and compared once the table is made.
 
-ghost use Rattle.std.specs.Prelude.{map};
+ghost use Rattle.std.specs.Prelude.{◌≡◌, ◌+◌, ◌<◌, ◌^◌, map, IfOk};
 ghost use Rattle.std.specs.List.{All};
 ghost use Rattle.ob_decls.specs.Declaring.{procedure_end, module_end};
 ghost use Rattle.ob_decls.specs.Naming.{ending_of};
@@ -30,7 +30,10 @@ pub(crate) fn procedure_name(
     input: Cursor,
     name: u32,
 ) -> Result<Cursor, Stop>
-    ensures { TabulatesBy tokens.now (repeated name) (λ x. after (tells procedure_end token) inside) draft.old draft.new result (name_at (repeated name) (ahead tokens.now input)) }
+    requires declarer { inside.declarer + 1 < 2 ^ 32 }
+    requires number { draft.old.number ≡ input.at }
+    ensures told { TabulatesBy tokens.now (repeated name) (λ x. after (tells procedure_end token) inside) draft.old draft.new result (name_at (repeated name) (ahead tokens.now input)) }
+    ensures number { IfOk result (λ rest. draft.new.number ≡ rest.at) }
 {
     match identifier(tokens, input) {
         Ok((_, rest)) => {
@@ -49,7 +52,9 @@ pub(crate) fn module_name(
     input: Cursor,
     name: u32,
 ) -> Result<Cursor, Stop>
-    ensures { TabulatesBy tokens.now (repeated name) (λ x. after (tells module_end token) inside) draft.old draft.new result (name_at (repeated name) (ahead tokens.now input)) }
+    requires { draft.old.number ≡ input.at }
+    ensures told { TabulatesBy tokens.now (repeated name) (λ x. after (tells module_end token) inside) draft.old draft.new result (name_at (repeated name) (ahead tokens.now input)) }
+    ensures number { IfOk result (λ rest. draft.new.number ≡ rest.at) }
 {
     match identifier(tokens, input) {
         Ok((_, rest)) => {

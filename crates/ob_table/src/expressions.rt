@@ -1,7 +1,7 @@
 //! Expressions (Oberon-07 report, section 8), from their tokens to their rows. Each function takes the levels that may be nested
 //! in what it reads.
 
-ghost use Rattle.std.specs.Prelude.{◌≡◌, ◌<◌, true, false, length, Ok};
+ghost use Rattle.std.specs.Prelude.{◌≡◌, ◌+◌, ◌<◌, true, false, length, Ok, IfOk};
 ghost use Rattle.ob_scan.specs.declared.kind.Kind.TheVariants as kinds;
 ghost use Rattle.ob_tree.specs.Constructs as constructs;
 ghost use Rattle.ob_tree.specs.Marks as marks;
@@ -45,7 +45,9 @@ pub(crate) fn expression(
     input: Cursor,
     depth: u32,
 ) -> Result<Cursor, Stop>
-    ensures { Tabulates source.now.tokens.now expr_outline expr_piece inside draft.old draft.new result (expr_at depth (ahead source.now.tokens.now input)) }
+    requires { draft.old.number ≡ input.at }
+    ensures told { Tabulates source.now.tokens.now expr_outline expr_piece inside draft.old draft.new result (expr_at depth (ahead source.now.tokens.now input)) }
+    ensures number { IfOk result (λ rest. draft.new.number ≡ rest.at) }
 {
     if depth == 0 {
         return Err(beyond(
@@ -106,7 +108,9 @@ fn compared(
     input: Cursor,
     depth: u32,
 ) -> Result<Cursor, Stop>
-    ensures { Tabulates source.now.tokens.now compared_outline compared_piece inside draft.old draft.new result (optional relation_start (sum_at depth) (ahead source.now.tokens.now input)) }
+    requires { draft.old.number ≡ input.at }
+    ensures told { Tabulates source.now.tokens.now compared_outline compared_piece inside draft.old draft.new result (optional relation_start (sum_at depth) (ahead source.now.tokens.now input)) }
+    ensures number { IfOk result (λ rest. draft.new.number ≡ rest.at) }
 {
     match relation(source.tokens, input) {
         None => Ok(input),
@@ -126,7 +130,9 @@ fn sum(
     input: Cursor,
     depth: u32,
 ) -> Result<Cursor, Stop>
-    ensures { Tabulates source.now.tokens.now sum_outline sum_piece inside draft.old draft.new result (sum_at depth (ahead source.now.tokens.now input)) }
+    requires { draft.old.number ≡ input.at }
+    ensures told { Tabulates source.now.tokens.now sum_outline sum_piece inside draft.old draft.new result (sum_at depth (ahead source.now.tokens.now input)) }
+    ensures number { IfOk result (λ rest. draft.new.number ≡ rest.at) }
 {
     let here = signed(draft, inside, source, input);
     match term(draft, inside, source, here, depth) {
@@ -137,7 +143,9 @@ fn sum(
 
 /// A sign, if it stands here.
 fn signed(draft: &mut Draft, inside: Context, source: &Source, input: Cursor) -> Cursor
-    ensures { Told source.now.tokens.now sign_outline (λ x. after (sign_piece x) inside) draft.old draft.new result (optional sign_start nothing (ahead source.now.tokens.now input)) }
+    requires { draft.old.number ≡ input.at }
+    ensures told { Told source.now.tokens.now sign_outline (λ x. after (sign_piece x) inside) draft.old draft.new result (optional sign_start nothing (ahead source.now.tokens.now input)) }
+    ensures number { draft.new.number ≡ result.at }
 {
     let (sign, rest) = sign(source.tokens, input);
     match sign {
@@ -156,7 +164,9 @@ fn more_terms(
     input: Cursor,
     depth: u32,
 ) -> Result<Cursor, Stop>
-    ensures { Tabulates source.now.tokens.now terms_outline terms_piece inside draft.old draft.new result (many add_start (term_at depth) (ahead source.now.tokens.now input)) }
+    requires { draft.old.number ≡ input.at }
+    ensures told { Tabulates source.now.tokens.now terms_outline terms_piece inside draft.old draft.new result (many add_start (term_at depth) (ahead source.now.tokens.now input)) }
+    ensures number { IfOk result (λ rest. draft.new.number ≡ rest.at) }
 {
     let mut here = input;
     'more: while let Some((_, behind)) = add_operator(source.tokens, here) {
@@ -178,7 +188,9 @@ fn term(
     input: Cursor,
     depth: u32,
 ) -> Result<Cursor, Stop>
-    ensures { Tabulates source.now.tokens.now term_outline term_piece inside draft.old draft.new result (term_at depth (ahead source.now.tokens.now input)) }
+    requires { draft.old.number ≡ input.at }
+    ensures told { Tabulates source.now.tokens.now term_outline term_piece inside draft.old draft.new result (term_at depth (ahead source.now.tokens.now input)) }
+    ensures number { IfOk result (λ rest. draft.new.number ≡ rest.at) }
 {
     match factor(draft, inside, source, input, depth) {
         Ok(here) => more_factors(draft, inside, source, here, depth),
@@ -195,7 +207,9 @@ fn more_factors(
     input: Cursor,
     depth: u32,
 ) -> Result<Cursor, Stop>
-    ensures { Tabulates source.now.tokens.now factors_outline factors_piece inside draft.old draft.new result (many mul_start (factor_at depth) (ahead source.now.tokens.now input)) }
+    requires { draft.old.number ≡ input.at }
+    ensures told { Tabulates source.now.tokens.now factors_outline factors_piece inside draft.old draft.new result (many mul_start (factor_at depth) (ahead source.now.tokens.now input)) }
+    ensures number { IfOk result (λ rest. draft.new.number ≡ rest.at) }
 {
     let mut here = input;
     'more: while let Some((_, behind)) = mul_operator(source.tokens, here) {
@@ -218,7 +232,9 @@ fn factor(
     input: Cursor,
     depth: u32,
 ) -> Result<Cursor, Stop>
-    ensures { Tabulates source.now.tokens.now factor_outline factor_piece inside draft.old draft.new result (factor_at depth (ahead source.now.tokens.now input)) }
+    requires { draft.old.number ≡ input.at }
+    ensures told { Tabulates source.now.tokens.now factor_outline factor_piece inside draft.old draft.new result (factor_at depth (ahead source.now.tokens.now input)) }
+    ensures number { IfOk result (λ rest. draft.new.number ≡ rest.at) }
 {
     match input.next(source.tokens) {
         Some((Leaf::Name(number), rest)) => designator(draft, inside, source, number, rest, depth),
@@ -242,8 +258,10 @@ fn set(
     input: Cursor,
     depth: u32,
 ) -> Result<Cursor, Stop>
-    ensures { Tabulates source.now.tokens.now factor_outline factor_piece inside draft.old draft.new result
+    requires { draft.old.number + 1 ≡ input.at }
+    ensures told { Tabulates source.now.tokens.now factor_outline factor_piece inside draft.old draft.new result
         (node constructs.Factor (prefixed (word kinds.LeftBrace) (seq (optional (unless kinds.RightBrace) (several kinds.Comma (element_with (expr_at depth)))) (expect_at kinds.RightBrace))) (ahead source.now.tokens.now input)) }
+    ensures number { IfOk result (λ rest. draft.new.number ≡ rest.at) }
 {
     draft.pass();
     match elements(draft, inside, source, input, depth) {
@@ -261,8 +279,10 @@ fn group(
     input: Cursor,
     depth: u32,
 ) -> Result<Cursor, Stop>
-    ensures { Tabulates source.now.tokens.now factor_outline factor_piece inside draft.old draft.new result
+    requires { draft.old.number + 1 ≡ input.at }
+    ensures told { Tabulates source.now.tokens.now factor_outline factor_piece inside draft.old draft.new result
         (node constructs.Factor (prefixed (word kinds.LeftParen) (seq (expr_at depth) (expect_at kinds.RightParen))) (ahead source.now.tokens.now input)) }
+    ensures number { IfOk result (λ rest. draft.new.number ≡ rest.at) }
 {
     draft.pass();
     match expression(draft, inside, source, input, depth) {
@@ -280,8 +300,10 @@ fn negated(
     input: Cursor,
     depth: u32,
 ) -> Result<Cursor, Stop>
-    ensures { Tabulates source.now.tokens.now factor_outline factor_piece inside draft.old draft.new result
+    requires { draft.old.number + 1 ≡ input.at }
+    ensures told { Tabulates source.now.tokens.now factor_outline factor_piece inside draft.old draft.new result
         (node constructs.Factor (prefixed (word kinds.Tilde) (negated_at depth)) (ahead source.now.tokens.now input)) }
+    ensures number { IfOk result (λ rest. draft.new.number ≡ rest.at) }
 {
     if depth == 0 {
         return Err(beyond(source.tokens, input, begins_factor(source.tokens, input)));
@@ -299,7 +321,9 @@ fn elements(
     input: Cursor,
     depth: u32,
 ) -> Result<Cursor, Stop>
-    ensures { Tabulates source.now.tokens.now set_outline set_piece inside draft.old draft.new result (optional (unless kinds.RightBrace) (several kinds.Comma (element_with (expr_at depth))) (ahead source.now.tokens.now input)) }
+    requires { draft.old.number ≡ input.at }
+    ensures told { Tabulates source.now.tokens.now set_outline set_piece inside draft.old draft.new result (optional (unless kinds.RightBrace) (several kinds.Comma (element_with (expr_at depth))) (ahead source.now.tokens.now input)) }
+    ensures number { IfOk result (λ rest. draft.new.number ≡ rest.at) }
 {
     if is_at(source.tokens, input, Kind::RightBrace) {
         return Ok(input);
@@ -316,7 +340,9 @@ fn element_list(
     input: Cursor,
     depth: u32,
 ) -> Result<Cursor, Stop>
-    ensures { Tabulates source.now.tokens.now element_list_outline element_list_piece inside draft.old draft.new result (several kinds.Comma (element_with (expr_at depth)) (ahead source.now.tokens.now input)) }
+    requires { draft.old.number ≡ input.at }
+    ensures told { Tabulates source.now.tokens.now element_list_outline element_list_piece inside draft.old draft.new result (several kinds.Comma (element_with (expr_at depth)) (ahead source.now.tokens.now input)) }
+    ensures number { IfOk result (λ rest. draft.new.number ≡ rest.at) }
 {
     match element(draft, inside, source, input, depth) {
         Ok(here) => more_elements(draft, inside, source, here, depth),
@@ -333,7 +359,9 @@ fn more_elements(
     input: Cursor,
     depth: u32,
 ) -> Result<Cursor, Stop>
-    ensures { Tabulates source.now.tokens.now elements_outline elements_piece inside draft.old draft.new result (many (accept_at kinds.Comma) (element_with (expr_at depth)) (ahead source.now.tokens.now input)) }
+    requires { draft.old.number ≡ input.at }
+    ensures told { Tabulates source.now.tokens.now elements_outline elements_piece inside draft.old draft.new result (many (accept_at kinds.Comma) (element_with (expr_at depth)) (ahead source.now.tokens.now input)) }
+    ensures number { IfOk result (λ rest. draft.new.number ≡ rest.at) }
 {
     let mut here = input;
     'more: while let Some(behind) = accept(source.tokens, here, Kind::Comma) {
@@ -355,7 +383,9 @@ fn element(
     input: Cursor,
     depth: u32,
 ) -> Result<Cursor, Stop>
-    ensures { Tabulates source.now.tokens.now element_outline element_piece inside draft.old draft.new result (element_with (expr_at depth) (ahead source.now.tokens.now input)) }
+    requires { draft.old.number ≡ input.at }
+    ensures told { Tabulates source.now.tokens.now element_outline element_piece inside draft.old draft.new result (element_with (expr_at depth) (ahead source.now.tokens.now input)) }
+    ensures number { IfOk result (λ rest. draft.new.number ≡ rest.at) }
 {
     match expression(draft, inside, source, input, depth) {
         Ok(here) => high(draft, inside, source, here, depth),
@@ -372,7 +402,9 @@ fn high(
     input: Cursor,
     depth: u32,
 ) -> Result<Cursor, Stop>
-    ensures { Tabulates source.now.tokens.now high_outline high_piece inside draft.old draft.new result (optional (accept_at kinds.DotDot) (expr_at depth) (ahead source.now.tokens.now input)) }
+    requires { draft.old.number ≡ input.at }
+    ensures told { Tabulates source.now.tokens.now high_outline high_piece inside draft.old draft.new result (optional (accept_at kinds.DotDot) (expr_at depth) (ahead source.now.tokens.now input)) }
+    ensures number { IfOk result (λ rest. draft.new.number ≡ rest.at) }
 {
     match accept(source.tokens, input, Kind::DotDot) {
         None => Ok(input),
@@ -394,7 +426,9 @@ pub(crate) fn designator(
     input: Cursor,
     depth: u32,
 ) -> Result<Cursor, Stop>
-    ensures { Tabulates source.now.tokens.now designator_outline (designator_piece false) inside draft.old draft.new result (designator_with (expr_at depth) number (ahead source.now.tokens.now input)) }
+    requires { draft.old.number + 1 ≡ input.at }
+    ensures told { Tabulates source.now.tokens.now designator_outline (designator_piece false) inside draft.old draft.new result (designator_with (expr_at depth) number (ahead source.now.tokens.now input)) }
+    ensures number { IfOk result (λ rest. draft.new.number ≡ rest.at) }
 {
     let head = draft.number;
     draft.add_designator(DesignatorRow {
@@ -422,7 +456,9 @@ fn selectors(
     depth: u32,
     head: u32,
 ) -> Result<Cursor, Stop>
-    ensures { TabulatesBy {T = Chosen (dot_at source.now.tokens.now input)} source.now.tokens.now chosen_outline (choosing head inside) draft.old draft.new result (many (begins selector_first) (selector_with (expr_at depth)) (ahead source.now.tokens.now input)) }
+    requires { draft.old.number ≡ input.at }
+    ensures told { TabulatesBy {T = Chosen (dot_at source.now.tokens.now input)} source.now.tokens.now chosen_outline (choosing head inside) draft.old draft.new result (many (begins selector_first) (selector_with (expr_at depth)) (ahead source.now.tokens.now input)) }
+    ensures number { IfOk result (λ rest. draft.new.number ≡ rest.at) }
 {
     let at = next_place(draft);
     open_places(draft, head, selectors_ahead(source, input));
@@ -454,8 +490,10 @@ fn selector(
     head: u32,
     place: usize,
 ) -> Result<Cursor, Stop>
-    requires { draft.old.refused ≡ false → place < length draft.old.selectors.items }
-    ensures { TabulatesBy {T = Picked (dot_at source.now.tokens.now input)} source.now.tokens.now picked_outline (picking head place inside) draft.old draft.new result (selector_with (expr_at depth) (ahead source.now.tokens.now input)) }
+    requires place { draft.old.refused ≡ false → place < length draft.old.selectors.items }
+    requires number { draft.old.number ≡ input.at }
+    ensures told { TabulatesBy {T = Picked (dot_at source.now.tokens.now input)} source.now.tokens.now picked_outline (picking head place inside) draft.old draft.new result (selector_with (expr_at depth) (ahead source.now.tokens.now input)) }
+    ensures number { IfOk result (λ rest. draft.new.number ≡ rest.at) }
 {
     match input.next(source.tokens) {
         Some((Leaf::Word(Kind::Dot), rest)) => field(draft, inside, source, rest, head, place),
@@ -481,16 +519,16 @@ fn field(
     head: u32,
     place: usize,
 ) -> Result<Cursor, Stop>
-    ensures { TabulatesBy {T = Picked true} source.now.tokens.now picked_outline (picking head place inside) draft.old draft.new result
+    requires { draft.old.number + 1 ≡ input.at }
+    ensures told { TabulatesBy {T = Picked true} source.now.tokens.now picked_outline (picking head place inside) draft.old draft.new result
         (node constructs.Selector (prefixed (word kinds.Dot) (name_at marks.selected)) (ahead source.now.tokens.now input)) }
+    ensures number { IfOk result (λ rest. draft.new.number ≡ rest.at) }
 {
-    let dot = draft.number;
-    let number = draft.behind(dot, 1);
     draft.settle(
         place,
         SelectorRow {
             of: head,
-            step: Step::Field(number),
+            step: Step::Field(input.number()),
         },
     );
     draft.pass();
@@ -509,7 +547,9 @@ fn target(
     head: u32,
     place: usize,
 ) -> Cursor
-    ensures { Told {T = Picked false} source.now.tokens.now picked_outline (picking head place inside) draft.old draft.new result (Ok (construct constructs.Selector (word kinds.Caret), ahead source.now.tokens.now rest)) }
+    requires { draft.old.number + 1 ≡ rest.at }
+    ensures told { Told {T = Picked false} source.now.tokens.now picked_outline (picking head place inside) draft.old draft.new result (Ok (construct constructs.Selector (word kinds.Caret), ahead source.now.tokens.now rest)) }
+    ensures number { draft.new.number ≡ result.at }
 {
     draft.settle(
         place,
@@ -532,9 +572,11 @@ fn index(
     head: u32,
     place: usize,
 ) -> Result<Cursor, Stop>
-    requires { draft.old.refused ≡ false → place < length draft.old.selectors.items }
-    ensures { TabulatesBy {T = Picked false} source.now.tokens.now picked_outline (picking head place inside) draft.old draft.new result
+    requires place { draft.old.refused ≡ false → place < length draft.old.selectors.items }
+    requires number { draft.old.number + 1 ≡ input.at }
+    ensures told { TabulatesBy {T = Picked false} source.now.tokens.now picked_outline (picking head place inside) draft.old draft.new result
         (node constructs.Selector (prefixed (word kinds.LeftBracket) (seq (several kinds.Comma (expr_at depth)) (expect_at kinds.RightBracket))) (ahead source.now.tokens.now input)) }
+    ensures number { IfOk result (λ rest. draft.new.number ≡ rest.at) }
 {
     draft.pass();
     match expression_list(draft, inside, source, input, depth) {
@@ -563,15 +605,17 @@ fn call(
     head: u32,
     place: usize,
 ) -> Result<Cursor, Stop>
-    requires { draft.old.refused ≡ false → place < length draft.old.selectors.items }
-    ensures { TabulatesBy {T = Picked false} source.now.tokens.now picked_outline (picking head place inside) draft.old draft.new result
+    requires place { draft.old.refused ≡ false → place < length draft.old.selectors.items }
+    requires number { draft.old.number + 1 ≡ input.at }
+    ensures told { TabulatesBy {T = Picked false} source.now.tokens.now picked_outline (picking head place inside) draft.old draft.new result
         (node constructs.Selector (prefixed (word kinds.LeftParen) (seq (optional (unless kinds.RightParen) (several kinds.Comma (expr_at depth))) (expect_at kinds.RightParen))) (ahead source.now.tokens.now input)) }
+    ensures number { IfOk result (λ rest. draft.new.number ≡ rest.at) }
 {
     let opening = draft.number;
     draft.pass();
     match arguments(draft, inside, source, input, depth) {
         Ok(here) => {
-            let name = lone_name(draft, source.tokens, input, here, opening);
+            let name = lone_name(source.tokens, input, here, opening);
             draft.settle(
                 place,
                 SelectorRow {
@@ -594,7 +638,10 @@ fn arguments(
     input: Cursor,
     depth: u32,
 ) -> Result<Cursor, Stop>
-    ensures { Tabulates source.now.tokens.now arguments_outline arguments_piece inside draft.old draft.new result (optional (unless kinds.RightParen) (several kinds.Comma (expr_at depth)) (ahead source.now.tokens.now input)) }
+    requires begun { draft.old.refused ≡ false → 0 < draft.old.number }
+    requires number { draft.old.number ≡ input.at }
+    ensures told { Tabulates source.now.tokens.now arguments_outline arguments_piece inside draft.old draft.new result (optional (unless kinds.RightParen) (several kinds.Comma (expr_at depth)) (ahead source.now.tokens.now input)) }
+    ensures number { IfOk result (λ rest. draft.new.number ≡ rest.at) }
 {
     if is_at(source.tokens, input, Kind::RightParen) {
         return Ok(input);
@@ -614,7 +661,10 @@ pub(crate) fn expression_list(
     input: Cursor,
     depth: u32,
 ) -> Result<(Cursor, u32), Stop>
-    ensures { Counts source.now.tokens.now inside draft.old draft.new result (several kinds.Comma (expr_at depth) (ahead source.now.tokens.now input)) }
+    requires begun { draft.old.refused ≡ false → 0 < draft.old.number }
+    requires number { draft.old.number ≡ input.at }
+    ensures told { Counts source.now.tokens.now inside draft.old draft.new result (several kinds.Comma (expr_at depth) (ahead source.now.tokens.now input)) }
+    ensures number { IfOk result (λ x. draft.new.number ≡ x.0.at) }
 {
     match expression(draft, inside, source, input, depth) {
         Ok(here) => more_expressions(draft, inside, source, here, depth),
@@ -631,7 +681,10 @@ fn more_expressions(
     input: Cursor,
     depth: u32,
 ) -> Result<(Cursor, u32), Stop>
-    ensures { CountsFurther source.now.tokens.now inside draft.old draft.new result (many (accept_at kinds.Comma) (expr_at depth) (ahead source.now.tokens.now input)) }
+    requires begun { draft.old.refused ≡ false → 0 < draft.old.number }
+    requires number { draft.old.number ≡ input.at }
+    ensures told { CountsFurther source.now.tokens.now inside draft.old draft.new result (many (accept_at kinds.Comma) (expr_at depth) (ahead source.now.tokens.now input)) }
+    ensures number { IfOk result (λ x. draft.new.number ≡ x.0.at) }
 {
     let mut here = input;
     let mut count = 1;
@@ -640,7 +693,7 @@ fn more_expressions(
         match expression(draft, inside, source, behind, depth) {
             Ok(next) => {
                 here = next;
-                count = draft.behind(count, 1);
+                count = u32::saturating_add(count, 1);
             }
             Err(stop) => return Err(stop),
         }

@@ -1,5 +1,6 @@
 //! The labels of a case (Oberon-07 report, section 9.5), from their tokens to their rows.
 
+ghost use Rattle.std.specs.Prelude.{◌≡◌, IfOk};
 ghost use Rattle.ob_scan.specs.declared.kind.Kind.TheVariants as kinds;
 ghost use Rattle.ob_tree.specs.Statements.{label_outline, label_range_outline};
 ghost use Rattle.ob_decls.specs.Statements.{label_piece, label_range_piece};
@@ -26,7 +27,9 @@ fn label(
     tokens: &[Token],
     input: Cursor,
 ) -> Result<Cursor, Stop>
-    ensures { Tabulates tokens.now label_outline label_piece inside draft.old draft.new result (case_label_at (ahead tokens.now input)) }
+    requires { draft.old.number ≡ input.at }
+    ensures told { Tabulates tokens.now label_outline label_piece inside draft.old draft.new result (case_label_at (ahead tokens.now input)) }
+    ensures number { IfOk result (λ rest. draft.new.number ≡ rest.at) }
 {
     match input.next(tokens) {
         Some((Leaf::Name(number), rest)) => qualident_after(draft, inside, tokens, number, rest),
@@ -43,7 +46,9 @@ fn label_range(
     tokens: &[Token],
     input: Cursor,
 ) -> Result<Cursor, Stop>
-    ensures { Tabulates tokens.now label_range_outline label_range_piece inside draft.old draft.new result (label_range_at (ahead tokens.now input)) }
+    requires { draft.old.number ≡ input.at }
+    ensures told { Tabulates tokens.now label_range_outline label_range_piece inside draft.old draft.new result (label_range_at (ahead tokens.now input)) }
+    ensures number { IfOk result (λ rest. draft.new.number ≡ rest.at) }
 {
     match label(draft, inside, tokens, input) {
         Ok(here) => high_label(draft, inside, tokens, here),
@@ -58,7 +63,9 @@ fn high_label(
     tokens: &[Token],
     input: Cursor,
 ) -> Result<Cursor, Stop>
-    ensures { Tabulates tokens.now high_label_outline high_label_piece inside draft.old draft.new result (optional (accept_at kinds.DotDot) case_label_at (ahead tokens.now input)) }
+    requires { draft.old.number ≡ input.at }
+    ensures told { Tabulates tokens.now high_label_outline high_label_piece inside draft.old draft.new result (optional (accept_at kinds.DotDot) case_label_at (ahead tokens.now input)) }
+    ensures number { IfOk result (λ rest. draft.new.number ≡ rest.at) }
 {
     match accept(tokens, input, Kind::DotDot) {
         None => Ok(input),
@@ -76,7 +83,9 @@ pub(crate) fn label_ranges(
     tokens: &[Token],
     input: Cursor,
 ) -> Result<Cursor, Stop>
-    ensures { Tabulates tokens.now labels_outline labels_piece inside draft.old draft.new result (several kinds.Comma label_range_at (ahead tokens.now input)) }
+    requires { draft.old.number ≡ input.at }
+    ensures told { Tabulates tokens.now labels_outline labels_piece inside draft.old draft.new result (several kinds.Comma label_range_at (ahead tokens.now input)) }
+    ensures number { IfOk result (λ rest. draft.new.number ≡ rest.at) }
 {
     match label_range(draft, inside, tokens, input) {
         Ok(here) => more_label_ranges(draft, inside, tokens, here),
@@ -91,7 +100,9 @@ fn more_label_ranges(
     tokens: &[Token],
     input: Cursor,
 ) -> Result<Cursor, Stop>
-    ensures { Tabulates tokens.now ranges_outline ranges_piece inside draft.old draft.new result (many (accept_at kinds.Comma) label_range_at (ahead tokens.now input)) }
+    requires { draft.old.number ≡ input.at }
+    ensures told { Tabulates tokens.now ranges_outline ranges_piece inside draft.old draft.new result (many (accept_at kinds.Comma) label_range_at (ahead tokens.now input)) }
+    ensures number { IfOk result (λ rest. draft.new.number ≡ rest.at) }
 {
     let mut here = input;
     'more: while let Some(behind) = accept(tokens, here, Kind::Comma) {

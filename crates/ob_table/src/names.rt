@@ -1,5 +1,6 @@
 //! Names (Oberon-07 report, section 4), from their tokens to their rows.
 
+ghost use Rattle.std.specs.Prelude.{◌≡◌, IfOk};
 ghost use Rattle.ob_scan.specs.declared.kind.Kind.TheVariants as kinds;
 ghost use Rattle.ob_tree.specs.Marks.{separated};
 ghost use Rattle.ob_tree.specs.Names.{qualident_outline, identdef_outline};
@@ -27,7 +28,9 @@ pub(crate) fn used_qualident(
     tokens: &[Token],
     input: Cursor,
 ) -> Result<Cursor, Stop>
-    ensures { Tabulates tokens.now qualident_outline qualident_piece inside draft.old draft.new result (qualident_at (ahead tokens.now input)) }
+    requires { draft.old.number ≡ input.at }
+    ensures told { Tabulates tokens.now qualident_outline qualident_piece inside draft.old draft.new result (qualident_at (ahead tokens.now input)) }
+    ensures number { IfOk result (λ rest. draft.new.number ≡ rest.at) }
 {
     match qualident(tokens, input) {
         Ok((name, rest)) => {
@@ -45,7 +48,9 @@ pub(crate) fn declared_name(
     tokens: &[Token],
     input: Cursor,
 ) -> Result<Cursor, Stop>
-    ensures { Tabulates tokens.now identdef_outline identdef_piece inside draft.old draft.new result (identdef_at (ahead tokens.now input)) }
+    requires { draft.old.number ≡ input.at }
+    ensures told { Tabulates tokens.now identdef_outline identdef_piece inside draft.old draft.new result (identdef_at (ahead tokens.now input)) }
+    ensures number { IfOk result (λ rest. draft.new.number ≡ rest.at) }
 {
     match identdef(tokens, input) {
         Ok((name, rest)) => {
@@ -63,7 +68,9 @@ fn more_declared(
     tokens: &[Token],
     input: Cursor,
 ) -> Result<Cursor, Stop>
-    ensures { Tabulates tokens.now (further_outline kinds.Comma identdef_outline) (further_piece identdef_piece) inside draft.old draft.new result (many (accept_at kinds.Comma) identdef_at (ahead tokens.now input)) }
+    requires { draft.old.number ≡ input.at }
+    ensures told { Tabulates tokens.now (further_outline kinds.Comma identdef_outline) (further_piece identdef_piece) inside draft.old draft.new result (many (accept_at kinds.Comma) identdef_at (ahead tokens.now input)) }
+    ensures number { IfOk result (λ rest. draft.new.number ≡ rest.at) }
 {
     let mut here = input;
     'more: while let Some(behind) = accept(tokens, here, Kind::Comma) {
@@ -83,7 +90,9 @@ pub(crate) fn declared_names(
     tokens: &[Token],
     input: Cursor,
 ) -> Result<Cursor, Stop>
-    ensures { Tabulates tokens.now (separated kinds.Comma identdef_outline) (list_piece identdef_piece) inside draft.old draft.new result (several kinds.Comma identdef_at (ahead tokens.now input)) }
+    requires { draft.old.number ≡ input.at }
+    ensures told { Tabulates tokens.now (separated kinds.Comma identdef_outline) (list_piece identdef_piece) inside draft.old draft.new result (several kinds.Comma identdef_at (ahead tokens.now input)) }
+    ensures number { IfOk result (λ rest. draft.new.number ≡ rest.at) }
 {
     match declared_name(draft, inside, tokens, input) {
         Ok(here) => more_declared(draft, inside, tokens, here),

@@ -1,6 +1,6 @@
 //! Formal parameters (Oberon-07 report, section 10.1), from their tokens to their rows.
 
-ghost use Rattle.std.specs.Prelude.{◌++◌, false};
+ghost use Rattle.std.specs.Prelude.{◌≡◌, ◌++◌, false, IfOk};
 ghost use Rattle.ob_scan.specs.declared.kind.Kind.TheVariants as kinds;
 ghost use Rattle.ob_tree.specs.Marks.{declared, separated, word};
 ghost use Rattle.ob_tree.specs.Names.{qualident_outline};
@@ -33,7 +33,9 @@ fn parameter_name(
     tokens: &[Token],
     input: Cursor,
 ) -> Result<Cursor, Stop>
-    ensures { Tabulates tokens.now (declared false) (λ n. parameter_piece) inside draft.old draft.new result (name_at (declared false) (ahead tokens.now input)) }
+    requires { draft.old.number ≡ input.at }
+    ensures told { Tabulates tokens.now (declared false) (λ n. parameter_piece) inside draft.old draft.new result (name_at (declared false) (ahead tokens.now input)) }
+    ensures number { IfOk result (λ rest. draft.new.number ≡ rest.at) }
 {
     match identifier(tokens, input) {
         Ok((_, rest)) => {
@@ -51,7 +53,9 @@ fn more_names(
     tokens: &[Token],
     input: Cursor,
 ) -> Result<Cursor, Stop>
-    ensures { Tabulates tokens.now (further_outline kinds.Comma (declared false)) (further_piece (λ n. parameter_piece)) inside draft.old draft.new result (many (accept_at kinds.Comma) (name_at (declared false)) (ahead tokens.now input)) }
+    requires { draft.old.number ≡ input.at }
+    ensures told { Tabulates tokens.now (further_outline kinds.Comma (declared false)) (further_piece (λ n. parameter_piece)) inside draft.old draft.new result (many (accept_at kinds.Comma) (name_at (declared false)) (ahead tokens.now input)) }
+    ensures number { IfOk result (λ rest. draft.new.number ≡ rest.at) }
 {
     let mut here = input;
     'more: while let Some(behind) = accept(tokens, here, Kind::Comma) {
@@ -71,7 +75,9 @@ fn names(
     tokens: &[Token],
     input: Cursor,
 ) -> Result<Cursor, Stop>
-    ensures { Tabulates tokens.now (separated kinds.Comma (declared false)) (list_piece (λ n. parameter_piece)) inside draft.old draft.new result (several kinds.Comma (name_at (declared false)) (ahead tokens.now input)) }
+    requires { draft.old.number ≡ input.at }
+    ensures told { Tabulates tokens.now (separated kinds.Comma (declared false)) (list_piece (λ n. parameter_piece)) inside draft.old draft.new result (several kinds.Comma (name_at (declared false)) (ahead tokens.now input)) }
+    ensures number { IfOk result (λ rest. draft.new.number ≡ rest.at) }
 {
     match parameter_name(draft, inside, tokens, input) {
         Ok(here) => more_names(draft, inside, tokens, here),
@@ -86,7 +92,9 @@ fn open_arrays(
     tokens: &[Token],
     input: Cursor,
 ) -> Result<Cursor, Stop>
-    ensures { Tabulates tokens.now arrays_outline arrays_piece inside draft.old draft.new result (many (accept_at kinds.Array) (expect_at kinds.Of) (ahead tokens.now input)) }
+    requires { draft.old.number ≡ input.at }
+    ensures told { Tabulates tokens.now arrays_outline arrays_piece inside draft.old draft.new result (many (accept_at kinds.Array) (expect_at kinds.Of) (ahead tokens.now input)) }
+    ensures number { IfOk result (λ rest. draft.new.number ≡ rest.at) }
 {
     let mut here = input;
     'more: while let Some(behind) = accept(tokens, here, Kind::Array) {
@@ -107,7 +115,9 @@ fn formal_name(
     tokens: &[Token],
     input: Cursor,
 ) -> Result<Cursor, Stop>
-    ensures { Tabulates tokens.now qualident_outline formal_name_piece inside draft.old draft.new result (qualident_at (ahead tokens.now input)) }
+    requires { draft.old.number ≡ input.at }
+    ensures told { Tabulates tokens.now qualident_outline formal_name_piece inside draft.old draft.new result (qualident_at (ahead tokens.now input)) }
+    ensures number { IfOk result (λ rest. draft.new.number ≡ rest.at) }
 {
     match qualident(tokens, input) {
         Ok((name, rest)) => {
@@ -126,7 +136,9 @@ fn formal_type(
     tokens: &[Token],
     input: Cursor,
 ) -> Result<Cursor, Stop>
-    ensures { Tabulates tokens.now formal_outline formal_piece inside draft.old draft.new result (formal_at (ahead tokens.now input)) }
+    requires { draft.old.number ≡ input.at }
+    ensures told { Tabulates tokens.now formal_outline formal_piece inside draft.old draft.new result (formal_at (ahead tokens.now input)) }
+    ensures number { IfOk result (λ rest. draft.new.number ≡ rest.at) }
 {
     match open_arrays(draft, inside, tokens, input) {
         Ok(here) => formal_name(draft, inside, tokens, here),
@@ -141,7 +153,9 @@ fn typed(
     tokens: &[Token],
     input: Cursor,
 ) -> Result<Cursor, Stop>
-    ensures { Tabulates tokens.now (λ x. word kinds.Colon ++ formal_outline x) (λ x. both token (formal_piece x)) inside draft.old draft.new result (seq (expect_at kinds.Colon) formal_at (ahead tokens.now input)) }
+    requires { draft.old.number ≡ input.at }
+    ensures told { Tabulates tokens.now (λ x. word kinds.Colon ++ formal_outline x) (λ x. both token (formal_piece x)) inside draft.old draft.new result (seq (expect_at kinds.Colon) formal_at (ahead tokens.now input)) }
+    ensures number { IfOk result (λ rest. draft.new.number ≡ rest.at) }
 {
     match pass_word(draft, tokens, input, Kind::Colon) {
         Ok(here) => formal_type(draft, inside, tokens, here),
@@ -156,7 +170,9 @@ fn section_inner(
     tokens: &[Token],
     input: Cursor,
 ) -> Result<Cursor, Stop>
-    ensures { Tabulates tokens.now inner_outline inner_piece inside draft.old draft.new result (inner_at (ahead tokens.now input)) }
+    requires { draft.old.number ≡ input.at }
+    ensures told { Tabulates tokens.now inner_outline inner_piece inside draft.old draft.new result (inner_at (ahead tokens.now input)) }
+    ensures number { IfOk result (λ rest. draft.new.number ≡ rest.at) }
 {
     let here = skip_word(draft, inside, tokens, input, Kind::Var);
     match names(draft, inside, tokens, here) {
@@ -172,7 +188,9 @@ fn section(
     tokens: &[Token],
     input: Cursor,
 ) -> Result<Cursor, Stop>
-    ensures { Tabulates tokens.now section_outline section_piece inside draft.old draft.new result (section_at (ahead tokens.now input)) }
+    requires { draft.old.number ≡ input.at }
+    ensures told { Tabulates tokens.now section_outline section_piece inside draft.old draft.new result (section_at (ahead tokens.now input)) }
+    ensures number { IfOk result (λ rest. draft.new.number ≡ rest.at) }
 {
     let first = draft.number;
     let row = declarer_at(Sort::Parameter, inside, first);
@@ -193,7 +211,9 @@ fn more_sections(
     tokens: &[Token],
     input: Cursor,
 ) -> Result<Cursor, Stop>
-    ensures { Tabulates tokens.now (further_outline kinds.Semicolon section_outline) (further_piece section_piece) inside draft.old draft.new result (many (accept_at kinds.Semicolon) section_at (ahead tokens.now input)) }
+    requires { draft.old.number ≡ input.at }
+    ensures told { Tabulates tokens.now (further_outline kinds.Semicolon section_outline) (further_piece section_piece) inside draft.old draft.new result (many (accept_at kinds.Semicolon) section_at (ahead tokens.now input)) }
+    ensures number { IfOk result (λ rest. draft.new.number ≡ rest.at) }
 {
     let mut here = input;
     'more: while let Some(behind) = accept(tokens, here, Kind::Semicolon) {
@@ -213,7 +233,9 @@ fn section_list(
     tokens: &[Token],
     input: Cursor,
 ) -> Result<Cursor, Stop>
-    ensures { Tabulates tokens.now (separated kinds.Semicolon section_outline) (list_piece section_piece) inside draft.old draft.new result (several kinds.Semicolon section_at (ahead tokens.now input)) }
+    requires { draft.old.number ≡ input.at }
+    ensures told { Tabulates tokens.now (separated kinds.Semicolon section_outline) (list_piece section_piece) inside draft.old draft.new result (several kinds.Semicolon section_at (ahead tokens.now input)) }
+    ensures number { IfOk result (λ rest. draft.new.number ≡ rest.at) }
 {
     match section(draft, inside, tokens, input) {
         Ok(here) => more_sections(draft, inside, tokens, here),
@@ -228,7 +250,9 @@ fn sections(
     tokens: &[Token],
     input: Cursor,
 ) -> Result<Cursor, Stop>
-    ensures { Tabulates tokens.now sections_outline sections_piece inside draft.old draft.new result (optional (unless kinds.RightParen) (several kinds.Semicolon section_at) (ahead tokens.now input)) }
+    requires { draft.old.number ≡ input.at }
+    ensures told { Tabulates tokens.now sections_outline sections_piece inside draft.old draft.new result (optional (unless kinds.RightParen) (several kinds.Semicolon section_at) (ahead tokens.now input)) }
+    ensures number { IfOk result (λ rest. draft.new.number ≡ rest.at) }
 {
     if is_at(tokens, input, Kind::RightParen) {
         return Ok(input);
@@ -243,7 +267,9 @@ fn result_type(
     tokens: &[Token],
     input: Cursor,
 ) -> Result<Cursor, Stop>
-    ensures { Tabulates tokens.now answer_outline answer_piece inside draft.old draft.new result (optional (accept_at kinds.Colon) qualident_at (ahead tokens.now input)) }
+    requires { draft.old.number ≡ input.at }
+    ensures told { Tabulates tokens.now answer_outline answer_piece inside draft.old draft.new result (optional (accept_at kinds.Colon) qualident_at (ahead tokens.now input)) }
+    ensures number { IfOk result (λ rest. draft.new.number ≡ rest.at) }
 {
     match accept(tokens, input, Kind::Colon) {
         None => Ok(input),
@@ -261,7 +287,9 @@ fn closing(
     tokens: &[Token],
     input: Cursor,
 ) -> Result<Cursor, Stop>
-    ensures { Tabulates tokens.now closing_outline closing_piece inside draft.old draft.new result (closing_at (ahead tokens.now input)) }
+    requires { draft.old.number ≡ input.at }
+    ensures told { Tabulates tokens.now closing_outline closing_piece inside draft.old draft.new result (closing_at (ahead tokens.now input)) }
+    ensures number { IfOk result (λ rest. draft.new.number ≡ rest.at) }
 {
     match pass_word(draft, tokens, input, Kind::RightParen) {
         Ok(here) => result_type(draft, inside, tokens, here),
@@ -276,7 +304,9 @@ fn opened(
     tokens: &[Token],
     input: Cursor,
 ) -> Result<Cursor, Stop>
-    ensures { Tabulates tokens.now opened_outline opened_piece inside draft.old draft.new result (opened_at (ahead tokens.now input)) }
+    requires { draft.old.number ≡ input.at }
+    ensures told { Tabulates tokens.now opened_outline opened_piece inside draft.old draft.new result (opened_at (ahead tokens.now input)) }
+    ensures number { IfOk result (λ rest. draft.new.number ≡ rest.at) }
 {
     match sections(draft, inside, tokens, input) {
         Ok(here) => closing(draft, inside, tokens, here),
@@ -291,7 +321,9 @@ fn parameters(
     tokens: &[Token],
     input: Cursor,
 ) -> Result<Cursor, Stop>
-    ensures { Tabulates tokens.now parameters_outline parameters_piece inside draft.old draft.new result (parameters_at (ahead tokens.now input)) }
+    requires { draft.old.number ≡ input.at }
+    ensures told { Tabulates tokens.now parameters_outline parameters_piece inside draft.old draft.new result (parameters_at (ahead tokens.now input)) }
+    ensures number { IfOk result (λ rest. draft.new.number ≡ rest.at) }
 {
     match pass_word(draft, tokens, input, Kind::LeftParen) {
         Ok(here) => opened(draft, inside, tokens, here),
@@ -306,7 +338,9 @@ pub(crate) fn some_parameters(
     tokens: &[Token],
     input: Cursor,
 ) -> Result<Cursor, Stop>
-    ensures { Tabulates tokens.now some_parameters_outline some_parameters_piece inside draft.old draft.new result (some_parameters_at (ahead tokens.now input)) }
+    requires { draft.old.number ≡ input.at }
+    ensures told { Tabulates tokens.now some_parameters_outline some_parameters_piece inside draft.old draft.new result (some_parameters_at (ahead tokens.now input)) }
+    ensures number { IfOk result (λ rest. draft.new.number ≡ rest.at) }
 {
     if is_at(tokens, input, Kind::LeftParen) {
         return parameters(draft, inside, tokens, input);

@@ -1,19 +1,21 @@
 //! The places of the rows of designators and selectors, and what is seen ahead of them.
 
-ghost use Rattle.std.specs.Prelude.{◌≡◌, ◌+◌, ◌<◌, ◌≤◌, ◌++◌, ◌∷◌, ℕ, false, length, List};
+ghost use Rattle.std.specs.Prelude.{◌≡◌, ◌+◌, ◌<◌, ◌≤◌, ◌^◌, ◌++◌, ◌∷◌, ℕ, false, length, IfSome, List};
 ghost use Rattle.ob_tree.specs.declared.token.Leaf.{Leaf};
 ghost use Rattle.ob_tree.specs.declared.token.Leaf.TheVariants as leafs;
+ghost use Rattle.ob_tree.specs.Widths.{name_width};
 ghost use Rattle.ob_rows.specs.Drafts.{added, ComesTo};
 ghost use Rattle.ob_rows.specs.Parts.{these_selectors};
 ghost use Rattle.ob_parse.specs.Accords.{ahead, seen};
 ghost use Rattle.ob_table.specs.Choosing.{dot_at, is_there};
 ghost use Rattle.ob_table.specs.Mending.{blank, places, inserted, removed, written, KeepsRoom};
+ghost use Rattle.ob_table.specs.declared.places.Lone.TheVariants as lones;
 ghost use Rattle.ob_parse.specs.Front.{uncons};
 ghost use Rattle.ob_table.specs.LoneNames.{lone_of, named_front, IsLone};
 
 use crate::source::{Source, kind_at};
 use ob_parse::cursor::Cursor;
-use ob_parse::tokens::{accept, is_at};
+use ob_parse::tokens::accept;
 use ob_rows::draft::Draft;
 use ob_rows::{Designator as DesignatorRow, Selector as SelectorRow, Step, TypeName};
 use ob_scan::{Kind, Token};
@@ -54,12 +56,12 @@ pub(crate) fn selectors_ahead(source: &Source, input: Cursor) -> u32 {
 
 /// A name, if a dot stands here; which one doesn't matter.
 pub(crate) fn name_ahead(tokens: &[Token], input: Cursor) -> Option<u32>
-    ensures { is_there result ≡ dot_at tokens.now input }
+    ensures dot { is_there result ≡ dot_at tokens.now input }
+    ensures number { input.at + name_width result ≤ 2 ^ 32 + 1 }
 {
-    if is_at(tokens, input, Kind::Dot) {
-        Some(0)
-    } else {
-        None
+    match input.next(tokens) {
+        Some((Leaf::Word(Kind::Dot), _)) => Some(0),
+        _ => None,
     }
 }
 
@@ -72,7 +74,8 @@ pub(crate) fn next_place(draft: &Draft) -> usize
 
 /// Adds so many places for selectors. Where memory was refused none is asked for any more.
 pub(crate) fn open_places(draft: &mut Draft, head: u32, count: u32)
-    ensures { ComesTo (added (these_selectors (places head count))) draft.old draft.new }
+    ensures stage { ComesTo (added (these_selectors (places head count))) draft.old draft.new }
+    ensures number { draft.new.number ≡ draft.old.number }
 {
     for place in 0..count {
         if draft.refused {
@@ -91,6 +94,7 @@ pub(crate) fn keep_room(draft: &mut Draft, head: u32, place: usize, end: usize) 
     requires { draft.old.refused ≡ false → (place ≤ end) × (end ≤ length draft.old.selectors.items) }
     ensures room { KeepsRoom head place end draft.old draft.new result }
     ensures place { draft.new.refused ≡ false → place < length draft.new.selectors.items }
+    ensures number { draft.new.number ≡ draft.old.number }
 {
     if place < end || draft.refused {
         return end;
@@ -104,6 +108,7 @@ fn put_place(draft: &mut Draft, head: u32, at: usize) -> usize
     requires { at ≤ length draft.old.selectors.items }
     ensures stage { ComesTo (inserted at (blank head)) draft.old draft.new }
     ensures place { result ≡ at + 1 }
+    ensures number { draft.new.number ≡ draft.old.number }
 {
     let row = SelectorRow {
         of: head,
@@ -119,7 +124,8 @@ fn put_place(draft: &mut Draft, head: u32, at: usize) -> usize
 /// Sees that the places end at this one, which is the first that no selector has.
 pub(crate) fn close_places(draft: &mut Draft, place: usize, end: usize)
     requires { draft.old.refused ≡ false → (place ≤ end) × (end ≤ length draft.old.selectors.items) }
-    ensures { ComesTo (removed place end) draft.old draft.new }
+    ensures stage { ComesTo (removed place end) draft.old draft.new }
+    ensures number { draft.new.number ≡ draft.old.number }
 {
     if place < end && !draft.refused {
         take_places(draft, place, end);
@@ -130,7 +136,8 @@ pub(crate) fn close_places(draft: &mut Draft, place: usize, end: usize)
 #[inline(never)]
 fn take_places(draft: &mut Draft, place: usize, end: usize)
     requires { (place ≤ end) × (end ≤ length draft.old.selectors.items) }
-    ensures { ComesTo (removed place end) draft.old draft.new }
+    ensures stage { ComesTo (removed place end) draft.old draft.new }
+    ensures number { draft.new.number ≡ draft.old.number }
 {
     drop(draft.selectors.drain(place..end));
 }
@@ -145,7 +152,8 @@ pub(crate) fn next_designator(draft: &Draft) -> usize
 /// Gives the row of the designator in this place.
 #[tactic(auto, using(ob_rows::proofs::Steps::growing), unfolding(ob_rows::specs::Drafts::stage_of, crate::specs::Mending::written))]
 pub(crate) fn write_designator(draft: &mut Draft, at: usize, row: DesignatorRow)
-    ensures { ComesTo (written at row) draft.old draft.new }
+    ensures stage { ComesTo (written at row) draft.old draft.new }
+    ensures number { draft.new.number ≡ draft.old.number }
 {
     if at < draft.designators.len() {
         draft.designators[at] = row;
@@ -154,28 +162,24 @@ pub(crate) fn write_designator(draft: &mut Draft, at: usize, row: DesignatorRow)
 
 /// The name that stands alone from the one token to the other, behind a parenthesis of this number.
 pub(crate) fn lone_name(
-    draft: &mut Draft,
     tokens: &[Token],
     input: Cursor,
     here: Cursor,
     opening: u32,
 ) -> Option<TypeName>
-    ensures stage { ComesTo (λ s. s) draft.old draft.new }
-    ensures name { draft.new.refused ≡ false → (ls : List Leaf) → ahead tokens.now input ≡ ls ++ ahead tokens.now here → 0 < length (ahead tokens.now here) → result ≡ lone_of ls (opening + 1) }
+    requires { opening + 1 ≡ input.at }
+    ensures { (ls : List Leaf) → ahead tokens.now input ≡ ls ++ ahead tokens.now here → 0 < length (ahead tokens.now here) → result ≡ lone_of ls (opening + 1) }
 {
     match lone_end(tokens, input, here) {
         Lone::No => None,
         Lone::Bare => Some(TypeName {
-            head: draft.behind(opening, 1),
+            head: opening + 1,
             member: None,
         }),
-        Lone::Dotted => {
-            let head = draft.behind(opening, 1);
-            Some(TypeName {
-                head,
-                member: Some(draft.behind(opening, 3)),
-            })
-        }
+        Lone::Dotted => Some(TypeName {
+            head: opening + 1,
+            member: Some(opening + 3),
+        }),
     }
 }
 
@@ -188,7 +192,8 @@ enum Lone {
 
 /// Whether a name stands alone from the one token to the other.
 fn lone_end(tokens: &[Token], input: Cursor, here: Cursor) -> Lone
-    ensures { (ls : List Leaf) → ahead tokens.now input ≡ ls ++ ahead tokens.now here → 0 < length (ahead tokens.now here) → IsLone ls result }
+    ensures number { result ≡ lones.Dotted → input.at + 2 < 2 ^ 32 }
+    ensures lone { (ls : List Leaf) → ahead tokens.now input ≡ ls ++ ahead tokens.now here → 0 < length (ahead tokens.now here) → IsLone ls result }
 {
     if input.number() == here.number() {
         return Lone::No;
@@ -207,7 +212,8 @@ fn lone_end(tokens: &[Token], input: Cursor, here: Cursor) -> Lone
 
 /// Whether a dot and a name stand alone from the one token to the other, behind a name.
 fn dotted_end(tokens: &[Token], input: Cursor, here: Cursor) -> Lone
-    ensures { (n : ℕ) (ls : List Leaf) → ahead tokens.now input ≡ ls ++ ahead tokens.now here → 0 < length (ahead tokens.now here) → 0 < length ls → IsLone (leafs.Name n ∷ ls) result }
+    ensures number { result ≡ lones.Dotted → input.at + 1 < 2 ^ 32 }
+    ensures lone { (n : ℕ) (ls : List Leaf) → ahead tokens.now input ≡ ls ++ ahead tokens.now here → 0 < length (ahead tokens.now here) → 0 < length ls → IsLone (leafs.Name n ∷ ls) result }
 {
     match accept(tokens, input, Kind::Dot) {
         None => Lone::No,
@@ -226,7 +232,8 @@ fn dotted_end(tokens: &[Token], input: Cursor, here: Cursor) -> Lone
 
 /// The name that stands here, and the tokens behind it.
 fn name_at(tokens: &[Token], input: Cursor) -> Option<(u32, Cursor)>
-    ensures { seen tokens.now result ≡ named_front (uncons (ahead tokens.now input)) }
+    ensures read { seen tokens.now result ≡ named_front (uncons (ahead tokens.now input)) }
+    ensures number { IfSome result (λ x. x.1.at ≡ input.at + 1) }
 {
     match input.next(tokens) {
         Some((Leaf::Name(number), rest)) => Some((number, rest)),

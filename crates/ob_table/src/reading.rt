@@ -30,7 +30,8 @@ use std::alloc::Global;
 
 /// All tokens of a text.
 fn pass_all(alloc: Global, draft: &mut Draft, tokens: &[Token]) -> Result<(), Stop>
-    requires { length tokens.now < 2 ^ 32 }
+    requires few { length tokens.now < 2 ^ 32 }
+    requires number { draft.old.number ≡ 0 }
     ensures { TabulatesWhole tokens.now module_outline (λ m. after (module_piece m) outermost) draft.old draft.new result (all_of 200 (leaves_from 0 (kinds_of tokens.now))) }
 {
     let brackets = brackets_of(alloc, tokens)?;
@@ -38,20 +39,13 @@ fn pass_all(alloc: Global, draft: &mut Draft, tokens: &[Token]) -> Result<(), St
         tokens,
         brackets: brackets.as_slice(),
     };
-    whole(
-        alloc,
-        draft,
-        Context::OUTERMOST,
-        &source,
-        Cursor::ALL,
-        DEEPEST,
-    )
+    whole(draft, Context::OUTERMOST, &source, Cursor::ALL, DEEPEST)
 }
 
 /// The table of the module that the tokens of a text of these bytes are of, or why there is none: the rows of the tree that `parse`
 /// makes of them, and its faults. No tree is made on the way.
 ///
-/// Memory is answered where a growth of memory is refused, or a count doesn't fit 32 bits, which none of a text's tokens comes to.
+/// Memory is answered where a growth of memory is refused.
 ///
 /// It recurses a few calls for each level, so at most 200 levels deep, for which a stack of 2 MiB is enough. Lists are loops.
 pub fn read_table(alloc: Global, bytes: &[u8], tokens: &Tokens) -> Result<Table, ParseFault>

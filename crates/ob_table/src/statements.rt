@@ -1,6 +1,7 @@
 //! Statements (Oberon-07 report, section 9), from their tokens to their rows. Each function takes the levels that may be nested
 //! in what it reads.
 
+ghost use Rattle.std.specs.Prelude.{◌≡◌, ◌+◌, IfOk};
 ghost use Rattle.ob_scan.specs.declared.kind.Kind.TheVariants as kinds;
 ghost use Rattle.ob_tree.specs.Constructs as constructs;
 ghost use Rattle.ob_tree.specs.Marks as marks;
@@ -38,7 +39,9 @@ fn statement(
     input: Cursor,
     depth: u32,
 ) -> Result<Cursor, Stop>
-    ensures { Tabulates source.now.tokens.now stmt_outline stmt_piece inside draft.old draft.new result (statement_at depth (ahead source.now.tokens.now input)) }
+    requires { draft.old.number ≡ input.at }
+    ensures told { Tabulates source.now.tokens.now stmt_outline stmt_piece inside draft.old draft.new result (statement_at depth (ahead source.now.tokens.now input)) }
+    ensures number { IfOk result (λ rest. draft.new.number ≡ rest.at) }
 {
     if depth == 0 {
         if begins_statement(source.tokens, input) {
@@ -58,7 +61,9 @@ fn statement_within(
     input: Cursor,
     depth: u32,
 ) -> Result<Cursor, Stop>
-    ensures { Tabulates source.now.tokens.now stmt_outline stmt_piece inside draft.old draft.new result (statement_with (expr_at depth) (block_at depth) (ahead source.now.tokens.now input)) }
+    requires { draft.old.number ≡ input.at }
+    ensures told { Tabulates source.now.tokens.now stmt_outline stmt_piece inside draft.old draft.new result (statement_with (expr_at depth) (block_at depth) (ahead source.now.tokens.now input)) }
+    ensures number { IfOk result (λ rest. draft.new.number ≡ rest.at) }
 {
     match input.next(source.tokens) {
         Some((Leaf::Name(number), rest)) => assignment(draft, inside, source, number, rest, depth),
@@ -84,7 +89,9 @@ fn assignment(
     input: Cursor,
     depth: u32,
 ) -> Result<Cursor, Stop>
-    ensures { Tabulates source.now.tokens.now stmt_outline stmt_piece inside draft.old draft.new result (node constructs.Statement (assign_with (expr_at depth) head) (ahead source.now.tokens.now input)) }
+    requires { draft.old.number + 1 ≡ input.at }
+    ensures told { Tabulates source.now.tokens.now stmt_outline stmt_piece inside draft.old draft.new result (node constructs.Statement (assign_with (expr_at depth) head) (ahead source.now.tokens.now input)) }
+    ensures number { IfOk result (λ rest. draft.new.number ≡ rest.at) }
 {
     let first = draft.number;
     let at = next_designator(draft);
@@ -105,7 +112,9 @@ fn assigned(
     head: u32,
     at: usize,
 ) -> Result<Cursor, Stop>
-    ensures { TabulatesBy source.now.tokens.now (value_outline kinds.Assign) (giving head at inside) draft.old draft.new result (optional (accept_at kinds.Assign) (expr_at depth) (ahead source.now.tokens.now input)) }
+    requires { draft.old.number ≡ input.at }
+    ensures told { TabulatesBy source.now.tokens.now (value_outline kinds.Assign) (giving head at inside) draft.old draft.new result (optional (accept_at kinds.Assign) (expr_at depth) (ahead source.now.tokens.now input)) }
+    ensures number { IfOk result (λ rest. draft.new.number ≡ rest.at) }
 {
     match accept(source.tokens, input, Kind::Assign) {
         None => Ok(input),
@@ -134,7 +143,9 @@ pub(crate) fn block(
     input: Cursor,
     depth: u32,
 ) -> Result<Cursor, Stop>
-    ensures { Tabulates source.now.tokens.now block_outline block_piece inside draft.old draft.new result (block_at depth (ahead source.now.tokens.now input)) }
+    requires { draft.old.number ≡ input.at }
+    ensures told { Tabulates source.now.tokens.now block_outline block_piece inside draft.old draft.new result (block_at depth (ahead source.now.tokens.now input)) }
+    ensures number { IfOk result (λ rest. draft.new.number ≡ rest.at) }
 {
     match statement(draft, inside, source, input, depth) {
         Ok(here) => more_statements(draft, inside, source, here, depth),
@@ -151,7 +162,9 @@ fn more_statements(
     input: Cursor,
     depth: u32,
 ) -> Result<Cursor, Stop>
-    ensures { Tabulates source.now.tokens.now statements_outline statements_piece inside draft.old draft.new result (many (accept_at kinds.Semicolon) (statement_at depth) (ahead source.now.tokens.now input)) }
+    requires { draft.old.number ≡ input.at }
+    ensures told { Tabulates source.now.tokens.now statements_outline statements_piece inside draft.old draft.new result (many (accept_at kinds.Semicolon) (statement_at depth) (ahead source.now.tokens.now input)) }
+    ensures number { IfOk result (λ rest. draft.new.number ≡ rest.at) }
 {
     let mut here = input;
     'more: while let Some(behind) = accept(source.tokens, here, Kind::Semicolon) {
@@ -174,7 +187,9 @@ fn branch(
     depth: u32,
     keyword: Kind,
 ) -> Result<Cursor, Stop>
-    ensures { Tabulates source.now.tokens.now (λ b. branch_outline b keyword) branch_piece inside draft.old draft.new result (branch_with (expr_at depth) (block_at depth) keyword (ahead source.now.tokens.now input)) }
+    requires { draft.old.number ≡ input.at }
+    ensures told { Tabulates source.now.tokens.now (λ b. branch_outline b keyword) branch_piece inside draft.old draft.new result (branch_with (expr_at depth) (block_at depth) keyword (ahead source.now.tokens.now input)) }
+    ensures number { IfOk result (λ rest. draft.new.number ≡ rest.at) }
 {
     match expression(draft, inside, source, input, depth) {
         Ok(here) => match pass_word(draft, source.tokens, here, keyword) {
@@ -195,8 +210,10 @@ fn more_branches(
     depth: u32,
     keyword: Kind,
 ) -> Result<Cursor, Stop>
-    ensures { Tabulates source.now.tokens.now (branches_outline keyword) branches_piece inside draft.old draft.new result
+    requires { draft.old.number ≡ input.at }
+    ensures told { Tabulates source.now.tokens.now (branches_outline keyword) branches_piece inside draft.old draft.new result
         (many (accept_at kinds.Elsif) (branch_with (expr_at depth) (block_at depth) keyword) (ahead source.now.tokens.now input)) }
+    ensures number { IfOk result (λ rest. draft.new.number ≡ rest.at) }
 {
     let mut here = input;
     'more: while let Some(behind) = accept(source.tokens, here, Kind::Elsif) {
@@ -219,7 +236,9 @@ fn block_behind(
     depth: u32,
     word: Kind,
 ) -> Result<Cursor, Stop>
-    ensures { Tabulates source.now.tokens.now (body_outline word) body_piece inside draft.old draft.new result (optional (accept_at word) (block_at depth) (ahead source.now.tokens.now input)) }
+    requires { draft.old.number ≡ input.at }
+    ensures told { Tabulates source.now.tokens.now (body_outline word) body_piece inside draft.old draft.new result (optional (accept_at word) (block_at depth) (ahead source.now.tokens.now input)) }
+    ensures number { IfOk result (λ rest. draft.new.number ≡ rest.at) }
 {
     match accept(source.tokens, input, word) {
         None => Ok(input),
@@ -239,8 +258,10 @@ fn if_statement(
     input: Cursor,
     depth: u32,
 ) -> Result<Cursor, Stop>
-    ensures { Tabulates source.now.tokens.now stmt_outline stmt_piece inside draft.old draft.new result
+    requires { draft.old.number + 1 ≡ input.at }
+    ensures told { Tabulates source.now.tokens.now stmt_outline stmt_piece inside draft.old draft.new result
         (node constructs.Statement (prefixed (marks.word kinds.If) (if_with (expr_at depth) (block_at depth))) (ahead source.now.tokens.now input)) }
+    ensures number { IfOk result (λ rest. draft.new.number ≡ rest.at) }
 {
     draft.pass();
     match branch(draft, inside, source, input, depth, Kind::Then) {
@@ -264,8 +285,10 @@ fn case_statement(
     input: Cursor,
     depth: u32,
 ) -> Result<Cursor, Stop>
-    ensures { Tabulates source.now.tokens.now stmt_outline stmt_piece inside draft.old draft.new result
+    requires { draft.old.number + 1 ≡ input.at }
+    ensures told { Tabulates source.now.tokens.now stmt_outline stmt_piece inside draft.old draft.new result
         (node constructs.Statement (prefixed (marks.word kinds.Case) (cases_with (expr_at depth) (block_at depth))) (ahead source.now.tokens.now input)) }
+    ensures number { IfOk result (λ rest. draft.new.number ≡ rest.at) }
 {
     draft.pass();
     match expression(draft, inside, source, input, depth) {
@@ -286,8 +309,10 @@ fn cases(
     input: Cursor,
     depth: u32,
 ) -> Result<Cursor, Stop>
-    ensures { Tabulates source.now.tokens.now cases_end_outline cases_end_piece inside draft.old draft.new result
+    requires { draft.old.number ≡ input.at }
+    ensures told { Tabulates source.now.tokens.now cases_end_outline cases_end_piece inside draft.old draft.new result
         (seq (case_with (block_at depth)) (seq (many (accept_at kinds.Bar) (case_with (block_at depth))) (expect_at kinds.End)) (ahead source.now.tokens.now input)) }
+    ensures number { IfOk result (λ rest. draft.new.number ≡ rest.at) }
 {
     match case(draft, inside, source, input, depth) {
         Ok(here) => match more_cases(draft, inside, source, here, depth) {
@@ -307,7 +332,9 @@ fn case(
     input: Cursor,
     depth: u32,
 ) -> Result<Cursor, Stop>
-    ensures { Tabulates source.now.tokens.now case_outline case_piece inside draft.old draft.new result (case_with (block_at depth) (ahead source.now.tokens.now input)) }
+    requires { draft.old.number ≡ input.at }
+    ensures told { Tabulates source.now.tokens.now case_outline case_piece inside draft.old draft.new result (case_with (block_at depth) (ahead source.now.tokens.now input)) }
+    ensures number { IfOk result (λ rest. draft.new.number ≡ rest.at) }
 {
     if !begins_label(source.tokens, input) {
         return Ok(input);
@@ -330,7 +357,9 @@ fn more_cases(
     input: Cursor,
     depth: u32,
 ) -> Result<Cursor, Stop>
-    ensures { Tabulates source.now.tokens.now cases_outline cases_piece inside draft.old draft.new result (many (accept_at kinds.Bar) (case_with (block_at depth)) (ahead source.now.tokens.now input)) }
+    requires { draft.old.number ≡ input.at }
+    ensures told { Tabulates source.now.tokens.now cases_outline cases_piece inside draft.old draft.new result (many (accept_at kinds.Bar) (case_with (block_at depth)) (ahead source.now.tokens.now input)) }
+    ensures number { IfOk result (λ rest. draft.new.number ≡ rest.at) }
 {
     let mut here = input;
     'more: while let Some(behind) = accept(source.tokens, here, Kind::Bar) {
@@ -352,8 +381,10 @@ fn while_statement(
     input: Cursor,
     depth: u32,
 ) -> Result<Cursor, Stop>
-    ensures { Tabulates source.now.tokens.now stmt_outline stmt_piece inside draft.old draft.new result
+    requires { draft.old.number + 1 ≡ input.at }
+    ensures told { Tabulates source.now.tokens.now stmt_outline stmt_piece inside draft.old draft.new result
         (node constructs.Statement (prefixed (marks.word kinds.While) (while_with (expr_at depth) (block_at depth))) (ahead source.now.tokens.now input)) }
+    ensures number { IfOk result (λ rest. draft.new.number ≡ rest.at) }
 {
     draft.pass();
     match branch(draft, inside, source, input, depth, Kind::Do) {
@@ -374,8 +405,10 @@ fn repeat_statement(
     input: Cursor,
     depth: u32,
 ) -> Result<Cursor, Stop>
-    ensures { Tabulates source.now.tokens.now stmt_outline stmt_piece inside draft.old draft.new result
+    requires { draft.old.number + 1 ≡ input.at }
+    ensures told { Tabulates source.now.tokens.now stmt_outline stmt_piece inside draft.old draft.new result
         (node constructs.Statement (prefixed (marks.word kinds.Repeat) (repeat_with (expr_at depth) (block_at depth))) (ahead source.now.tokens.now input)) }
+    ensures number { IfOk result (λ rest. draft.new.number ≡ rest.at) }
 {
     draft.pass();
     match block(draft, inside, source, input, depth) {
@@ -396,19 +429,23 @@ fn for_statement(
     input: Cursor,
     depth: u32,
 ) -> Result<Cursor, Stop>
-    ensures { Tabulates source.now.tokens.now stmt_outline stmt_piece inside draft.old draft.new result
+    requires { draft.old.number + 1 ≡ input.at }
+    ensures told { Tabulates source.now.tokens.now stmt_outline stmt_piece inside draft.old draft.new result
         (node constructs.Statement (prefixed (marks.word kinds.For) (for_with (expr_at depth) (block_at depth))) (ahead source.now.tokens.now input)) }
+    ensures number { IfOk result (λ rest. draft.new.number ≡ rest.at) }
 {
     draft.pass();
-    walk_for_variable(draft, inside);
     match identifier(source.tokens, input) {
-        Ok((_, here)) => match pass_word(draft, source.tokens, here, Kind::Assign) {
-            Ok(here) => match expression(draft, inside, source, here, depth) {
-                Ok(here) => for_limit(draft, inside, source, here, depth),
+        Ok((_, here)) => {
+            walk_for_variable(draft, inside);
+            match pass_word(draft, source.tokens, here, Kind::Assign) {
+                Ok(here) => match expression(draft, inside, source, here, depth) {
+                    Ok(here) => for_limit(draft, inside, source, here, depth),
+                    Err(stop) => Err(stop),
+                },
                 Err(stop) => Err(stop),
-            },
-            Err(stop) => Err(stop),
-        },
+            }
+        }
         Err(stop) => Err(stop),
     }
 }
@@ -422,9 +459,11 @@ fn for_limit(
     input: Cursor,
     depth: u32,
 ) -> Result<Cursor, Stop>
-    ensures { Tabulates source.now.tokens.now for_limit_outline for_limit_piece inside draft.old draft.new result
+    requires { draft.old.number ≡ input.at }
+    ensures told { Tabulates source.now.tokens.now for_limit_outline for_limit_piece inside draft.old draft.new result
         (seq (expect_at kinds.To) (seq (expr_at depth) (seq (optional (accept_at kinds.By) (expr_at depth))
         (seq (expect_at kinds.Do) (seq (block_at depth) (expect_at kinds.End))))) (ahead source.now.tokens.now input)) }
+    ensures number { IfOk result (λ rest. draft.new.number ≡ rest.at) }
 {
     match pass_word(draft, source.tokens, input, Kind::To) {
         Ok(here) => match expression(draft, inside, source, here, depth) {
@@ -446,7 +485,9 @@ fn for_step(
     input: Cursor,
     depth: u32,
 ) -> Result<Cursor, Stop>
-    ensures { Tabulates source.now.tokens.now (value_outline kinds.By) value_piece inside draft.old draft.new result (optional (accept_at kinds.By) (expr_at depth) (ahead source.now.tokens.now input)) }
+    requires { draft.old.number ≡ input.at }
+    ensures told { Tabulates source.now.tokens.now (value_outline kinds.By) value_piece inside draft.old draft.new result (optional (accept_at kinds.By) (expr_at depth) (ahead source.now.tokens.now input)) }
+    ensures number { IfOk result (λ rest. draft.new.number ≡ rest.at) }
 {
     match accept(source.tokens, input, Kind::By) {
         None => Ok(input),
@@ -466,7 +507,9 @@ fn for_body(
     input: Cursor,
     depth: u32,
 ) -> Result<Cursor, Stop>
-    ensures { Tabulates source.now.tokens.now for_body_outline for_body_piece inside draft.old draft.new result (seq (expect_at kinds.Do) (seq (block_at depth) (expect_at kinds.End)) (ahead source.now.tokens.now input)) }
+    requires { draft.old.number ≡ input.at }
+    ensures told { Tabulates source.now.tokens.now for_body_outline for_body_piece inside draft.old draft.new result (seq (expect_at kinds.Do) (seq (block_at depth) (expect_at kinds.End)) (ahead source.now.tokens.now input)) }
+    ensures number { IfOk result (λ rest. draft.new.number ≡ rest.at) }
 {
     match pass_word(draft, source.tokens, input, Kind::Do) {
         Ok(here) => match block(draft, inside, source, here, depth) {

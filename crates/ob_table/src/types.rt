@@ -1,11 +1,13 @@
 //! Types (Oberon-07 report, section 6), from their tokens to their rows. Each function takes the levels that may be nested in
 //! what it reads.
 
+ghost use Rattle.std.specs.Prelude.{◌≡◌, ◌+◌, IfOk};
 ghost use Rattle.ob_scan.specs.declared.kind.Kind.TheVariants as kinds;
 ghost use Rattle.ob_tree.specs.Constructs as constructs;
 ghost use Rattle.ob_tree.specs.Marks.{word};
 ghost use Rattle.ob_tree.specs.Expressions.{expr_list_outline, expr_outline};
 ghost use Rattle.ob_tree.specs.Types.{type_outline, fields_outline, var_outline};
+ghost use Rattle.ob_tree.specs.Widths.{base_width};
 ghost use Rattle.ob_decls.specs.Types.{fields_piece, lengths_piece, type_piece, var_piece};
 ghost use Rattle.ob_parse.specs.Forms.{accept_at, expect_at, many, node, nothing, optional, prefixed, seq, several, unless};
 ghost use Rattle.ob_parse.specs.Accords.{ahead};
@@ -43,7 +45,9 @@ pub(crate) fn type_form(
     input: Cursor,
     depth: u32,
 ) -> Result<Cursor, Stop>
-    ensures { Tabulates source.now.tokens.now type_outline type_piece inside draft.old draft.new result (type_at depth (ahead source.now.tokens.now input)) }
+    requires { draft.old.number ≡ input.at }
+    ensures told { Tabulates source.now.tokens.now type_outline type_piece inside draft.old draft.new result (type_at depth (ahead source.now.tokens.now input)) }
+    ensures number { IfOk result (λ rest. draft.new.number ≡ rest.at) }
 {
     if depth == 0 {
         return Err(beyond(source.tokens, input, begins_type(source.tokens, input)));
@@ -60,7 +64,9 @@ fn type_within(
     input: Cursor,
     depth: u32,
 ) -> Result<Cursor, Stop>
-    ensures { Tabulates source.now.tokens.now type_outline type_piece inside draft.old draft.new result (type_with (expr_at depth) (type_at depth) (ahead source.now.tokens.now input)) }
+    requires { draft.old.number ≡ input.at }
+    ensures told { Tabulates source.now.tokens.now type_outline type_piece inside draft.old draft.new result (type_with (expr_at depth) (type_at depth) (ahead source.now.tokens.now input)) }
+    ensures number { IfOk result (λ rest. draft.new.number ≡ rest.at) }
 {
     match input.next(source.tokens) {
         Some((Leaf::Name(head), rest)) => named(draft, inside, source.tokens, head, rest),
@@ -80,7 +86,9 @@ fn named(
     head: u32,
     input: Cursor,
 ) -> Result<Cursor, Stop>
-    ensures { Tabulates tokens.now type_outline type_piece inside draft.old draft.new result (node constructs.NamedType (readers.qualident_after head) (ahead tokens.now input)) }
+    requires { draft.old.number + 1 ≡ input.at }
+    ensures told { Tabulates tokens.now type_outline type_piece inside draft.old draft.new result (node constructs.NamedType (readers.qualident_after head) (ahead tokens.now input)) }
+    ensures number { IfOk result (λ rest. draft.new.number ≡ rest.at) }
 {
     match qualident_after(tokens, head, input) {
         Ok((name, rest)) => {
@@ -100,8 +108,10 @@ fn array(
     input: Cursor,
     depth: u32,
 ) -> Result<Cursor, Stop>
-    ensures { Tabulates source.now.tokens.now type_outline type_piece inside draft.old draft.new result
+    requires { draft.old.number + 1 ≡ input.at }
+    ensures told { Tabulates source.now.tokens.now type_outline type_piece inside draft.old draft.new result
         (node constructs.ArrayType (prefixed (word kinds.Array) (seq (several kinds.Comma (expr_at depth)) (seq (expect_at kinds.Of) (type_at depth)))) (ahead source.now.tokens.now input)) }
+    ensures number { IfOk result (λ rest. draft.new.number ≡ rest.at) }
 {
     add_here(draft, inside, Part::Array);
     draft.pass();
@@ -126,7 +136,9 @@ fn lengths(
     input: Cursor,
     depth: u32,
 ) -> Result<Cursor, Stop>
-    ensures { Tabulates source.now.tokens.now expr_list_outline lengths_piece inside draft.old draft.new result (several kinds.Comma (expr_at depth) (ahead source.now.tokens.now input)) }
+    requires { draft.old.number ≡ input.at }
+    ensures told { Tabulates source.now.tokens.now expr_list_outline lengths_piece inside draft.old draft.new result (several kinds.Comma (expr_at depth) (ahead source.now.tokens.now input)) }
+    ensures number { IfOk result (λ rest. draft.new.number ≡ rest.at) }
 {
     match expression(draft, inside, source, input, depth) {
         Ok(here) => more_lengths(draft, inside, source, here, depth),
@@ -142,7 +154,9 @@ fn more_lengths(
     input: Cursor,
     depth: u32,
 ) -> Result<Cursor, Stop>
-    ensures { Tabulates source.now.tokens.now (further_outline kinds.Comma expr_outline) further_lengths_piece inside draft.old draft.new result (many (accept_at kinds.Comma) (expr_at depth) (ahead source.now.tokens.now input)) }
+    requires { draft.old.number ≡ input.at }
+    ensures told { Tabulates source.now.tokens.now (further_outline kinds.Comma expr_outline) further_lengths_piece inside draft.old draft.new result (many (accept_at kinds.Comma) (expr_at depth) (ahead source.now.tokens.now input)) }
+    ensures number { IfOk result (λ rest. draft.new.number ≡ rest.at) }
 {
     let mut here = input;
     'more: while let Some(behind) = accept(source.tokens, here, Kind::Comma) {
@@ -168,7 +182,9 @@ fn type_behind(
     kind: Kind,
     depth: u32,
 ) -> Result<Cursor, Stop>
-    ensures { Tabulates source.now.tokens.now (behind_outline kind) behind_piece inside draft.old draft.new result (seq (expect_at kind) (type_at depth) (ahead source.now.tokens.now input)) }
+    requires { draft.old.number ≡ input.at }
+    ensures told { Tabulates source.now.tokens.now (behind_outline kind) behind_piece inside draft.old draft.new result (seq (expect_at kind) (type_at depth) (ahead source.now.tokens.now input)) }
+    ensures number { IfOk result (λ rest. draft.new.number ≡ rest.at) }
 {
     match pass_word(draft, source.tokens, input, kind) {
         Ok(here) => type_form(draft, inside, source, here, depth),
@@ -185,8 +201,10 @@ fn pointer(
     input: Cursor,
     depth: u32,
 ) -> Result<Cursor, Stop>
-    ensures { Tabulates source.now.tokens.now type_outline type_piece inside draft.old draft.new result
+    requires { draft.old.number + 1 ≡ input.at }
+    ensures told { Tabulates source.now.tokens.now type_outline type_piece inside draft.old draft.new result
         (node constructs.PointerType (prefixed (word kinds.Pointer) (seq (expect_at kinds.To) (type_at depth))) (ahead source.now.tokens.now input)) }
+    ensures number { IfOk result (λ rest. draft.new.number ≡ rest.at) }
 {
     add_here(draft, inside, Part::Pointer);
     draft.pass();
@@ -207,8 +225,10 @@ fn procedure(
     tokens: &[Token],
     input: Cursor,
 ) -> Result<Cursor, Stop>
-    ensures { Tabulates tokens.now type_outline type_piece inside draft.old draft.new result
+    requires { draft.old.number + 1 ≡ input.at }
+    ensures told { Tabulates tokens.now type_outline type_piece inside draft.old draft.new result
         (node constructs.ProcedureType (prefixed (word kinds.Procedure) some_parameters_at) (ahead tokens.now input)) }
+    ensures number { IfOk result (λ rest. draft.new.number ≡ rest.at) }
 {
     add_here(draft, inside, Part::Procedure);
     let first = draft.number;
@@ -229,8 +249,10 @@ fn record(
     input: Cursor,
     depth: u32,
 ) -> Result<Cursor, Stop>
-    ensures { Tabulates source.now.tokens.now type_outline type_piece inside draft.old draft.new result
+    requires { draft.old.number + 1 ≡ input.at }
+    ensures told { Tabulates source.now.tokens.now type_outline type_piece inside draft.old draft.new result
         (node constructs.RecordType (prefixed (word kinds.Record) (record_with (type_at depth))) (ahead source.now.tokens.now input)) }
+    ensures number { IfOk result (λ rest. draft.new.number ≡ rest.at) }
 {
     match base(source.tokens, input) {
         Ok((base, here)) => {
@@ -252,7 +274,9 @@ fn record_parts(
     base: Option<Qualident>,
     depth: u32,
 ) -> Result<Cursor, Stop>
-    ensures { TabulatesBy source.now.tokens.now closed_outline (recording base inside) draft.old draft.new result (seq (optional (unless kinds.End) (fields_with (type_at depth))) (expect_at kinds.End) (ahead source.now.tokens.now input)) }
+    requires { draft.old.number + 1 + base_width base ≡ input.at }
+    ensures told { TabulatesBy source.now.tokens.now closed_outline (recording base inside) draft.old draft.new result (seq (optional (unless kinds.End) (fields_with (type_at depth))) (expect_at kinds.End) (ahead source.now.tokens.now input)) }
+    ensures number { IfOk result (λ rest. draft.new.number ≡ rest.at) }
 {
     let around = record_from(inside, draft.number);
     add_record(draft, inside, base);
@@ -273,7 +297,9 @@ fn some_fields(
     input: Cursor,
     depth: u32,
 ) -> Result<Cursor, Stop>
-    ensures { Tabulates source.now.tokens.now some_fields_outline some_fields_piece inside draft.old draft.new result (optional (unless kinds.End) (fields_with (type_at depth)) (ahead source.now.tokens.now input)) }
+    requires { draft.old.number ≡ input.at }
+    ensures told { Tabulates source.now.tokens.now some_fields_outline some_fields_piece inside draft.old draft.new result (optional (unless kinds.End) (fields_with (type_at depth)) (ahead source.now.tokens.now input)) }
+    ensures number { IfOk result (λ rest. draft.new.number ≡ rest.at) }
 {
     if is_at(source.tokens, input, Kind::End) {
         return Ok(input);
@@ -290,7 +316,9 @@ fn fields(
     input: Cursor,
     depth: u32,
 ) -> Result<Cursor, Stop>
-    ensures { Tabulates source.now.tokens.now fields_outline fields_piece inside draft.old draft.new result (fields_with (type_at depth) (ahead source.now.tokens.now input)) }
+    requires { draft.old.number ≡ input.at }
+    ensures told { Tabulates source.now.tokens.now fields_outline fields_piece inside draft.old draft.new result (fields_with (type_at depth) (ahead source.now.tokens.now input)) }
+    ensures number { IfOk result (λ rest. draft.new.number ≡ rest.at) }
 {
     match field_list(draft, inside, source, input, depth) {
         Ok(here) => fields_behind(draft, inside, source, here, depth),
@@ -308,8 +336,10 @@ fn fields_behind(
     input: Cursor,
     depth: u32,
 ) -> Result<Cursor, Stop>
-    ensures { Tabulates source.now.tokens.now ended_outline ended_piece inside draft.old draft.new result
+    requires { draft.old.number ≡ input.at }
+    ensures told { Tabulates source.now.tokens.now ended_outline ended_piece inside draft.old draft.new result
         (seq (many field_start (node constructs.FieldList (var_with (type_at depth)))) (optional (accept_at kinds.Semicolon) nothing) (ahead source.now.tokens.now input)) }
+    ensures number { IfOk result (λ rest. draft.new.number ≡ rest.at) }
 {
     match more_fields(draft, inside, source, input, depth) {
         Ok(here) => Ok(skip_word(draft, inside, source.tokens, here, Kind::Semicolon)),
@@ -326,8 +356,10 @@ fn more_fields(
     input: Cursor,
     depth: u32,
 ) -> Result<Cursor, Stop>
-    ensures { Tabulates source.now.tokens.now (further_outline kinds.Semicolon field_outline) more_fields_piece inside draft.old draft.new result
+    requires { draft.old.number ≡ input.at }
+    ensures told { Tabulates source.now.tokens.now (further_outline kinds.Semicolon field_outline) more_fields_piece inside draft.old draft.new result
         (many field_start (node constructs.FieldList (var_with (type_at depth))) (ahead source.now.tokens.now input)) }
+    ensures number { IfOk result (λ rest. draft.new.number ≡ rest.at) }
 {
     let mut here = input;
     'more: while let Some(behind) = next_fields(source.tokens, here) {
@@ -349,7 +381,9 @@ fn field_list(
     input: Cursor,
     depth: u32,
 ) -> Result<Cursor, Stop>
-    ensures { Tabulates source.now.tokens.now field_outline field_piece inside draft.old draft.new result (node constructs.FieldList (var_with (type_at depth)) (ahead source.now.tokens.now input)) }
+    requires { draft.old.number ≡ input.at }
+    ensures told { Tabulates source.now.tokens.now field_outline field_piece inside draft.old draft.new result (node constructs.FieldList (var_with (type_at depth)) (ahead source.now.tokens.now input)) }
+    ensures number { IfOk result (λ rest. draft.new.number ≡ rest.at) }
 {
     let first = draft.number;
     let row = declarer_at(Sort::Field, inside, first);
@@ -372,7 +406,9 @@ pub(crate) fn var_declaration(
     input: Cursor,
     depth: u32,
 ) -> Result<Cursor, Stop>
-    ensures { Tabulates source.now.tokens.now var_outline var_piece inside draft.old draft.new result (var_with (type_at depth) (ahead source.now.tokens.now input)) }
+    requires { draft.old.number ≡ input.at }
+    ensures told { Tabulates source.now.tokens.now var_outline var_piece inside draft.old draft.new result (var_with (type_at depth) (ahead source.now.tokens.now input)) }
+    ensures number { IfOk result (λ rest. draft.new.number ≡ rest.at) }
 {
     match declared_names(draft, inside, source.tokens, input) {
         Ok(here) => type_behind(draft, inside, source, here, Kind::Colon, depth),

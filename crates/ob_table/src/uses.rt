@@ -1,5 +1,6 @@
 //! Qualified identifiers that are looked up (Oberon-07 report, section 4).
 
+ghost use Rattle.std.specs.Prelude.{◌≡◌, ◌+◌, IfOk};
 ghost use Rattle.ob_tree.specs.Names.{qualident_outline};
 ghost use Rattle.ob_decls.specs.Statements.{qualident_piece};
 ghost use Rattle.ob_parse.specs.Accords.{ahead};
@@ -22,7 +23,9 @@ pub(crate) fn qualident_after(
     head: u32,
     input: Cursor,
 ) -> Result<Cursor, Stop>
-    ensures { Tabulates tokens.now qualident_outline qualident_piece inside draft.old draft.new result (readers.qualident_after head (ahead tokens.now input)) }
+    requires { draft.old.number + 1 ≡ input.at }
+    ensures told { Tabulates tokens.now qualident_outline qualident_piece inside draft.old draft.new result (readers.qualident_after head (ahead tokens.now input)) }
+    ensures number { IfOk result (λ rest. draft.new.number ≡ rest.at) }
 {
     match accept(tokens, input, Kind::Dot) {
         None => {

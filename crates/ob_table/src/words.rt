@@ -2,7 +2,7 @@
 
 ghost use Rattle.ob_scan.specs.declared.kind.Kind.{Kind};
 ghost use Rattle.ob_tree.specs.Marks.{word};
-ghost use Rattle.std.specs.Prelude.{◌≡◌};
+ghost use Rattle.std.specs.Prelude.{◌≡◌, ◌+◌, IfOk};
 ghost use Rattle.ob_rows.specs.Drafts.{after, passed, ComesTo};
 ghost use Rattle.ob_parse.specs.Forms.{accept_at, expect_at, nothing, optional};
 ghost use Rattle.ob_parse.specs.Accords.{ahead};
@@ -22,7 +22,10 @@ pub(crate) fn pass_word(
     input: Cursor,
     kind: Kind,
 ) -> Result<Cursor, Stop>
-    ensures { TabulatesBy tokens.now (λ (_ : Unit {0}). word kind) (λ _ s. passed s) draft.old draft.new result (expect_at kind (ahead tokens.now input)) }
+    requires { draft.old.number ≡ input.at }
+    ensures told { TabulatesBy tokens.now (λ (_ : Unit {0}). word kind) (λ _ s. passed s) draft.old draft.new result (expect_at kind (ahead tokens.now input)) }
+    ensures number { IfOk result (λ rest. draft.new.number ≡ rest.at) }
+    ensures passed { IfOk result (λ rest. rest.at ≡ input.at + 1) }
 {
     match expect(tokens, input, kind) {
         Ok(rest) => {
@@ -41,7 +44,9 @@ pub(crate) fn skip_word(
     input: Cursor,
     kind: Kind,
 ) -> Cursor
-    ensures { Told tokens.now (skipped_outline kind) (λ b. after (skipped_piece b) inside) draft.old draft.new result (optional (accept_at kind) nothing (ahead tokens.now input)) }
+    requires { draft.old.number ≡ input.at }
+    ensures told { Told tokens.now (skipped_outline kind) (λ b. after (skipped_piece b) inside) draft.old draft.new result (optional (accept_at kind) nothing (ahead tokens.now input)) }
+    ensures number { draft.new.number ≡ result.at }
 {
     let (stands, rest) = skip(tokens, input, kind);
     if stands {
@@ -52,8 +57,10 @@ pub(crate) fn skip_word(
 
 /// Behind a token that was read.
 pub(crate) fn pass_token(draft: &mut Draft, rest: Cursor) -> Cursor
+    requires { draft.old.number + 1 ≡ rest.at }
     ensures cursor { result ≡ rest }
-    ensures passed { ComesTo passed draft.old draft.new }
+    ensures stage { ComesTo passed draft.old draft.new }
+    ensures number { draft.new.number ≡ result.at }
 {
     draft.pass();
     rest

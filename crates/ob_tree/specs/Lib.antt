@@ -7,3 +7,4 @@ pub mod Marks
 pub mod Names
 pub mod Statements
 pub mod Types
+pub mod Widths

@@ -1,6 +1,7 @@
 //! The rows of declared names, and of what stands in types.
 
-ghost use Rattle.std.specs.Prelude.{◌≡◌, false};
+ghost use Rattle.std.specs.Prelude.{◌≡◌, ◌+◌, ◌<◌, ◌^◌};
+ghost use Rattle.ob_tree.specs.Widths.{base_width, identdef_width, name_width};
 ghost use Rattle.ob_rows.specs.Drafts.{added, after, ComesTo};
 ghost use Rattle.ob_decls.specs.Statements.{qualident_piece};
 ghost use Rattle.ob_decls.specs.Types.{base_of, identdef_piece, parameter_piece, in_record, name_part, part_here, record_row, type_name_piece};
@@ -14,7 +15,9 @@ use ob_tree::name::{Identdef, Qualident};
 /// An identifier that is declared, with its star.
 #[tactic(auto, using(crate::proofs::TypeLayers::names_made))]
 pub fn walk_identdef(draft: &mut Draft, inside: Context, name: Identdef)
-    ensures { ComesTo (after (identdef_piece name) inside) draft.old draft.new }
+    requires { draft.old.number + identdef_width name < 2 ^ 32 }
+    ensures stage { ComesTo (after (identdef_piece name) inside) draft.old draft.new }
+    ensures number { draft.new.number ≡ draft.old.number + identdef_width name }
 {
     let number = draft.number;
     draft.add_declared(Declared {
@@ -32,7 +35,9 @@ pub fn walk_identdef(draft: &mut Draft, inside: Context, name: Identdef)
 #[inline(always)]
 #[tactic(auto, using(crate::proofs::TypeLayers::names_made))]
 pub fn walk_parameter(draft: &mut Draft, inside: Context)
-    ensures { ComesTo (after parameter_piece inside) draft.old draft.new }
+    requires { draft.old.number + 1 < 2 ^ 32 }
+    ensures stage { ComesTo (after parameter_piece inside) draft.old draft.new }
+    ensures number { draft.new.number ≡ draft.old.number + 1 }
 {
     let number = draft.number;
     draft.add_declared(Declared {
@@ -46,7 +51,8 @@ pub fn walk_parameter(draft: &mut Draft, inside: Context)
 /// Adds a part of a form, which stands at the next token.
 #[tactic(auto, using(crate::proofs::TypeLayers::names_made))]
 pub fn add_here(draft: &mut Draft, inside: Context, part: Part)
-    ensures { ComesTo (λ s. added (part_here part inside s.number) s) draft.old draft.new }
+    ensures stage { ComesTo (λ s. added (part_here part inside s.number) s) draft.old draft.new }
+    ensures number { draft.new.number ≡ draft.old.number }
 {
     let number = draft.number;
     draft.add_part(FormPart {
@@ -59,10 +65,12 @@ pub fn add_here(draft: &mut Draft, inside: Context, part: Part)
 /// Adds a name as a part of a form, which stands at the next token.
 #[tactic(auto, using(crate::proofs::TypeLayers::names_made))]
 pub fn add_name(draft: &mut Draft, inside: Context, name: Qualident)
-    ensures { ComesTo (λ s. added (name_part name inside s.number) s) draft.old draft.new }
+    requires { draft.old.number + name_width name.member < 2 ^ 32 }
+    ensures stage { ComesTo (λ s. added (name_part name inside s.number) s) draft.old draft.new }
+    ensures number { draft.new.number ≡ draft.old.number }
 {
     let number = draft.number;
-    let member = member_at(draft, name.member, number);
+    let member = member_at(name.member, number);
     draft.add_part(FormPart {
         declared_by: inside.declarer,
         number,
@@ -74,7 +82,9 @@ pub fn add_name(draft: &mut Draft, inside: Context, name: Qualident)
 #[inline(always)]
 #[tactic(auto, using(crate::proofs::TypeLayers::names_made))]
 pub fn walk_type_name(draft: &mut Draft, inside: Context, name: Qualident)
-    ensures { ComesTo (after (type_name_piece name) inside) draft.old draft.new }
+    requires { draft.old.number + name_width name.member < 2 ^ 32 }
+    ensures stage { ComesTo (after (type_name_piece name) inside) draft.old draft.new }
+    ensures number { draft.new.number ≡ draft.old.number + name_width name.member }
 {
     add_name(draft, inside, name);
     let is_target = match name.member {
@@ -82,7 +92,7 @@ pub fn walk_type_name(draft: &mut Draft, inside: Context, name: Qualident)
         Some(_) => false,
     };
     let number = draft.number;
-    let member = member_at(draft, name.member, number);
+    let member = member_at(name.member, number);
     draft.add_used(Used {
         number,
         block: inside.block,
@@ -112,15 +122,15 @@ pub fn type_from(inside: Context, is_target: bool) -> Context
 /// The base that a record names, whose RECORD has this number.
 #[inline(always)]
 #[tactic(auto, using(ob_rows::proofs::Steps::steps))]
-fn base_from(draft: &mut Draft, base: Option<Qualident>, number: u32) -> Option<TypeName>
-    ensures stage { ComesTo (λ s. s) draft.old draft.new }
-    ensures base { draft.new.refused ≡ false → result ≡ base_of base number }
+fn base_from(base: Option<Qualident>, number: u32) -> Option<TypeName>
+    requires { number + 1 + base_width base < 2 ^ 32 }
+    ensures { result ≡ base_of base number }
 {
     match base {
         None => None,
         Some(name) => {
-            let head = draft.behind(number, 2);
-            let member = member_at(draft, name.member, head);
+            let head = number + 2;
+            let member = member_at(name.member, head);
             Some(TypeName { head, member })
         }
     }
@@ -130,10 +140,12 @@ fn base_from(draft: &mut Draft, base: Option<Qualident>, number: u32) -> Option<
 #[inline(always)]
 #[tactic(auto, using(crate::proofs::TypeLayers::names_made))]
 pub fn add_record(draft: &mut Draft, inside: Context, base: Option<Qualident>)
-    ensures { ComesTo (λ s. added (record_row base inside s.number) s) draft.old draft.new }
+    requires { draft.old.number + 1 + base_width base < 2 ^ 32 }
+    ensures stage { ComesTo (λ s. added (record_row base inside s.number) s) draft.old draft.new }
+    ensures number { draft.new.number ≡ draft.old.number }
 {
     let number = draft.number;
-    let base = base_from(draft, base, number);
+    let base = base_from(base, number);
     draft.add_record(RecordRow {
         number,
         owner: inside.declarer,
@@ -156,7 +168,9 @@ pub fn record_from(inside: Context, number: u32) -> Context
 #[inline(always)]
 #[tactic(auto, using(crate::proofs::TypeLayers::names_made))]
 pub fn walk_base(draft: &mut Draft, inside: Context, base: Option<Qualident>)
-    ensures { ComesTo (after (if_there (λ q. both token (both (qualident_piece q) token)) base) inside) draft.old draft.new }
+    requires { draft.old.number + base_width base < 2 ^ 32 }
+    ensures stage { ComesTo (after (if_there (λ q. both token (both (qualident_piece q) token)) base) inside) draft.old draft.new }
+    ensures number { draft.new.number ≡ draft.old.number + base_width base }
 {
     match base {
         None => {}

@@ -1,6 +1,7 @@
 //! The rows of names that are looked up.
 
-ghost use Rattle.std.specs.Prelude.{◌≡◌, false};
+ghost use Rattle.std.specs.Prelude.{◌≡◌, ◌+◌, ◌<◌, ◌≤◌, ◌^◌};
+ghost use Rattle.ob_tree.specs.Widths.{name_width};
 ghost use Rattle.ob_rows.specs.Drafts.{after, ComesTo};
 ghost use Rattle.ob_decls.specs.Expressions.{behind_dot, used};
 ghost use Rattle.ob_decls.specs.Statements.{qualident_piece, variable_piece};
@@ -10,23 +11,26 @@ use ob_rows::{Designator, Used};
 use ob_tree::name::Qualident;
 
 /// The name behind a dot that follows this token, if one does.
-pub fn member_at(draft: &mut Draft, member: Option<u32>, head: u32) -> Option<u32>
-    ensures stage { ComesTo (λ s. s) draft.old draft.new }
-    ensures member { draft.new.refused ≡ false → result ≡ behind_dot member head }
+pub fn member_at(member: Option<u32>, head: u32) -> Option<u32>
+    requires { head + name_width member ≤ 2 ^ 32 }
+    ensures { result ≡ behind_dot member head }
 {
     match member {
         None => None,
-        Some(_) => Some(draft.behind(head, 2)),
+        Some(_) => Some(head + 2),
     }
 }
 
 /// An identifier that is looked up and is no pointer's target.
 #[tactic(auto, using(ob_rows::proofs::Steps::steps))]
 pub fn walk_used(draft: &mut Draft, inside: Context, member: Option<u32>)
-    ensures { ComesTo (after (used member) inside) draft.old draft.new }
+    requires passed { draft.old.number + 1 < 2 ^ 32 }
+    requires member { draft.old.number + name_width member ≤ 2 ^ 32 }
+    ensures stage { ComesTo (after (used member) inside) draft.old draft.new }
+    ensures number { draft.new.number ≡ draft.old.number + 1 }
 {
     let number = draft.number;
-    let member = member_at(draft, member, number);
+    let member = member_at(member, number);
     draft.add_used(Used {
         number,
         block: inside.block,
@@ -39,7 +43,9 @@ pub fn walk_used(draft: &mut Draft, inside: Context, member: Option<u32>)
 /// A qualified identifier that is looked up.
 #[tactic(auto, using(crate::proofs::StatementLayers::labels_made))]
 pub fn walk_qualident(draft: &mut Draft, inside: Context, name: Qualident)
-    ensures { ComesTo (after (qualident_piece name) inside) draft.old draft.new }
+    requires { draft.old.number + name_width name.member < 2 ^ 32 }
+    ensures stage { ComesTo (after (qualident_piece name) inside) draft.old draft.new }
+    ensures number { draft.new.number ≡ draft.old.number + name_width name.member }
 {
     walk_used(draft, inside, name.member);
     match name.member {
@@ -54,7 +60,9 @@ pub fn walk_qualident(draft: &mut Draft, inside: Context, name: Qualident)
 /// The variable of a FOR, which is written.
 #[tactic(auto, using(crate::proofs::StatementLayers::labels_made))]
 pub fn walk_for_variable(draft: &mut Draft, inside: Context)
-    ensures { ComesTo (after variable_piece inside) draft.old draft.new }
+    requires { draft.old.number + 1 < 2 ^ 32 }
+    ensures stage { ComesTo (after variable_piece inside) draft.old draft.new }
+    ensures number { draft.new.number ≡ draft.old.number + 1 }
 {
     let head = draft.number;
     draft.add_designator(Designator {

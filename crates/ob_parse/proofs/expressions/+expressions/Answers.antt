@@ -16,66 +16,66 @@ use Rattle.ob_parse.proofs.Fronts.{leaf_stands, word_stands, factor_seen, select
 use Rattle.ob_parse.proofs.expressions.+expressions.Goals as goal
 
 pub more_factors-more-smaller : goal.more_factors-more-smaller
-more_factors-more-smaller t c = operation_shorter c.args.tokens.now (factor_operations c.args.depth) c.in-Some.operator c.more.here c.in-Some.after _ _ c.in-Some.ensures c.in_ok-next.ensures
+more_factors-more-smaller t c = operation_shorter c.args.tokens.now (factor_operations c.args.depth) c.in-Some.operator c.more.here c.in-Some.after _ _ c.in-Some.ensures.read c.in_ok-next.ensures
 
 pub more_factors-more-preserved : goal.more_factors-more-preserved
 more_factors-more-preserved t c =
-    operation_kept c.args.tokens.now (factor_operations c.args.depth) c.in-Some.operator c.more.here c.in-Some.after _ _ c.in_ok-next.next _ _ c.in-Some.ensures c.in_ok-next.ensures c.in_ok-push.ensures.items c.more.invariant
+    operation_kept c.args.tokens.now (factor_operations c.args.depth) c.in-Some.operator c.more.here c.in-Some.after _ _ c.in_ok-next.next _ _ c.in-Some.ensures.read c.in_ok-next.ensures c.in_ok-push.ensures.items c.more.invariant
 
 pub more_factors-returns-in_err-next : goal.more_factors-returns-in_err-next
 more_factors-returns-in_err-next t c =
-    stopped _ _ _ _ _ c.from_residual.ensures.1 (operation_failed c.args.tokens.now (factor_operations c.args.depth) c.in-Some.operator c.more.here c.in-Some.after c.more.rest.items c.in_err-next.field-0.0 _ c.in-Some.ensures c.in_err-next.ensures c.more.invariant)
+    stopped _ _ _ _ _ c.from_residual.ensures.1 (operation_failed c.args.tokens.now (factor_operations c.args.depth) c.in-Some.operator c.more.here c.in-Some.after c.more.rest.items c.in_err-next.field-0.0 _ c.in-Some.ensures.read c.in_err-next.ensures c.more.invariant)
 
 pub more_factors-returns : goal.more_factors-returns
 more_factors-returns t c =
-    operations_done c.args.tokens.now (factor_operations c.args.depth) c.more.rest.items c.more.here _ (sym (ap (seen c.args.tokens.now) c.in_default.is) ∙ c.mul_operator.ensures) c.more.invariant
+    operations_done c.args.tokens.now (factor_operations c.args.depth) c.more.rest.items c.more.here _ (sym (ap (seen c.args.tokens.now) c.in_default.is) ∙ c.mul_operator.ensures.read) c.more.invariant
 
 pub more_terms-more-smaller : goal.more_terms-more-smaller
-more_terms-more-smaller t c = operation_shorter c.args.tokens.now (term_operations c.args.depth) c.in-Some.operator c.more.here c.in-Some.after _ _ c.in-Some.ensures c.in_ok-next.ensures
+more_terms-more-smaller t c = operation_shorter c.args.tokens.now (term_operations c.args.depth) c.in-Some.operator c.more.here c.in-Some.after _ _ c.in-Some.ensures.read c.in_ok-next.ensures
 
 pub more_terms-more-preserved : goal.more_terms-more-preserved
 more_terms-more-preserved t c =
-    operation_kept c.args.tokens.now (term_operations c.args.depth) c.in-Some.operator c.more.here c.in-Some.after _ _ c.in_ok-next.next _ _ c.in-Some.ensures c.in_ok-next.ensures c.in_ok-push.ensures.items c.more.invariant
+    operation_kept c.args.tokens.now (term_operations c.args.depth) c.in-Some.operator c.more.here c.in-Some.after _ _ c.in_ok-next.next _ _ c.in-Some.ensures.read c.in_ok-next.ensures c.in_ok-push.ensures.items c.more.invariant
 
 pub more_terms-returns-in_err-next : goal.more_terms-returns-in_err-next
 more_terms-returns-in_err-next t c =
-    stopped _ _ _ _ _ c.from_residual.ensures.1 (operation_failed c.args.tokens.now (term_operations c.args.depth) c.in-Some.operator c.more.here c.in-Some.after c.more.rest.items c.in_err-next.field-0.0 _ c.in-Some.ensures c.in_err-next.ensures c.more.invariant)
+    stopped _ _ _ _ _ c.from_residual.ensures.1 (operation_failed c.args.tokens.now (term_operations c.args.depth) c.in-Some.operator c.more.here c.in-Some.after c.more.rest.items c.in_err-next.field-0.0 _ c.in-Some.ensures.read c.in_err-next.ensures c.more.invariant)
 
 pub more_terms-returns : goal.more_terms-returns
 more_terms-returns t c =
-    operations_done c.args.tokens.now (term_operations c.args.depth) c.more.rest.items c.more.here _ (sym (ap (seen c.args.tokens.now) c.in_default.is) ∙ c.add_operator.ensures) c.more.invariant
+    operations_done c.args.tokens.now (term_operations c.args.depth) c.more.rest.items c.more.here _ (sym (ap (seen c.args.tokens.now) c.in_default.is) ∙ c.add_operator.ensures.read) c.more.invariant
 
 pub more_expressions-more-smaller : goal.more_expressions-more-smaller
 more_expressions-more-smaller t c =
-    turn_shorter c.args.tokens.now (expressions c.args.depth) c.expression.result (λ b. b.value) c.more.here c.in-Some.after _ _ _ (sym c.in-Some.ensures) c.expression.ensures c.in_ok-here.ensures
+    turn_shorter c.args.tokens.now (expressions c.args.depth) c.expression.result (λ b. b.value) c.more.here c.in-Some.after _ _ _ (sym c.in-Some.ensures.read) c.expression.ensures c.in_ok-here.ensures
 
 pub more_expressions-more-preserved : goal.more_expressions-more-preserved
 more_expressions-more-preserved t c =
-    turn_kept c.args.tokens.now (expressions c.args.depth) c.expression.result (λ b. b.value) c.more.here c.in-Some.after _ _ _ _ (sym c.in-Some.ensures) c.expression.ensures c.in_ok-here.ensures c.more.invariant
+    turn_kept c.args.tokens.now (expressions c.args.depth) c.expression.result (λ b. b.value) c.more.here c.in-Some.after _ _ _ _ (sym c.in-Some.ensures.read) c.expression.ensures c.in_ok-here.ensures c.more.invariant
 
 pub more_expressions-returns-in_err-here : goal.more_expressions-returns-in_err-here
 more_expressions-returns-in_err-here t c =
-    stopped _ _ _ _ _ c.from_residual.ensures.1 (turn_failed c.args.tokens.now (expressions c.args.depth) c.expression.result (λ b. b.value) c.more.here c.in-Some.after _ _ c.in_err-here.field-0.0 _ (sym c.in-Some.ensures) c.expression.ensures c.in_err-here.ensures c.more.invariant)
+    stopped _ _ _ _ _ c.from_residual.ensures.1 (turn_failed c.args.tokens.now (expressions c.args.depth) c.expression.result (λ b. b.value) c.more.here c.in-Some.after _ _ c.in_err-here.field-0.0 _ (sym c.in-Some.ensures.read) c.expression.ensures c.in_err-here.ensures c.more.invariant)
 
 pub more_expressions-returns : goal.more_expressions-returns
 more_expressions-returns t c =
-    turns_done c.args.tokens.now (expressions c.args.depth) c.more.rest.items c.more.here _ (sym c.accept.ensures ∙ ap (skipped c.args.tokens.now kinds.Comma) c.in_default.is) c.more.invariant
+    turns_done c.args.tokens.now (expressions c.args.depth) c.more.rest.items c.more.here _ (sym c.accept.ensures.read ∙ ap (skipped c.args.tokens.now kinds.Comma) c.in_default.is) c.more.invariant
 
 pub more_elements-more-smaller : goal.more_elements-more-smaller
 more_elements-more-smaller t c =
-    turn_shorter c.args.tokens.now (elements c.args.depth) c.element.result (λ b. b.value) c.more.here c.in-Some.after _ _ _ (sym c.in-Some.ensures) c.element.ensures c.in_ok-here.ensures
+    turn_shorter c.args.tokens.now (elements c.args.depth) c.element.result (λ b. b.value) c.more.here c.in-Some.after _ _ _ (sym c.in-Some.ensures.read) c.element.ensures c.in_ok-here.ensures
 
 pub more_elements-more-preserved : goal.more_elements-more-preserved
 more_elements-more-preserved t c =
-    turn_kept c.args.tokens.now (elements c.args.depth) c.element.result (λ b. b.value) c.more.here c.in-Some.after _ _ _ _ (sym c.in-Some.ensures) c.element.ensures c.in_ok-here.ensures c.more.invariant
+    turn_kept c.args.tokens.now (elements c.args.depth) c.element.result (λ b. b.value) c.more.here c.in-Some.after _ _ _ _ (sym c.in-Some.ensures.read) c.element.ensures c.in_ok-here.ensures c.more.invariant
 
 pub more_elements-returns-in_err-here : goal.more_elements-returns-in_err-here
 more_elements-returns-in_err-here t c =
-    stopped _ _ _ _ _ c.from_residual.ensures.1 (turn_failed c.args.tokens.now (elements c.args.depth) c.element.result (λ b. b.value) c.more.here c.in-Some.after _ _ c.in_err-here.field-0.0 _ (sym c.in-Some.ensures) c.element.ensures c.in_err-here.ensures c.more.invariant)
+    stopped _ _ _ _ _ c.from_residual.ensures.1 (turn_failed c.args.tokens.now (elements c.args.depth) c.element.result (λ b. b.value) c.more.here c.in-Some.after _ _ c.in_err-here.field-0.0 _ (sym c.in-Some.ensures.read) c.element.ensures c.in_err-here.ensures c.more.invariant)
 
 pub more_elements-returns : goal.more_elements-returns
 more_elements-returns t c =
-    turns_done c.args.tokens.now (elements c.args.depth) c.more.rest.items c.more.here _ (sym c.accept.ensures ∙ ap (skipped c.args.tokens.now kinds.Comma) c.in_default.is) c.more.invariant
+    turns_done c.args.tokens.now (elements c.args.depth) c.more.rest.items c.more.here _ (sym c.accept.ensures.read ∙ ap (skipped c.args.tokens.now kinds.Comma) c.in_default.is) c.more.invariant
 
 pub more_selectors-more-smaller : goal.more_selectors-more-smaller
 more_selectors-more-smaller t c =
@@ -102,7 +102,7 @@ unfolding unless
 arguments-returns-then-is_at t c = grind arith
 
 pub call-returns : goal.call-returns
-call-returns t c = rw (c.in_ok-list.ensures, c.in_ok-rest.ensures, arguments_made c.in_ok-list.list) refl
+call-returns t c = rw (c.in_ok-list.ensures, c.in_ok-rest.ensures.read, arguments_made c.in_ok-list.list) refl
 
 pub designator-returns : goal.designator-returns
 unfolding designator_with
@@ -137,38 +137,38 @@ unfolding several
 expression_list-returns t c = gives_boxed c.args.tokens.now expr_list_outline _ _ c.boxed.result _ c.boxed.ensures.of c.boxed.ensures.refused (rw (c.in_ok-first.ensures, c.in_ok-rest.ensures, expr_list_made (record { first = c.into_inner.result; rest = c.in_ok-rest.rest }), c.into_inner.ensures) refl)
 
 pub factor-returns-in-Some-Name-default : goal.factor-returns-in-Some-Name-default
-factor-returns-in-Some-Name-default t c = rw (factor_seen c.args.depth _ _ (leaf_stands c.args.tokens.now _ c.args.input c.in-Some-Name-default.rest _ (leafs.Name c.in-Some-Name-default.number) c.in-Some-Name-default.is c.in-Some-Name-default.field-0-0-is c.next.ensures)) c.named.ensures
+factor-returns-in-Some-Name-default t c = rw (factor_seen c.args.depth _ _ (leaf_stands c.args.tokens.now _ c.args.input c.in-Some-Name-default.rest _ (leafs.Name c.in-Some-Name-default.number) c.in-Some-Name-default.is c.in-Some-Name-default.field-0-0-is c.next.ensures.read)) c.named.ensures
 
 pub factor-returns-in-Some-Value-default : goal.factor-returns-in-Some-Value-default
-factor-returns-in-Some-Value-default t c = rw (factor_seen c.args.depth _ _ (leaf_stands c.args.tokens.now _ c.args.input c.in-Some-Value-default.rest _ (leafs.Value c.in-Some-Value-default.literal c.in-Some-Value-default.number) c.in-Some-Value-default.is c.in-Some-Value-default.field-0-0-is c.next.ensures), value_made c.in-Some-Value-default.literal c.in-Some-Value-default.number) refl
+factor-returns-in-Some-Value-default t c = rw (factor_seen c.args.depth _ _ (leaf_stands c.args.tokens.now _ c.args.input c.in-Some-Value-default.rest _ (leafs.Value c.in-Some-Value-default.literal c.in-Some-Value-default.number) c.in-Some-Value-default.is c.in-Some-Value-default.field-0-0-is c.next.ensures.read), value_made c.in-Some-Value-default.literal c.in-Some-Value-default.number) refl
 
 pub factor-returns-in-Some-Word-False-default : goal.factor-returns-in-Some-Word-False-default
-factor-returns-in-Some-Word-False-default t c = rw (factor_seen c.args.depth _ _ (word_stands c.args.tokens.now _ c.args.input c.in-Some-Word-False-default.rest _ _ kinds.False c.in-Some-Word-False-default.is c.in-Some-Word-False-default.field-0-0-is c.in-Some-Word-False-default.field-0-0-0-is c.next.ensures), false_made) refl
+factor-returns-in-Some-Word-False-default t c = rw (factor_seen c.args.depth _ _ (word_stands c.args.tokens.now _ c.args.input c.in-Some-Word-False-default.rest _ _ kinds.False c.in-Some-Word-False-default.is c.in-Some-Word-False-default.field-0-0-is c.in-Some-Word-False-default.field-0-0-0-is c.next.ensures.read), false_made) refl
 
 pub factor-returns-in-Some-Word-LeftBrace-default : goal.factor-returns-in-Some-Word-LeftBrace-default
-factor-returns-in-Some-Word-LeftBrace-default t c = rw (factor_seen c.args.depth _ _ (word_stands c.args.tokens.now _ c.args.input c.in-Some-Word-LeftBrace-default.rest _ _ kinds.LeftBrace c.in-Some-Word-LeftBrace-default.is c.in-Some-Word-LeftBrace-default.field-0-0-is c.in-Some-Word-LeftBrace-default.field-0-0-0-is c.next.ensures)) c.set.ensures
+factor-returns-in-Some-Word-LeftBrace-default t c = rw (factor_seen c.args.depth _ _ (word_stands c.args.tokens.now _ c.args.input c.in-Some-Word-LeftBrace-default.rest _ _ kinds.LeftBrace c.in-Some-Word-LeftBrace-default.is c.in-Some-Word-LeftBrace-default.field-0-0-is c.in-Some-Word-LeftBrace-default.field-0-0-0-is c.next.ensures.read)) c.set.ensures
 
 pub factor-returns-in-Some-Word-LeftParen-default : goal.factor-returns-in-Some-Word-LeftParen-default
-factor-returns-in-Some-Word-LeftParen-default t c = rw (factor_seen c.args.depth _ _ (word_stands c.args.tokens.now _ c.args.input c.in-Some-Word-LeftParen-default.rest _ _ kinds.LeftParen c.in-Some-Word-LeftParen-default.is c.in-Some-Word-LeftParen-default.field-0-0-is c.in-Some-Word-LeftParen-default.field-0-0-0-is c.next.ensures)) c.group.ensures
+factor-returns-in-Some-Word-LeftParen-default t c = rw (factor_seen c.args.depth _ _ (word_stands c.args.tokens.now _ c.args.input c.in-Some-Word-LeftParen-default.rest _ _ kinds.LeftParen c.in-Some-Word-LeftParen-default.is c.in-Some-Word-LeftParen-default.field-0-0-is c.in-Some-Word-LeftParen-default.field-0-0-0-is c.next.ensures.read)) c.group.ensures
 
 pub factor-returns-in-Some-Word-Nil-default : goal.factor-returns-in-Some-Word-Nil-default
-factor-returns-in-Some-Word-Nil-default t c = rw (factor_seen c.args.depth _ _ (word_stands c.args.tokens.now _ c.args.input c.in-Some-Word-Nil-default.rest _ _ kinds.Nil c.in-Some-Word-Nil-default.is c.in-Some-Word-Nil-default.field-0-0-is c.in-Some-Word-Nil-default.field-0-0-0-is c.next.ensures), nil_made) refl
+factor-returns-in-Some-Word-Nil-default t c = rw (factor_seen c.args.depth _ _ (word_stands c.args.tokens.now _ c.args.input c.in-Some-Word-Nil-default.rest _ _ kinds.Nil c.in-Some-Word-Nil-default.is c.in-Some-Word-Nil-default.field-0-0-is c.in-Some-Word-Nil-default.field-0-0-0-is c.next.ensures.read), nil_made) refl
 
 pub factor-returns-in-Some-Word-Tilde-default : goal.factor-returns-in-Some-Word-Tilde-default
-factor-returns-in-Some-Word-Tilde-default t c = rw (factor_seen c.args.depth _ _ (word_stands c.args.tokens.now _ c.args.input c.in-Some-Word-Tilde-default.rest _ _ kinds.Tilde c.in-Some-Word-Tilde-default.is c.in-Some-Word-Tilde-default.field-0-0-is c.in-Some-Word-Tilde-default.field-0-0-0-is c.next.ensures)) c.negated.ensures
+factor-returns-in-Some-Word-Tilde-default t c = rw (factor_seen c.args.depth _ _ (word_stands c.args.tokens.now _ c.args.input c.in-Some-Word-Tilde-default.rest _ _ kinds.Tilde c.in-Some-Word-Tilde-default.is c.in-Some-Word-Tilde-default.field-0-0-is c.in-Some-Word-Tilde-default.field-0-0-0-is c.next.ensures.read)) c.negated.ensures
 
 pub factor-returns-in-Some-Word-True-default : goal.factor-returns-in-Some-Word-True-default
-factor-returns-in-Some-Word-True-default t c = rw (factor_seen c.args.depth _ _ (word_stands c.args.tokens.now _ c.args.input c.in-Some-Word-True-default.rest _ _ kinds.True c.in-Some-Word-True-default.is c.in-Some-Word-True-default.field-0-0-is c.in-Some-Word-True-default.field-0-0-0-is c.next.ensures), true_made) refl
+factor-returns-in-Some-Word-True-default t c = rw (factor_seen c.args.depth _ _ (word_stands c.args.tokens.now _ c.args.input c.in-Some-Word-True-default.rest _ _ kinds.True c.in-Some-Word-True-default.is c.in-Some-Word-True-default.field-0-0-is c.in-Some-Word-True-default.field-0-0-0-is c.next.ensures.read), true_made) refl
 
 pub factor-returns-in_default : goal.factor-returns-in_default
 unfolding factor_with
 factor-returns-in_default t c = grind (arith, expressions_made)
 
 pub group-returns : goal.group-returns
-group-returns t c = rw (c.in_ok-inner.ensures, c.in_ok-rest.ensures, group_made c.in_ok-inner.inner) refl
+group-returns t c = rw (c.in_ok-inner.ensures, c.in_ok-rest.ensures.read, group_made c.in_ok-inner.inner) refl
 
 pub index-returns : goal.index-returns
-index-returns t c = rw (c.in_ok-list.ensures, c.in_ok-rest.ensures, index_made c.in_ok-list.list) refl
+index-returns t c = rw (c.in_ok-list.ensures, c.in_ok-rest.ensures.read, index_made c.in_ok-list.list) refl
 
 pub named-returns : goal.named-returns
 named-returns t c = rw (c.in_ok-designator.ensures, name_made c.in_ok-designator.designator) refl
@@ -182,27 +182,27 @@ unfolding negated_at limit_at
 negated-returns-then-depth-eq0 t c = grind (arith, expressions_made)
 
 pub selector-returns-in-Some-Word-Caret-default : goal.selector-returns-in-Some-Word-Caret-default
-selector-returns-in-Some-Word-Caret-default t c = rw (selector_seen (expr_at c.args.depth) _ _ (word_stands c.args.tokens.now _ c.args.input c.in-Some-Word-Caret-default.rest _ _ kinds.Caret c.in-Some-Word-Caret-default.is c.in-Some-Word-Caret-default.field-0-0-is c.in-Some-Word-Caret-default.field-0-0-0-is c.next.ensures), target_made) refl
+selector-returns-in-Some-Word-Caret-default t c = rw (selector_seen (expr_at c.args.depth) _ _ (word_stands c.args.tokens.now _ c.args.input c.in-Some-Word-Caret-default.rest _ _ kinds.Caret c.in-Some-Word-Caret-default.is c.in-Some-Word-Caret-default.field-0-0-is c.in-Some-Word-Caret-default.field-0-0-0-is c.next.ensures.read), target_made) refl
 
 pub selector-returns-in-Some-Word-Dot-default : goal.selector-returns-in-Some-Word-Dot-default
-selector-returns-in-Some-Word-Dot-default t c = rw (selector_seen (expr_at c.args.depth) _ _ (word_stands c.args.tokens.now _ c.args.input c.in-Some-Word-Dot-default.rest _ _ kinds.Dot c.in-Some-Word-Dot-default.is c.in-Some-Word-Dot-default.field-0-0-is c.in-Some-Word-Dot-default.field-0-0-0-is c.next.ensures)) c.field.ensures
+selector-returns-in-Some-Word-Dot-default t c = rw (selector_seen (expr_at c.args.depth) _ _ (word_stands c.args.tokens.now _ c.args.input c.in-Some-Word-Dot-default.rest _ _ kinds.Dot c.in-Some-Word-Dot-default.is c.in-Some-Word-Dot-default.field-0-0-is c.in-Some-Word-Dot-default.field-0-0-0-is c.next.ensures.read)) c.field.ensures
 
 pub selector-returns-in-Some-Word-LeftBracket-default : goal.selector-returns-in-Some-Word-LeftBracket-default
-selector-returns-in-Some-Word-LeftBracket-default t c = rw (selector_seen (expr_at c.args.depth) _ _ (word_stands c.args.tokens.now _ c.args.input c.in-Some-Word-LeftBracket-default.rest _ _ kinds.LeftBracket c.in-Some-Word-LeftBracket-default.is c.in-Some-Word-LeftBracket-default.field-0-0-is c.in-Some-Word-LeftBracket-default.field-0-0-0-is c.next.ensures)) c.index.ensures
+selector-returns-in-Some-Word-LeftBracket-default t c = rw (selector_seen (expr_at c.args.depth) _ _ (word_stands c.args.tokens.now _ c.args.input c.in-Some-Word-LeftBracket-default.rest _ _ kinds.LeftBracket c.in-Some-Word-LeftBracket-default.is c.in-Some-Word-LeftBracket-default.field-0-0-is c.in-Some-Word-LeftBracket-default.field-0-0-0-is c.next.ensures.read)) c.index.ensures
 
 pub selector-returns-in-Some-Word-LeftParen-default : goal.selector-returns-in-Some-Word-LeftParen-default
-selector-returns-in-Some-Word-LeftParen-default t c = rw (selector_seen (expr_at c.args.depth) _ _ (word_stands c.args.tokens.now _ c.args.input c.in-Some-Word-LeftParen-default.rest _ _ kinds.LeftParen c.in-Some-Word-LeftParen-default.is c.in-Some-Word-LeftParen-default.field-0-0-is c.in-Some-Word-LeftParen-default.field-0-0-0-is c.next.ensures)) c.call.ensures
+selector-returns-in-Some-Word-LeftParen-default t c = rw (selector_seen (expr_at c.args.depth) _ _ (word_stands c.args.tokens.now _ c.args.input c.in-Some-Word-LeftParen-default.rest _ _ kinds.LeftParen c.in-Some-Word-LeftParen-default.is c.in-Some-Word-LeftParen-default.field-0-0-is c.in-Some-Word-LeftParen-default.field-0-0-0-is c.next.ensures.read)) c.call.ensures
 
 pub selector-returns-in_default : goal.selector-returns-in_default
 unfolding selector_with name_at
 selector-returns-in_default t c = grind (arith, expressions_made)
 
 pub set-returns : goal.set-returns
-set-returns t c = rw (c.in_ok-elements.ensures, c.in_ok-rest.ensures, set_made c.in_ok-elements.elements) refl
+set-returns t c = rw (c.in_ok-elements.ensures, c.in_ok-rest.ensures.read, set_made c.in_ok-elements.elements) refl
 
 pub sum-returns : goal.sum-returns
 unfolding sum_with
-sum-returns t c = gives_boxed c.args.tokens.now sum_outline _ _ c.boxed.result _ c.boxed.ensures.of c.boxed.ensures.refused (rw (sym c.sign-sign.ensures, c.in_ok-first.ensures, c.in_ok-rest.ensures, sum_made (record { sign = c.sign-sign.result.0; first = c.in_ok-first.first; rest = c.in_ok-rest.rest })) refl)
+sum-returns t c = gives_boxed c.args.tokens.now sum_outline _ _ c.boxed.result _ c.boxed.ensures.of c.boxed.ensures.refused (rw (sym c.sign-sign.ensures.read, c.in_ok-first.ensures, c.in_ok-rest.ensures, sum_made (record { sign = c.sign-sign.result.0; first = c.in_ok-first.first; rest = c.in_ok-rest.rest })) refl)
 
 pub term-returns : goal.term-returns
 unfolding term_with

@@ -18,33 +18,33 @@ use Rattle.ob_parse.proofs.types.+types.Goals as goal
 
 pub more_fields-more-smaller : goal.more_fields-more-smaller
 more_fields-more-smaller t c =
-    turn_shorter c.args.tokens.now (field_lists c.args.depth) c.field_list.result (λ b. b.value) c.more.here c.in-Some.after _ _ _ (sym c.in-Some.ensures) c.field_list.ensures c.in_ok-here.ensures
+    turn_shorter c.args.tokens.now (field_lists c.args.depth) c.field_list.result (λ b. b.value) c.more.here c.in-Some.after _ _ _ (sym c.in-Some.ensures.read) c.field_list.ensures c.in_ok-here.ensures
 
 pub more_fields-more-preserved : goal.more_fields-more-preserved
 more_fields-more-preserved t c =
-    turn_kept c.args.tokens.now (field_lists c.args.depth) c.field_list.result (λ b. b.value) c.more.here c.in-Some.after _ _ _ _ (sym c.in-Some.ensures) c.field_list.ensures c.in_ok-here.ensures c.more.invariant
+    turn_kept c.args.tokens.now (field_lists c.args.depth) c.field_list.result (λ b. b.value) c.more.here c.in-Some.after _ _ _ _ (sym c.in-Some.ensures.read) c.field_list.ensures c.in_ok-here.ensures c.more.invariant
 
 pub more_fields-returns-in_err-here : goal.more_fields-returns-in_err-here
 more_fields-returns-in_err-here t c =
-    stopped _ _ _ _ _ c.from_residual.ensures.1 (turn_failed c.args.tokens.now (field_lists c.args.depth) c.field_list.result (λ b. b.value) c.more.here c.in-Some.after _ _ c.in_err-here.field-0.0 _ (sym c.in-Some.ensures) c.field_list.ensures c.in_err-here.ensures c.more.invariant)
+    stopped _ _ _ _ _ c.from_residual.ensures.1 (turn_failed c.args.tokens.now (field_lists c.args.depth) c.field_list.result (λ b. b.value) c.more.here c.in-Some.after _ _ c.in_err-here.field-0.0 _ (sym c.in-Some.ensures.read) c.field_list.ensures c.in_err-here.ensures c.more.invariant)
 
 pub more_fields-returns : goal.more_fields-returns
 more_fields-returns t c =
-    turns_done c.args.tokens.now (field_lists c.args.depth) c.more.rest.items c.more.here _ (sym c.next_fields.ensures ∙ ap (skipped c.args.tokens.now kinds.Semicolon) c.in_default.is) c.more.invariant
+    turns_done c.args.tokens.now (field_lists c.args.depth) c.more.rest.items c.more.here _ (sym c.next_fields.ensures.read ∙ ap (skipped c.args.tokens.now kinds.Semicolon) c.in_default.is) c.more.invariant
 
 pub array-returns : goal.array-returns
-array-returns t c = rw (c.in_ok-lengths.ensures, c.in_ok-rest.ensures, c.in_ok-of.ensures, array_made c.in_ok-lengths.lengths c.in_ok-of.of) refl
+array-returns t c = rw (c.in_ok-lengths.ensures, c.in_ok-rest.ensures.read, c.in_ok-of.ensures, array_made c.in_ok-lengths.lengths c.in_ok-of.of) refl
 
 pub fields-returns : goal.fields-returns
 unfolding fields_with
-fields-returns t c = gives_boxed c.args.tokens.now fields_outline _ _ c.boxed.result _ c.boxed.ensures.of c.boxed.ensures.refused (rw (c.in_ok-first.ensures, c.in_ok-rest.ensures, sym c.skip-closing_semicolon.ensures, fields_made c.into_inner.result c.in_ok-rest.rest c.skip-closing_semicolon.result.0, c.into_inner.ensures) refl)
+fields-returns t c = gives_boxed c.args.tokens.now fields_outline _ _ c.boxed.result _ c.boxed.ensures.of c.boxed.ensures.refused (rw (c.in_ok-first.ensures, c.in_ok-rest.ensures, sym c.skip-closing_semicolon.ensures.read, fields_made c.into_inner.result c.in_ok-rest.rest c.skip-closing_semicolon.result.0, c.into_inner.ensures) refl)
 
 pub pointer-returns : goal.pointer-returns
-pointer-returns t c = rw (c.in_ok-rest.ensures, c.in_ok-to.ensures, pointer_made c.in_ok-to.to) refl
+pointer-returns t c = rw (c.in_ok-rest.ensures.read, c.in_ok-to.ensures, pointer_made c.in_ok-to.to) refl
 
 pub record-returns : goal.record-returns
 unfolding record_with
-record-returns t c = rw (c.in_ok-base.ensures, c.in_ok-fields.ensures, c.in_ok-here.ensures, record_of_made (roll-Record (record { base = c.in_ok-base.base; fields = c.in_ok-fields.fields })), record_made c.in_ok-base.base c.in_ok-fields.fields) refl
+record-returns t c = rw (c.in_ok-base.ensures.read, c.in_ok-fields.ensures, c.in_ok-here.ensures.read, record_of_made (roll-Record (record { base = c.in_ok-base.base; fields = c.in_ok-fields.fields })), record_made c.in_ok-base.base c.in_ok-fields.fields) refl
 
 pub some_fields-returns : goal.some_fields-returns
 some_fields-returns t c =
@@ -63,19 +63,19 @@ unfolding type_at limit_at
 type_form-returns-then-depth-eq0 t c = grind arith
 
 pub type_within-returns-in-Some-Name-default : goal.type_within-returns-in-Some-Name-default
-type_within-returns-in-Some-Name-default t c = rw (type_seen (expr_at c.args.depth) (type_at c.args.depth) _ _ (leaf_stands c.args.tokens.now _ c.args.input c.in-Some-Name-default.rest _ (leafs.Name c.in-Some-Name-default.head) c.in-Some-Name-default.is c.in-Some-Name-default.field-0-0-is c.next.ensures)) c.named.ensures
+type_within-returns-in-Some-Name-default t c = rw (type_seen (expr_at c.args.depth) (type_at c.args.depth) _ _ (leaf_stands c.args.tokens.now _ c.args.input c.in-Some-Name-default.rest _ (leafs.Name c.in-Some-Name-default.head) c.in-Some-Name-default.is c.in-Some-Name-default.field-0-0-is c.next.ensures.read)) c.named.ensures
 
 pub type_within-returns-in-Some-Word-Array-default : goal.type_within-returns-in-Some-Word-Array-default
-type_within-returns-in-Some-Word-Array-default t c = rw (type_seen (expr_at c.args.depth) (type_at c.args.depth) _ _ (word_stands c.args.tokens.now _ c.args.input c.in-Some-Word-Array-default.rest _ _ kinds.Array c.in-Some-Word-Array-default.is c.in-Some-Word-Array-default.field-0-0-is c.in-Some-Word-Array-default.field-0-0-0-is c.next.ensures)) c.array.ensures
+type_within-returns-in-Some-Word-Array-default t c = rw (type_seen (expr_at c.args.depth) (type_at c.args.depth) _ _ (word_stands c.args.tokens.now _ c.args.input c.in-Some-Word-Array-default.rest _ _ kinds.Array c.in-Some-Word-Array-default.is c.in-Some-Word-Array-default.field-0-0-is c.in-Some-Word-Array-default.field-0-0-0-is c.next.ensures.read)) c.array.ensures
 
 pub type_within-returns-in-Some-Word-Pointer-default : goal.type_within-returns-in-Some-Word-Pointer-default
-type_within-returns-in-Some-Word-Pointer-default t c = rw (type_seen (expr_at c.args.depth) (type_at c.args.depth) _ _ (word_stands c.args.tokens.now _ c.args.input c.in-Some-Word-Pointer-default.rest _ _ kinds.Pointer c.in-Some-Word-Pointer-default.is c.in-Some-Word-Pointer-default.field-0-0-is c.in-Some-Word-Pointer-default.field-0-0-0-is c.next.ensures)) c.pointer.ensures
+type_within-returns-in-Some-Word-Pointer-default t c = rw (type_seen (expr_at c.args.depth) (type_at c.args.depth) _ _ (word_stands c.args.tokens.now _ c.args.input c.in-Some-Word-Pointer-default.rest _ _ kinds.Pointer c.in-Some-Word-Pointer-default.is c.in-Some-Word-Pointer-default.field-0-0-is c.in-Some-Word-Pointer-default.field-0-0-0-is c.next.ensures.read)) c.pointer.ensures
 
 pub type_within-returns-in-Some-Word-Procedure-default : goal.type_within-returns-in-Some-Word-Procedure-default
-type_within-returns-in-Some-Word-Procedure-default t c = rw (type_seen (expr_at c.args.depth) (type_at c.args.depth) _ _ (word_stands c.args.tokens.now _ c.args.input c.in-Some-Word-Procedure-default.rest _ _ kinds.Procedure c.in-Some-Word-Procedure-default.is c.in-Some-Word-Procedure-default.field-0-0-is c.in-Some-Word-Procedure-default.field-0-0-0-is c.next.ensures)) c.procedure.ensures
+type_within-returns-in-Some-Word-Procedure-default t c = rw (type_seen (expr_at c.args.depth) (type_at c.args.depth) _ _ (word_stands c.args.tokens.now _ c.args.input c.in-Some-Word-Procedure-default.rest _ _ kinds.Procedure c.in-Some-Word-Procedure-default.is c.in-Some-Word-Procedure-default.field-0-0-is c.in-Some-Word-Procedure-default.field-0-0-0-is c.next.ensures.read)) c.procedure.ensures
 
 pub type_within-returns-in-Some-Word-Record-default : goal.type_within-returns-in-Some-Word-Record-default
-type_within-returns-in-Some-Word-Record-default t c = rw (type_seen (expr_at c.args.depth) (type_at c.args.depth) _ _ (word_stands c.args.tokens.now _ c.args.input c.in-Some-Word-Record-default.rest _ _ kinds.Record c.in-Some-Word-Record-default.is c.in-Some-Word-Record-default.field-0-0-is c.in-Some-Word-Record-default.field-0-0-0-is c.next.ensures)) c.record.ensures
+type_within-returns-in-Some-Word-Record-default t c = rw (type_seen (expr_at c.args.depth) (type_at c.args.depth) _ _ (word_stands c.args.tokens.now _ c.args.input c.in-Some-Word-Record-default.rest _ _ kinds.Record c.in-Some-Word-Record-default.is c.in-Some-Word-Record-default.field-0-0-is c.in-Some-Word-Record-default.field-0-0-0-is c.next.ensures.read)) c.record.ensures
 
 pub type_within-returns-in_default : goal.type_within-returns-in_default
 unfolding type_with
@@ -83,4 +83,4 @@ type_within-returns-in_default t c = grind (arith, types_made)
 
 pub var_declaration-returns : goal.var_declaration-returns
 unfolding var_with
-var_declaration-returns t c = gives_boxed c.args.tokens.now var_outline _ _ c.boxed.result _ c.boxed.ensures.of c.boxed.ensures.refused (rw (c.in_ok-names.ensures, c.in_ok-here.ensures, c.in_ok-form.ensures, var_made c.in_ok-names.names c.into_inner-form.result, c.into_inner-form.ensures) refl)
+var_declaration-returns t c = gives_boxed c.args.tokens.now var_outline _ _ c.boxed.result _ c.boxed.ensures.of c.boxed.ensures.refused (rw (c.in_ok-names.ensures, c.in_ok-here.ensures.read, c.in_ok-form.ensures, var_made c.in_ok-names.names c.into_inner-form.result, c.into_inner-form.ensures) refl)

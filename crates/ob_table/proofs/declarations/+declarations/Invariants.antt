@@ -1,4 +1,4 @@
-use Rattle.std.proofs.Common.{◌+◌, ◌*◌, length}
+use Rattle.std.proofs.Common.{◌≡◌, ◌+◌, ◌*◌, length}
 use Rattle.ob_scan.specs.declared.kind.Kind.TheVariants as kinds
 use Rattle.ob_tree.specs.Declaring.{procedure_outline}
 use Rattle.ob_decls.specs.Declaring.{procedure_piece}
@@ -35,8 +35,7 @@ abbrev pub decreases-procedure_within : goal.decreases-procedure_within
 decreases-procedure_within l = 16 * l.depth + 7
 
 abbrev pub invariant-procedures-more : goal.invariant-procedures-more
-invariant-procedures-more l =
-    PieceListing l.fn.source.tokens.now (begins (is_word kinds.Procedure)) (with_semicolon (procedure_at l.depth)) (ended_outline procedure_outline) (ended_piece procedure_piece) l.inside l.initial.draft l.draft l.fn.input l.here
+invariant-procedures-more l = (PieceListing l.fn.source.tokens.now (begins (is_word kinds.Procedure)) (with_semicolon (procedure_at l.depth)) (ended_outline procedure_outline) (ended_piece procedure_piece) l.inside l.initial.draft l.draft l.fn.input l.here) × (l.draft.number ≡ l.here.at)
 
 abbrev pub decreases-procedures-more : goal.decreases-procedures-more
 decreases-procedures-more l = length (ahead l.fn.source.tokens.now l.here)

@@ -13,12 +13,12 @@ use Rattle.ob_table.proofs.Combine.{told_absent}
 use Rattle.ob_table.proofs.Behind.{word_there_told}
 use Rattle.ob_table.proofs.declarations.body.Goals as goal
 
-pub returns-in-None : goal.returns-in-None
+pub returns-in-None-clause-told : goal.returns-in-None-clause-told
 unfolding body_with
-returns-in-None c =
-    told_absent c.args.source.now.tokens.now body_outline (λ x. after (body_piece x) c.args.inside) None (accept_at kinds.Begin) _ _ c.args.input refl (λ s. after_nothing c.args.inside s) (sym c.accept.ensures ∙ ap (skipped c.args.source.now.tokens.now kinds.Begin) c.in-None.is)
+returns-in-None-clause-told c =
+    told_absent c.args.source.now.tokens.now body_outline (λ x. after (body_piece x) c.args.inside) None (accept_at kinds.Begin) _ _ c.args.input refl (λ s. after_nothing c.args.inside s) (sym c.accept.ensures.read ∙ ap (skipped c.args.source.now.tokens.now kinds.Begin) c.in-None.is)
 
-pub returns-in-Some : goal.returns-in-Some
+pub returns-in-Some-clause-told : goal.returns-in-Some-clause-told
 unfolding body_with
-returns-in-Some c =
-    word_there_told c.args.source.now.tokens.now c.args.inside kinds.Begin block_outline block_piece (block_at c.args.depth) _ _ _ c.args.input c.in-Some.rest _ (sym c.accept.ensures ∙ ap (skipped c.args.source.now.tokens.now kinds.Begin) c.in-Some.is) c.pass.ensures c.block.ensures
+returns-in-Some-clause-told c =
+    word_there_told c.args.source.now.tokens.now c.args.inside kinds.Begin block_outline block_piece (block_at c.args.depth) _ _ _ c.args.input c.in-Some.rest _ (sym c.accept.ensures.read ∙ ap (skipped c.args.source.now.tokens.now kinds.Begin) c.in-Some.is) c.pass.ensures.stage c.block.ensures.told

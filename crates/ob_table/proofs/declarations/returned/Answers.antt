@@ -12,10 +12,10 @@ use Rattle.ob_table.proofs.Combine.{told_absent}
 use Rattle.ob_table.proofs.Behind.{word_there_told}
 use Rattle.ob_table.proofs.declarations.returned.Goals as goal
 
-pub returns-in-None : goal.returns-in-None
-returns-in-None c =
-    told_absent c.args.source.now.tokens.now returned_outline (λ x. after (returned_piece x) c.args.inside) None (accept_at kinds.Return) _ _ c.args.input refl (λ s. after_nothing c.args.inside s) (sym c.accept.ensures ∙ ap (skipped c.args.source.now.tokens.now kinds.Return) c.in-None.is)
+pub returns-in-None-clause-told : goal.returns-in-None-clause-told
+returns-in-None-clause-told c =
+    told_absent c.args.source.now.tokens.now returned_outline (λ x. after (returned_piece x) c.args.inside) None (accept_at kinds.Return) _ _ c.args.input refl (λ s. after_nothing c.args.inside s) (sym c.accept.ensures.read ∙ ap (skipped c.args.source.now.tokens.now kinds.Return) c.in-None.is)
 
-pub returns-in-Some : goal.returns-in-Some
-returns-in-Some c =
-    word_there_told c.args.source.now.tokens.now c.args.inside kinds.Return expr_outline expr_piece (expr_at c.args.depth) _ _ _ c.args.input c.in-Some.rest _ (sym c.accept.ensures ∙ ap (skipped c.args.source.now.tokens.now kinds.Return) c.in-Some.is) c.pass.ensures c.expression.ensures
+pub returns-in-Some-clause-told : goal.returns-in-Some-clause-told
+returns-in-Some-clause-told c =
+    word_there_told c.args.source.now.tokens.now c.args.inside kinds.Return expr_outline expr_piece (expr_at c.args.depth) _ _ _ c.args.input c.in-Some.rest _ (sym c.accept.ensures.read ∙ ap (skipped c.args.source.now.tokens.now kinds.Return) c.in-Some.is) c.pass.ensures.stage c.expression.ensures.told

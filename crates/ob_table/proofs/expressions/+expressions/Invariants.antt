@@ -1,4 +1,4 @@
-use Rattle.std.proofs.Common.{◌+◌, ◌*◌, length}
+use Rattle.std.proofs.Common.{◌≡◌, ◌+◌, ◌*◌, length}
 use Rattle.ob_decls.specs.Expressions.{term_piece, factor_piece, element_piece}
 use Rattle.ob_parse.specs.Accords.{ahead}
 use Rattle.ob_parse.specs.ReadExpressions.{selector_with, expr_at}
@@ -57,19 +57,19 @@ abbrev pub decreases-designator : goal.decreases-designator
 decreases-designator l = 16 * l.depth + 7
 
 abbrev pub invariant-more_terms-more : goal.invariant-more_terms-more
-invariant-more_terms-more l = OperationListing l.fn.source.tokens.now (term_operations l.depth) term_piece l.inside l.initial.draft l.draft l.fn.input l.here
+invariant-more_terms-more l = (OperationListing l.fn.source.tokens.now (term_operations l.depth) term_piece l.inside l.initial.draft l.draft l.fn.input l.here) × (l.draft.number ≡ l.here.at)
 
 abbrev pub decreases-more_terms-more : goal.decreases-more_terms-more
 decreases-more_terms-more l = length (ahead l.fn.source.tokens.now l.here)
 
 abbrev pub invariant-more_factors-more : goal.invariant-more_factors-more
-invariant-more_factors-more l = OperationListing l.fn.source.tokens.now (factor_operations l.depth) factor_piece l.inside l.initial.draft l.draft l.fn.input l.here
+invariant-more_factors-more l = (OperationListing l.fn.source.tokens.now (factor_operations l.depth) factor_piece l.inside l.initial.draft l.draft l.fn.input l.here) × (l.draft.number ≡ l.here.at)
 
 abbrev pub decreases-more_factors-more : goal.decreases-more_factors-more
 decreases-more_factors-more l = length (ahead l.fn.source.tokens.now l.here)
 
 abbrev pub invariant-more_elements-more : goal.invariant-more_elements-more
-invariant-more_elements-more l = RepeatListing l.fn.source.tokens.now (elements l.depth) (behind_token element_piece) l.inside l.initial.draft l.draft l.fn.input l.here
+invariant-more_elements-more l = (RepeatListing l.fn.source.tokens.now (elements l.depth) (behind_token element_piece) l.inside l.initial.draft l.draft l.fn.input l.here) × (l.draft.number ≡ l.here.at)
 
 abbrev pub decreases-more_elements-more : goal.decreases-more_elements-more
 decreases-more_elements-more l = length (ahead l.fn.source.tokens.now l.here)
@@ -96,13 +96,13 @@ abbrev pub decreases-more_expressions : goal.decreases-more_expressions
 decreases-more_expressions l = 16 * l.depth + 1
 
 abbrev pub invariant-selectors-more : goal.invariant-selectors-more
-invariant-selectors-more l = ChosenListing l.fn.source.tokens.now (selector_with (expr_at l.depth)) l.inside l.head l.at l.place l.end l.fn.draft l.draft l.fn.input l.here
+invariant-selectors-more l = (ChosenListing l.fn.source.tokens.now (selector_with (expr_at l.depth)) l.inside l.head l.at l.place l.end l.fn.draft l.draft l.fn.input l.here) × (l.draft.number ≡ l.here.at)
 
 abbrev pub decreases-selectors-more : goal.decreases-selectors-more
 decreases-selectors-more l = length (ahead l.fn.source.tokens.now l.here)
 
 abbrev pub invariant-more_expressions-more : goal.invariant-more_expressions-more
-invariant-more_expressions-more l = FurtherListing l.fn.source.tokens.now (expr_at l.depth) l.inside l.count l.initial.draft l.draft l.fn.input l.here
+invariant-more_expressions-more l = (FurtherListing l.fn.source.tokens.now (expr_at l.depth) l.inside l.count l.initial.draft l.draft l.fn.input l.here) × (l.draft.number ≡ l.here.at)
 
 abbrev pub decreases-more_expressions-more : goal.decreases-more_expressions-more
 decreases-more_expressions-more l = length (ahead l.fn.source.tokens.now l.here)

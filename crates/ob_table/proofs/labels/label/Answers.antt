@@ -12,36 +12,36 @@ use Rattle.ob_table.proofs.LabelTrees.{label_seen, value_told, name_told}
 use Rattle.ob_parse.proofs.Fronts.{leaf_stands, value_stands}
 use Rattle.ob_table.proofs.labels.label.Goals as goal
 
-pub returns-in-Some-Name-default : goal.returns-in-Some-Name-default
-returns-in-Some-Name-default c =
-    let e = leaf_stands c.args.tokens.now _ c.args.input c.in-Some-Name-default.rest _ (leafs.Name c.in-Some-Name-default.number) c.in-Some-Name-default.is c.in-Some-Name-default.field-0-0-is c.next.ensures in
-    name_told c.args.tokens.now c.args.inside _ _ _ _ _ (label_seen _ _ e) c.qualident_after.ensures
+pub returns-in-Some-Name-default-clause-told : goal.returns-in-Some-Name-default-clause-told
+returns-in-Some-Name-default-clause-told c =
+    let e = leaf_stands c.args.tokens.now _ c.args.input c.in-Some-Name-default.rest _ (leafs.Name c.in-Some-Name-default.number) c.in-Some-Name-default.is c.in-Some-Name-default.field-0-0-is c.next.ensures.read in
+    name_told c.args.tokens.now c.args.inside _ _ _ _ _ (label_seen _ _ e) c.qualident_after.ensures.told
 
-pub returns-in-Some-Value-Integer-default-default : goal.returns-in-Some-Value-Integer-default-default
-returns-in-Some-Value-Integer-default-default c =
+pub returns-in-Some-Value-Integer-default-default-clause-told : goal.returns-in-Some-Value-Integer-default-default-clause-told
+returns-in-Some-Value-Integer-default-default-clause-told c =
     let at = c.in-Some-Value-Integer-default-default in
-    let e = value_stands c.args.tokens.now _ c.args.input at.rest _ _ literals.Integer at.field-0-0-1 at.is at.field-0-0-is at.field-0-0-0-is c.next.ensures in
+    let e = value_stands c.args.tokens.now _ c.args.input at.rest _ _ literals.Integer at.field-0-0-1 at.is at.field-0-0-is at.field-0-0-0-is c.next.ensures.read in
     value_told c.args.tokens.now c.args.inside _ _ c.pass_token.result (case_label_at (ahead c.args.tokens.now c.args.input)) (Value literals.Integer at.field-0-0-1 ∷ []) (labels.Integer at.field-0-0-1)
     (label_seen _ _ e ∙ ap (λ (i : Cursor). Ok (Value literals.Integer at.field-0-0-1 ∷ [], ahead c.args.tokens.now i)) (sym c.pass_token.ensures.cursor))
-    (shown.integer_label at.field-0-0-1) (told.integer_label at.field-0-0-1) c.pass_token.ensures.passed
+    (shown.integer_label at.field-0-0-1) (told.integer_label at.field-0-0-1) c.pass_token.ensures.stage
 
-pub returns-in-Some-Value-Text-default-default : goal.returns-in-Some-Value-Text-default-default
-returns-in-Some-Value-Text-default-default c =
+pub returns-in-Some-Value-Text-default-default-clause-told : goal.returns-in-Some-Value-Text-default-default-clause-told
+returns-in-Some-Value-Text-default-default-clause-told c =
     let at = c.in-Some-Value-Text-default-default in
     let passed = c.pass_token-in-Some-Value-Text-default-default in
-    let e = value_stands c.args.tokens.now _ c.args.input at.rest _ _ literals.Text at.field-0-0-1 at.is at.field-0-0-is at.field-0-0-0-is c.next.ensures in
+    let e = value_stands c.args.tokens.now _ c.args.input at.rest _ _ literals.Text at.field-0-0-1 at.is at.field-0-0-is at.field-0-0-0-is c.next.ensures.read in
     value_told c.args.tokens.now c.args.inside _ _ passed.result (case_label_at (ahead c.args.tokens.now c.args.input)) (Value literals.Text at.field-0-0-1 ∷ []) (labels.Text at.field-0-0-1)
     (label_seen _ _ e ∙ ap (λ (i : Cursor). Ok (Value literals.Text at.field-0-0-1 ∷ [], ahead c.args.tokens.now i)) (sym passed.ensures.cursor))
-    (shown.text_label at.field-0-0-1) (told.text_label at.field-0-0-1) passed.ensures.passed
+    (shown.text_label at.field-0-0-1) (told.text_label at.field-0-0-1) passed.ensures.stage
 
-pub returns-in_default : goal.returns-in_default
+pub returns-in_default-clause-told : goal.returns-in_default-clause-told
 unfolding case_label_at
-returns-in_default c = grind arith
+returns-in_default-clause-told c = grind arith
 
-pub returns-in_default-2 : goal.returns-in_default-2
+pub returns-in_default-2-clause-told : goal.returns-in_default-2-clause-told
 unfolding case_label_at
-returns-in_default-2 c = grind arith
+returns-in_default-2-clause-told c = grind arith
 
-pub returns-in_default-3 : goal.returns-in_default-3
+pub returns-in_default-3-clause-told : goal.returns-in_default-3-clause-told
 unfolding case_label_at
-returns-in_default-3 c = grind arith
+returns-in_default-3-clause-told c = grind arith

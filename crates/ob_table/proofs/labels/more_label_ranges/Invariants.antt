@@ -1,4 +1,4 @@
-use Rattle.std.proofs.Common.{length}
+use Rattle.std.proofs.Common.{◌≡◌, length}
 use Rattle.ob_decls.specs.Statements.{label_range_piece}
 use Rattle.ob_parse.specs.Accords.{ahead}
 use Rattle.ob_parse.proofs.Repetitions.{label_ranges}
@@ -6,7 +6,7 @@ use Rattle.ob_table.proofs.Lists.{behind_token, RepeatListing}
 use Rattle.ob_table.proofs.labels.more_label_ranges.Given as goal
 
 abbrev pub invariant-more : goal.invariant-more
-invariant-more l = RepeatListing l.fn.tokens label_ranges (behind_token label_range_piece) l.inside l.initial.draft l.draft l.fn.input l.here
+invariant-more l = (RepeatListing l.fn.tokens label_ranges (behind_token label_range_piece) l.inside l.initial.draft l.draft l.fn.input l.here) × (l.draft.number ≡ l.here.at)
 
 abbrev pub decreases-more : goal.decreases-more
 decreases-more l = length (ahead l.fn.tokens l.here)

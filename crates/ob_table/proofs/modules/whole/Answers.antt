@@ -8,13 +8,13 @@ use Rattle.ob_table.proofs.modules.whole.Goals as goal
 
 pub returns-in-None : goal.returns-in-None
 returns-in-None c =
-    whole_told c.args.source.now.tokens.now module_outline (λ m. after (module_piece m) c.args.inside) c.args.depth _ _ c.in-Ok.here _ c.in-Ok.ensures
-    (sym c.next.ensures ∙ ap (seen c.args.source.now.tokens.now) c.in-None.is)
+    whole_told c.args.source.now.tokens.now module_outline (λ m. after (module_piece m) c.args.inside) c.args.depth _ _ c.in-Ok.here _ c.in-Ok.ensures.told
+    (sym c.next.ensures.read ∙ ap (seen c.args.source.now.tokens.now) c.in-None.is)
 
 pub returns-in-Some : goal.returns-in-Some
 returns-in-Some c =
-    whole_left c.args.source.now.tokens.now module_outline (λ m. after (module_piece m) c.args.inside) c.args.depth _ _ c.in-Ok.here (ahead c.args.source.now.tokens.now c.args.input) _ c.in-Ok.ensures
-    (sym c.next.ensures ∙ ap (seen c.args.source.now.tokens.now) c.in-Some.is)
+    whole_left c.args.source.now.tokens.now module_outline (λ m. after (module_piece m) c.args.inside) c.args.depth _ _ c.in-Ok.here (ahead c.args.source.now.tokens.now c.args.input) _ c.in-Ok.ensures.told
+    (sym c.next.ensures.read ∙ ap (seen c.args.source.now.tokens.now) c.in-Some.is)
 
 pub returns-in-Err : goal.returns-in-Err
-returns-in-Err c = whole_failed c.args.source.now.tokens.now c.args.depth c.in-Err.stop _ c.in-Err.ensures
+returns-in-Err c = whole_failed c.args.source.now.tokens.now c.args.depth c.in-Err.stop _ c.in-Err.ensures.told

@@ -6,8 +6,8 @@ use Rattle.ob_table.proofs.Behind.{word_told}
 use Rattle.ob_table.proofs.Combine.{failed_then}
 use Rattle.ob_table.proofs.parameters.closing.Goals as goal
 
-pub returns-in-Ok : goal.returns-in-Ok
-returns-in-Ok c = word_told c.args.tokens.now c.args.inside kinds.RightParen answer_outline answer_piece (optional (accept_at kinds.Colon) qualident_at) _ _ _ c.args.input c.in-Ok.here _ c.in-Ok.ensures c.result_type.ensures
+pub returns-in-Ok-clause-told : goal.returns-in-Ok-clause-told
+returns-in-Ok-clause-told c = word_told c.args.tokens.now c.args.inside kinds.RightParen answer_outline answer_piece (optional (accept_at kinds.Colon) qualident_at) _ _ _ c.args.input c.in-Ok.here _ c.in-Ok.ensures.told c.result_type.ensures.told
 
-pub returns-in-Err : goal.returns-in-Err
-returns-in-Err c = failed_then c.args.tokens.now (expect_at kinds.RightParen) (optional (accept_at kinds.Colon) qualident_at) _ _ c.in-Err.ensures
+pub returns-in-Err-clause-told : goal.returns-in-Err-clause-told
+returns-in-Err-clause-told c = failed_then c.args.tokens.now (expect_at kinds.RightParen) (optional (accept_at kinds.Colon) qualident_at) _ _ c.in-Err.ensures.told

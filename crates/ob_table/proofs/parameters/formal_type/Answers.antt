@@ -8,9 +8,9 @@ use Rattle.ob_table.proofs.Behind.{pair_told}
 use Rattle.ob_table.proofs.Combine.{failed_then}
 use Rattle.ob_table.proofs.parameters.formal_type.Goals as goal
 
-pub returns-in-Ok : goal.returns-in-Ok
-returns-in-Ok c =
-    pair_told c.args.tokens.now c.args.inside arrays_outline open_arrays qualident_outline formal_name_piece (many (accept_at kinds.Array) (expect_at kinds.Of)) qualident_at _ _ _ c.args.input c.in-Ok.here _ c.in-Ok.ensures c.formal_name.ensures
+pub returns-in-Ok-clause-told : goal.returns-in-Ok-clause-told
+returns-in-Ok-clause-told c =
+    pair_told c.args.tokens.now c.args.inside arrays_outline open_arrays qualident_outline formal_name_piece (many (accept_at kinds.Array) (expect_at kinds.Of)) qualident_at _ _ _ c.args.input c.in-Ok.here _ c.in-Ok.ensures.told c.formal_name.ensures.told
 
-pub returns-in-Err : goal.returns-in-Err
-returns-in-Err c = failed_then c.args.tokens.now (many (accept_at kinds.Array) (expect_at kinds.Of)) qualident_at _ _ c.in-Err.ensures
+pub returns-in-Err-clause-told : goal.returns-in-Err-clause-told
+returns-in-Err-clause-told c = failed_then c.args.tokens.now (many (accept_at kinds.Array) (expect_at kinds.Of)) qualident_at _ _ c.in-Err.ensures.told

@@ -9,12 +9,12 @@ use Rattle.ob_parse.proofs.Loops.{has_begun, has_not_begun}
 use Rattle.ob_table.proofs.Behind.{absent_told, there_told}
 use Rattle.ob_table.proofs.parameters.some_parameters.Goals as goal
 
-pub returns-then-is_at : goal.returns-then-is_at
+pub returns-then-is_at-clause-told : goal.returns-then-is_at-clause-told
 unfolding some_parameters_at
-returns-then-is_at c =
-    there_told c.args.tokens.now c.args.inside parameters_outline parameters_piece (begins (is_word kinds.LeftParen)) parameters_at _ _ c.args.input _ (has_begun (is_word kinds.LeftParen) _ (sym c.is_at.ensures ∙ c.if-is_at.true)) c.parameters.ensures
+returns-then-is_at-clause-told c =
+    there_told c.args.tokens.now c.args.inside parameters_outline parameters_piece (begins (is_word kinds.LeftParen)) parameters_at _ _ c.args.input _ (has_begun (is_word kinds.LeftParen) _ (sym c.is_at.ensures ∙ c.if-is_at.true)) c.parameters.ensures.told
 
-pub returns : goal.returns
+pub returns-clause-told : goal.returns-clause-told
 unfolding some_parameters_at
-returns c =
+returns-clause-told c =
     absent_told c.args.tokens.now c.args.inside parameters_outline parameters_piece (begins (is_word kinds.LeftParen)) parameters_at _ c.args.input (has_not_begun (is_word kinds.LeftParen) _ (sym c.is_at.ensures ∙ c.if-is_at.false))

@@ -6,9 +6,9 @@ use Rattle.ob_table.proofs.Behind.{word_told}
 use Rattle.ob_table.proofs.Combine.{failed_then}
 use Rattle.ob_table.proofs.parameters.typed.Goals as goal
 
-pub returns-in-Ok : goal.returns-in-Ok
-returns-in-Ok c =
-    word_told c.args.tokens.now c.args.inside kinds.Colon formal_outline formal_piece (seq (many (accept_at kinds.Array) (expect_at kinds.Of)) qualident_at) _ _ _ c.args.input c.in-Ok.here _ c.in-Ok.ensures c.formal_type.ensures
+pub returns-in-Ok-clause-told : goal.returns-in-Ok-clause-told
+returns-in-Ok-clause-told c =
+    word_told c.args.tokens.now c.args.inside kinds.Colon formal_outline formal_piece (seq (many (accept_at kinds.Array) (expect_at kinds.Of)) qualident_at) _ _ _ c.args.input c.in-Ok.here _ c.in-Ok.ensures.told c.formal_type.ensures.told
 
-pub returns-in-Err : goal.returns-in-Err
-returns-in-Err c = failed_then c.args.tokens.now (expect_at kinds.Colon) (seq (many (accept_at kinds.Array) (expect_at kinds.Of)) qualident_at) _ _ c.in-Err.ensures
+pub returns-in-Err-clause-told : goal.returns-in-Err-clause-told
+returns-in-Err-clause-told c = failed_then c.args.tokens.now (expect_at kinds.Colon) (seq (many (accept_at kinds.Array) (expect_at kinds.Of)) qualident_at) _ _ c.in-Err.ensures.told

@@ -4,8 +4,8 @@ use Rattle.ob_table.proofs.Mended.{none_removed}
 use Rattle.ob_table.proofs.places.close_places.Goals as goal
 use Rattle.ob_table.proofs.places.close_places.Goals.{else-place-end-via-then-place-end+else-not-draft, else-place-end-via-else-place-end}
 
-pub returns-else-place-end : goal.returns-else-place-end
-returns-else-place-end c = λ e.
+pub returns-else-place-end-clause-stage : goal.returns-else-place-end-clause-stage
+returns-else-place-end-clause-stage c = λ e.
     let r = c.requires e in
     elim c.else-place-end.branch [
       | else-place-end-via-then-place-end+else-not-draft w ↦ let a = w.if-not-draft.false in absurd cc

@@ -1,8 +1,10 @@
-use Rattle.std.proofs.Common.{List, arith, ap, subst, ◌∙◌, length}
+use Rattle.std.proofs.Common.{List, arith, ap, subst, sym, ◌∙◌, length}
 use Rattle.ob_scan.proofs.Places.{spelled_in_text}
 use Rattle.ob_scan.specs.declared.token.Token.{Token}
 use Rattle.ob_tree.specs.Marks.{Out}
 use Rattle.ob_decls.specs.Declaring.{module_piece, outermost}
+use Rattle.ob_rows.specs.Drafts.{Stage}
+use Rattle.ob_rows.proofs.Steps.{number_of}
 use Rattle.ob_rows.proofs.TableRows.{rows_after}
 use Rattle.ob_parse.specs.Accords.{Fails}
 use Rattle.ob_parse.specs.Parsed.{kinds_of, read_left}
@@ -15,10 +17,13 @@ overflow_cast-list c =
     let placed = spelled_in_text c.args.bytes.now c.args.tokens.now c.requires.1 in
     omega (arith, placed.few, c.requires.0, ap length c.as_slice-list.ensures)
 
-pub pass_all-requires : goal.pass_all-requires
-pass_all-requires c =
+pub pass_all-requires-clause-few : goal.pass_all-requires-clause-few
+pass_all-requires-clause-few c =
     let placed = spelled_in_text c.args.bytes.now c.args.tokens.now c.requires.1 in
     omega (arith, placed.few, c.requires.0, ap length c.as_slice-list.ensures)
+
+pub pass_all-requires-clause-number : goal.pass_all-requires-clause-number
+pass_all-requires-clause-number c = sym (number_of c.new-draft.result) ∙ ap (λ (s : Stage). s.number) c.new-draft.ensures
 
 pub returns-in-Err-clause-fault : goal.returns-in-Err-clause-fault
 returns-in-Err-clause-fault c =

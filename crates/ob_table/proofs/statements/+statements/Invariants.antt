@@ -1,4 +1,4 @@
-use Rattle.std.proofs.Common.{◌+◌, ◌*◌, length}
+use Rattle.std.proofs.Common.{◌≡◌, ◌+◌, ◌*◌, length}
 use Rattle.ob_decls.specs.Statements.{branch_piece, case_piece, stmt_piece}
 use Rattle.ob_parse.specs.Accords.{ahead}
 use Rattle.ob_parse.proofs.Repetitions.{branches, cases, statements}
@@ -57,19 +57,19 @@ abbrev pub decreases-statement_within : goal.decreases-statement_within
 decreases-statement_within l = 16 * l.depth + 7
 
 abbrev pub invariant-more_statements-more : goal.invariant-more_statements-more
-invariant-more_statements-more l = RepeatListing l.fn.source.tokens.now (statements l.depth) (behind_token stmt_piece) l.inside l.initial.draft l.draft l.fn.input l.here
+invariant-more_statements-more l = (RepeatListing l.fn.source.tokens.now (statements l.depth) (behind_token stmt_piece) l.inside l.initial.draft l.draft l.fn.input l.here) × (l.draft.number ≡ l.here.at)
 
 abbrev pub decreases-more_statements-more : goal.decreases-more_statements-more
 decreases-more_statements-more l = length (ahead l.fn.source.tokens.now l.here)
 
 abbrev pub invariant-more_branches-more : goal.invariant-more_branches-more
-invariant-more_branches-more l = RepeatListing l.fn.source.tokens.now (branches l.depth l.keyword) (behind_token branch_piece) l.inside l.initial.draft l.draft l.fn.input l.here
+invariant-more_branches-more l = (RepeatListing l.fn.source.tokens.now (branches l.depth l.keyword) (behind_token branch_piece) l.inside l.initial.draft l.draft l.fn.input l.here) × (l.draft.number ≡ l.here.at)
 
 abbrev pub decreases-more_branches-more : goal.decreases-more_branches-more
 decreases-more_branches-more l = length (ahead l.fn.source.tokens.now l.here)
 
 abbrev pub invariant-more_cases-more : goal.invariant-more_cases-more
-invariant-more_cases-more l = RepeatListing l.fn.source.tokens.now (cases l.depth) (behind_token case_piece) l.inside l.initial.draft l.draft l.fn.input l.here
+invariant-more_cases-more l = (RepeatListing l.fn.source.tokens.now (cases l.depth) (behind_token case_piece) l.inside l.initial.draft l.draft l.fn.input l.here) × (l.draft.number ≡ l.here.at)
 
 abbrev pub decreases-more_cases-more : goal.decreases-more_cases-more
 decreases-more_cases-more l = length (ahead l.fn.source.tokens.now l.here)

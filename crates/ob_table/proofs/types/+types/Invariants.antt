@@ -1,4 +1,4 @@
-use Rattle.std.proofs.Common.{◌+◌, ◌*◌, length}
+use Rattle.std.proofs.Common.{◌≡◌, ◌+◌, ◌*◌, length}
 use Rattle.ob_parse.specs.Accords.{ahead}
 use Rattle.ob_parse.proofs.Repetitions.{field_lists}
 use Rattle.ob_table.specs.TypeShapes.{field_piece}
@@ -45,7 +45,7 @@ abbrev pub decreases-type_within : goal.decreases-type_within
 decreases-type_within l = 16 * l.depth + 10
 
 abbrev pub invariant-more_fields-more : goal.invariant-more_fields-more
-invariant-more_fields-more l = RepeatListing l.fn.source.tokens.now (field_lists l.depth) (behind_token field_piece) l.inside l.initial.draft l.draft l.fn.input l.here
+invariant-more_fields-more l = (RepeatListing l.fn.source.tokens.now (field_lists l.depth) (behind_token field_piece) l.inside l.initial.draft l.draft l.fn.input l.here) × (l.draft.number ≡ l.here.at)
 
 abbrev pub decreases-more_fields-more : goal.decreases-more_fields-more
 decreases-more_fields-more l = length (ahead l.fn.source.tokens.now l.here)
