@@ -109,7 +109,7 @@ fn whole<E: Drop>(alloc: Global, gathered: Vec<Option<E>>) -> Result<Vec<E>, All
 
 /// The entries by number, of a board that its workers have left: one worker alone makes those that are missing, claimed
 /// ones too. So an entry is missing only where memory is refused, here or to a worker that abandoned its module.
-pub fn finish<T: NamedTree, W: Work>(
+pub(crate) fn finish<T: NamedTree, W: Work>(
     alloc: Global,
     mut board: Board<'_, T, W::Entry>,
     work: &W,

@@ -8,7 +8,7 @@ mod gate;
 mod work;
 mod workers;
 
-pub use alone::{entries_alone, finish};
+pub use alone::entries_alone;
 pub use gate::BoardGate;
 pub use work::Work;
 pub use workers::entries;

@@ -6,7 +6,8 @@ ghost use Rattle.work_board.specs.Graphs.{IsAcyclic};
 ghost use Rattle.work_board.specs.Cores.{IsOver};
 ghost use Rattle.board_workers.specs.Parts.{AreEntries, IsJob};
 
-use crate::{BoardGate, Work, finish};
+use crate::alone::finish;
+use crate::{BoardGate, Work};
 use std::alloc::{AllocError, Global};
 use std::marker::Brand;
 use std::sync::{Arc, Condvar, Mutex, MutexGuard, Wait};

@@ -69,7 +69,7 @@ pub module_after : (m : Module) (c : Context) (s : Stage) → after (module_piec
     (after (if_there imports_piece m.imports) c (passed (passed (passed s))))))))
 module_after m c s = simp (module_out m, after_both, after_token)
 
-pub ruleset sections_made = (steps, after_declaring, added_number, import_inner_out, import_out, imports_out)
+pub ruleset sections_made = (steps, after_declaring, added_number, import_inner_out, import_out)
 
 abbrev pub procedure_shown : ProcedureLayer → Piece
 procedure_shown p = declaring sorts.Procedure (opens_block (

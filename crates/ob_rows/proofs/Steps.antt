@@ -1,16 +1,11 @@
 -- How a table grows, part by part.
 use Rattle.std.proofs.Common.{◌≡◌, ℕ, zero, suc, ◌+◌, ◌-◌, ◌≤◌, List, [], ◌∷◌, ◌++◌, length, set, refl, sym, ap, append_assoc, map, arith}
-use Rattle.std.proofs.lemmas.List.{append-nil, set_at, take_all}
-use Rattle.std.proofs.lemmas.Grind.{take_at_read}
+use Rattle.std.proofs.lemmas.List.{append-nil, set_at}
 use Rattle.ob_rows.specs.declared.rows.Sort.{Sort}
-use Rattle.ob_rows.specs.declared.rows.Declarer.{Declarer}
 use Rattle.ob_rows.specs.declared.draft.Context.{Context}
 use Rattle.ob_rows.specs.Parts.{Piece, Rows, no_rows, joined, nothing, token, both, tells, within, each, declarer, declaring, declaring_at, one_declarer}
 use Rattle.ob_rows.specs.declared.draft.Draft.{Draft}
 use Rattle.ob_rows.specs.Drafts.{Stage, stage_of, after, passed, added, closed}
-
-abbrev rows_with : List Declarer → Rows → Rows
-rows_with ds r = record r { declarers = ds }
 
 joined_assoc : (a b c : Rows) → joined (joined a b) c ≡ joined a (joined b c)
 unfolding joined
@@ -87,11 +82,7 @@ pub added_number : (r : Rows) (s : Stage) → (added r s).number ≡ s.number
 unfolding added
 added_number r s = refl
 
-pub added_none : (s : Stage) → added no_rows s ≡ s
-unfolding added
-added_none s = stage _ _ _ _ refl (joined_none s.rows)
-
-pub ruleset steps = (number_of, declarers_of, append_assoc, take_at_read, take_all, after_nothing, after_token, after_both, after_tells, after_within, after_each)
+pub ruleset steps = (number_of, declarers_of, append_assoc, after_nothing, after_token, after_both, after_tells, after_within)
 
 -- a row at the end of one list, and none in the others
 pub ruleset growing = (append-nil, set_beyond)

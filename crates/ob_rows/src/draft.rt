@@ -82,6 +82,7 @@ impl Draft {
         requires { self.old.number + 1 < 2 ^ 32 }
         ensures stage { ComesTo passed self.old self.new }
         ensures number { self.new.number ≡ self.old.number + 1 }
+        ensures refused { self.new.refused ≡ self.old.refused }
     {
         self.number += 1;
     }
@@ -172,6 +173,7 @@ impl Draft {
     pub fn settle(&mut self, at: usize, row: Selector)
         ensures stage { ComesTo (settled at row) self.old self.new }
         ensures number { self.new.number ≡ self.old.number }
+        ensures refused { self.new.refused ≡ self.old.refused }
     {
         if at < self.selectors.len() {
             self.selectors[at] = row;
@@ -195,6 +197,7 @@ impl Draft {
     pub fn close(&mut self, at: usize, row: Declarer)
         ensures stage { ComesTo (closed at row) self.old self.new }
         ensures number { self.new.number ≡ self.old.number }
+        ensures refused { self.new.refused ≡ self.old.refused }
     {
         if at < self.declarers.len() {
             self.declarers[at] = Declarer {

@@ -163,24 +163,24 @@ told_left ts k old new here (Ok rest) t = record {
 told_left ts k old new here (Err e) t = t
 
 -- the name that was seen between two tokens
-abbrev LoneSeen : List Token → Cursor → Cursor → Option TypeName → ℕ → Type 0
-LoneSeen ts input here name opening = (ls : List Leaf) → ahead ts input ≡ ls ++ ahead ts here → 0 < length (ahead ts here) → name ≡ lone_of ls (opening + 1)
+abbrev LoneSeen : List Token → Cursor → Cursor → Option TypeName → Type 0
+LoneSeen ts input here name = (ls : List Leaf) → ahead ts input ≡ ls ++ ahead ts here → 0 < length (ahead ts here) → name ≡ lone_of ls input.at
 
 call_picked : Option (Box ExprList) → Picked false
 call_picked o = record { selector = selectors.Arguments o; named = ap (λ (x : Selected). is_there x.name) (told.arguments_made o) }
 
-pub call_told : (ts : List Token) (c : Context) (d : ℕ) (head at opening : ℕ) (name : Option TypeName) (old mid list late new : Draft) (input here : Cursor) (result : Result Cursor Stop) →
-    opening ≡ old.number → (old.refused ≡ false → at < length old.selectors.items) → ComesTo passed old mid →
+pub call_told : (ts : List Token) (c : Context) (d : ℕ) (head at : ℕ) (name : Option TypeName) (old mid list late new : Draft) (input here : Cursor) (result : Result Cursor Stop) →
+    old.number + 1 ≡ input.at → (old.refused ≡ false → at < length old.selectors.items) → ComesTo passed old mid →
     Told ts arguments_outline (λ x. after (arguments_piece x) c) mid list here (optional (unless kinds.RightParen) (several kinds.Comma (expr_at d)) (ahead ts input)) →
-    LoneSeen ts input here name opening → ComesTo (settled at (record { of = head; step = steps.Arguments name })) list late →
+    LoneSeen ts input here name → ComesTo (settled at (record { of = head; step = steps.Arguments name })) list late →
     TabulatesBy ts (λ (x : Unit {0}). word kinds.RightParen) (λ x s. passed s) late new result (expect_at kinds.RightParen (ahead ts here)) →
     TabulatesBy {T = Picked false} ts picked_outline (picking head at c) old new result
     (node constructs.Selector (prefixed (word kinds.LeftParen) (seq (optional (unless kinds.RightParen) (several kinds.Comma (expr_at d))) (expect_at kinds.RightParen))) (ahead ts input))
 unfolding call_picked
-call_told ts c d head at opening name old mid list late new input here result opens known h a seen k b =
+call_told ts c d head at name old mid list late new input here result opens known h a seen k b =
     let r : Reader = optional (unless kinds.RightParen) (several kinds.Comma (expr_at d)) in
     let row : SelectorRow = record { of = head; step = steps.Arguments name } in
-    let Seen : Type 0 = Spelt ts arguments_outline input here × LoneSeen ts input here name opening in
+    let Seen : Type 0 = Spelt ts arguments_outline input here × LoneSeen ts input here name in
     let Left : Type 0 = 0 < length (ahead ts here) in
     told_at ts (λ (x : Seen × Left). construct constructs.Selector (word kinds.LeftParen ++ (arguments_outline x.0.0.tree ++ word kinds.RightParen)))
     (λ x s. after (both token (both (arguments_piece x.0.0.tree) token)) c (settled at row s)) picked_outline (picking head at c) (λ x. call_picked x.0.0.tree)
@@ -189,7 +189,7 @@ call_told ts c d head at opening name old mid list late new input here result op
     let s = stage_of old in
     let o = x.0.0.tree in
     let same : between o s.number ≡ name =
-    lone_between o s.number ∙ ap (λ (n : ℕ). lone_of (tokens_of (arguments_outline o)) (n + 1)) (number_of old ∙ sym opens) ∙ sym (x.0.1 (tokens_of (arguments_outline o)) x.0.0.spelt x.1) in
+    lone_between o s.number ∙ ap (λ (n : ℕ). lone_of (tokens_of (arguments_outline o)) (n + 1)) (number_of old) ∙ ap (lone_of (tokens_of (arguments_outline o))) opens ∙ sym (x.0.1 (tokens_of (arguments_outline o)) x.0.0.spelt x.1) in
     picking_shown head at c (call_picked o) (told.selector_shown (layers.Arguments o)) s (told.arguments_made o)
     ∙ ap (λ (n : Option TypeName). after (both token (both (arguments_piece o) token)) c (settled at (record { of = head; step = steps.Arguments n }) s)) same)
     (told_settled Left ts (λ (x : Seen). arguments_outline x.0.tree) (λ x. arguments_piece x.0.tree) c kinds.LeftParen kinds.RightParen r at row old mid list late new input here result known h

@@ -24,7 +24,7 @@ use Rattle.ob_parse.specs.declared.cursor.Cursor.{Cursor}
 use Rattle.ob_parse.specs.declared.stop.Stop.{Stop}
 use Rattle.ob_parse.specs.declared.stop.Stop.TheVariants as stops
 use Rattle.ob_parse.specs.Front.{uncons}
-use Rattle.ob_parse.specs.Forms.{Refusal, Unexpected, Read, Reader, ◌>>=◌, seq, several, prefixed, accept_at, expect_at, identifier_at, name_at}
+use Rattle.ob_parse.specs.Forms.{Unexpected, Read, Reader, ◌>>=◌, seq, several, prefixed, accept_at, expect_at, identifier_at, name_at}
 use Rattle.ob_parse.specs.Accords.{Fails, ahead}
 use Rattle.ob_parse.specs.ReadStatements.{block_at}
 use Rattle.ob_parse.specs.ReadModules.{import_item_at, imports_at, with_semicolon, declarations_at, body_with, module_behind_name, name_then, module_at, nothing_left, all_of}
@@ -122,9 +122,6 @@ module_told ts n d c old first second new input here rest result t e h u =
     (told_behind ts (behind_shown n) (behind_step c) passed first second new result (module_behind_name d n (ahead ts rest)) h u)))))
 
 -- ---- all of the tokens
-
-abbrev all_out : Out → Result Out Refusal
-all_out o = Ok o
 
 left_none : (o : Out) (left : Option (Leaf × List Leaf)) → left ≡ None → nothing_left o left ≡ Ok o
 left_none o left e = rw e refl

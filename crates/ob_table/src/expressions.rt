@@ -611,11 +611,10 @@ fn call(
         (node constructs.Selector (prefixed (word kinds.LeftParen) (seq (optional (unless kinds.RightParen) (several kinds.Comma (expr_at depth))) (expect_at kinds.RightParen))) (ahead source.now.tokens.now input)) }
     ensures number { IfOk result (λ rest. draft.new.number ≡ rest.at) }
 {
-    let opening = draft.number;
     draft.pass();
     match arguments(draft, inside, source, input, depth) {
         Ok(here) => {
-            let name = lone_name(source.tokens, input, here, opening);
+            let name = lone_name(source.tokens, input, here);
             draft.settle(
                 place,
                 SelectorRow {
@@ -693,6 +692,7 @@ fn more_expressions(
         match expression(draft, inside, source, behind, depth) {
             Ok(next) => {
                 here = next;
+                // Each turn has passed a comma, so no count comes to the bound; of a draft that was refused that isn't known.
                 count = u32::saturating_add(count, 1);
             }
             Err(stop) => return Err(stop),

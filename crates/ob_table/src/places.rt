@@ -57,6 +57,7 @@ pub(crate) fn selectors_ahead(source: &Source, input: Cursor) -> u32 {
 /// A name, if a dot stands here; which one doesn't matter.
 pub(crate) fn name_ahead(tokens: &[Token], input: Cursor) -> Option<u32>
     ensures dot { is_there result ≡ dot_at tokens.now input }
+    // The dot has a number, so the one behind it fits.
     ensures number { input.at + name_width result ≤ 2 ^ 32 + 1 }
 {
     match input.next(tokens) {
@@ -160,25 +161,19 @@ pub(crate) fn write_designator(draft: &mut Draft, at: usize, row: DesignatorRow)
     }
 }
 
-/// The name that stands alone from the one token to the other, behind a parenthesis of this number.
-pub(crate) fn lone_name(
-    tokens: &[Token],
-    input: Cursor,
-    here: Cursor,
-    opening: u32,
-) -> Option<TypeName>
-    requires { opening + 1 ≡ input.at }
-    ensures { (ls : List Leaf) → ahead tokens.now input ≡ ls ++ ahead tokens.now here → 0 < length (ahead tokens.now here) → result ≡ lone_of ls (opening + 1) }
+/// The name that stands alone from the one token to the other.
+pub(crate) fn lone_name(tokens: &[Token], input: Cursor, here: Cursor) -> Option<TypeName>
+    ensures { (ls : List Leaf) → ahead tokens.now input ≡ ls ++ ahead tokens.now here → 0 < length (ahead tokens.now here) → result ≡ lone_of ls input.at }
 {
     match lone_end(tokens, input, here) {
         Lone::No => None,
         Lone::Bare => Some(TypeName {
-            head: opening + 1,
+            head: input.number(),
             member: None,
         }),
         Lone::Dotted => Some(TypeName {
-            head: opening + 1,
-            member: Some(opening + 3),
+            head: input.number(),
+            member: Some(input.number() + 2),
         }),
     }
 }

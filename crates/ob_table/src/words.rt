@@ -1,6 +1,5 @@
 //! One token: read and passed.
 
-ghost use Rattle.ob_scan.specs.declared.kind.Kind.{Kind};
 ghost use Rattle.ob_tree.specs.Marks.{word};
 ghost use Rattle.std.specs.Prelude.{◌≡◌, ◌+◌, IfOk};
 ghost use Rattle.ob_rows.specs.Drafts.{after, passed, ComesTo};

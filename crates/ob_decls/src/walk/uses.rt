@@ -11,7 +11,7 @@ use ob_rows::{Designator, Used};
 use ob_tree::name::Qualident;
 
 /// The name behind a dot that follows this token, if one does.
-pub fn member_at(member: Option<u32>, head: u32) -> Option<u32>
+pub(crate) fn member_at(member: Option<u32>, head: u32) -> Option<u32>
     requires { head + name_width member ≤ 2 ^ 32 }
     ensures { result ≡ behind_dot member head }
 {

@@ -321,7 +321,7 @@ index-returns-in-Err-clause-told t c = between_failed c.args.source.now.tokens.n
 
 pub call-returns-in-Ok-clause-told : goal.call-returns-in-Ok-clause-told
 call-returns-in-Ok-clause-told t c =
-    call_told c.args.source.now.tokens.now c.args.inside c.args.depth c.args.head c.args.place _ _ _ _ _ _ _ c.args.input c.in-Ok.here _ refl c.requires.place c.pass.ensures.stage c.in-Ok.ensures.told c.lone_name-name.ensures c.settle.ensures.stage c.pass_word.ensures.told
+    call_told c.args.source.now.tokens.now c.args.inside c.args.depth c.args.head c.args.place _ _ _ _ _ _ c.args.input c.in-Ok.here _ c.requires.number c.requires.place c.pass.ensures.stage c.in-Ok.ensures.told c.lone_name-name.ensures c.settle.ensures.stage c.pass_word.ensures.told
 
 pub call-returns-in-Err-clause-told : goal.call-returns-in-Err-clause-told
 call-returns-in-Err-clause-told t c = between_failed c.args.source.now.tokens.now constructs.Selector (word kinds.LeftParen) (optional (unless kinds.RightParen) (several kinds.Comma (expr_at c.args.depth))) (expect_at kinds.RightParen) _ (ahead c.args.source.now.tokens.now c.args.input) c.in-Err.ensures.told
