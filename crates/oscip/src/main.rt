@@ -69,14 +69,14 @@ fn tell_left_out<R: AllocGlobal + Eprint>(
 }
 
 /// Writes the index of the files that have no fault of their own to a new file, whose path this is, and gives it to the disk.
-/// Tells of the others. Whether there is none.
-fn index_to_new<R: Files + AllocGlobal + Eprint + Threads + Wait + Sync>(
+/// The faults of the others.
+fn index_to_new<R: Files + AllocGlobal + Threads + Wait + Sync>(
     rt: &R,
     indexing: &Indexing,
     sources: Vec<Source>,
     mut file: R::File,
     path: &str,
-) -> Result<bool, RunFault>
+) -> Result<Vec<TreeFault>, RunFault>
     requires in_order { ArePathsInOrder sources.items }
     requires package { IsPackage (string_bytes indexing.now.package) }
     requires workers { MayWork indexing.now.workers }
@@ -89,9 +89,8 @@ fn index_to_new<R: Files + AllocGlobal + Eprint + Threads + Wait + Sync>(
         Err(RunFault::Device) => return Err(cannot_write(alloc, path)),
         ended => ended?,
     };
-    let is_whole = tell_left_out(rt, faults)?;
     match file.sync_all() {
-        Ok(()) => Ok(is_whole),
+        Ok(()) => Ok(faults),
         Err(_) => Err(cannot_write(alloc, path)),
     }
 }
@@ -113,7 +112,8 @@ fn is_other<R: Files>(rt: &R, path: &str) -> bool {
 }
 
 /// Writes the index of the files that have no fault of their own beside the file of this path, whose place it takes once it is
-/// whole. What was written is removed where anything is refused, and what isn't a file isn't replaced.
+/// whole. What was written is removed where anything is refused, and what isn't a file isn't replaced. The others are told of once
+/// it is closed: where standard error isn't open, the new file may have its number, and the lines would stand in the index.
 fn replace_index<R: Files + AllocGlobal + Eprint + Threads + Wait + Sync>(
     rt: &R,
     indexing: &Indexing,
@@ -133,13 +133,16 @@ fn replace_index<R: Files + AllocGlobal + Eprint + Threads + Wait + Sync>(
         return Err(cannot_write(rt.alloc(), new));
     };
     let ended = match index_to_new(rt, indexing, sources, file, new) {
-        Ok(is_whole) => put_in_place(rt, new, path).map(|()| is_whole),
+        Ok(faults) => put_in_place(rt, new, path).map(|()| faults),
         Err(fault) => Err(fault),
     };
-    if ended.is_err() {
-        let _ = fs::remove_file(rt, new);
+    match ended {
+        Ok(faults) => tell_left_out(rt, faults),
+        Err(fault) => {
+            let _ = fs::remove_file(rt, new);
+            Err(fault)
+        }
     }
-    ended
 }
 
 /// Makes the index of the files that have no fault of their own, and tells of the others. Whether there is none.
