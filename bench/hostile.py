@@ -507,6 +507,30 @@ def bases_through_modules(modules, form):
     return files
 
 
+def long_behind_bases(size):
+    """A module with a use of a name of half so many letters behind a record for each fifty of them, each with the last as its base."""
+    count = size // 50
+    types = b"".join(b"R%d = RECORD (R%d) END; " % (it, it - 1) for it in range(1, count))
+    return one(b"MODULE M; TYPE R0 = RECORD END; %sVAR v: R%d; BEGIN v.%s := {} END M." % (types, count - 1, size // 2 * b"a"))
+
+
+def fields_of_a_long_type(size):
+    """A module with a record type whose name has a fourth of so many letters, and one that uses a field of it for each eight."""
+    name = size // 4 * b"L"
+    uses = b"; ".join(size // 8 * [b"v.f := {}"])
+    return {"t/X.Mod": b"MODULE X; TYPE %s* = RECORD f*: SET END; END X." % name, "t/U.Mod": b"MODULE U; IMPORT X; VAR v: X.%s; BEGIN %s END U." % (name, uses)}
+
+
+def fields_through_a_long_module(size):
+    """A module whose name has a fourth of so many letters, one with a variable of its type, and one that uses a field of that for each eight."""
+    name = size // 4 * b"L"
+    return {
+        "t/L.Mod": b"MODULE %s; TYPE T* = RECORD f*: SET END; END %s." % (name, name),
+        "t/X.Mod": b"MODULE X; IMPORT a := %s; VAR v*: a.T; END X." % name,
+        "t/U.Mod": b"MODULE U; IMPORT X; BEGIN %s END U." % b"; ".join(size // 8 * [b"X.v.f := {}"]),
+    }
+
+
 def hubs(each, between):
     """A network of seven modules, each of which so many import, and, where there is something between, which import as many."""
     lines = [b"import a0 b%05d 7\n" % it for it in range(each)]
@@ -519,6 +543,14 @@ def chains(each):
     """A network of two chains of so many modules, each of the one importing the next and one of the other, which leads back to its begin."""
     lines = [b"import c%05d c%05d %d\nimport c%05d d%05d 2\nimport d%05d d%05d 1000000\n" % (it, it + 1, 1_000_000 - it, it, it, it + 1, it) for it in range(each)]
     return {"t/net": b"".join([b"import a0 c00000 1000000\n", *lines, b"import d00000 zz9 1000000\n"])}
+
+
+def streams(each):
+    """A network in which units come one behind the other to a chain of so many modules, through a chain of as many."""
+    lines = [b"import c%05d c%05d 1000000000\nimport y%05d y%05d 1000000000\n" % (it, it + 1, it + 1, it) for it in range(each)]
+    lines += [b"import h%d y%05d 1\n" % (feeder, it) for feeder in range(2) for it in range(each + 1)]
+    ends = b"import c%05d zz9 1000000000\nimport y00000 c00000 1000000000\nimport a0 h0 %d\nimport a0 g0 %d\nimport g0 h1 %d\n" % (each, each, each, each)
+    return {"t/net": b"".join([*lines, ends])}
 
 
 def crossing(count):
@@ -620,6 +652,9 @@ GROWN = [
             "records through 512 modules, each with the last as its base": (lambda k: bases_through_modules(many(256) * k, b"RECORD (M%d.R) END"), 4.3),
             "names of one record through 512 modules": (lambda k: bases_through_modules(many(256) * k, b"M%d.R"), 4.3),
             "190 parentheses in one another, again and again": (lambda k: one(b"MODULE M; BEGIN " + b"; ".join(many(400) * k * [190 * b"h(" + b"x" + 190 * b")"]) + b" END M."),),
+            "a name of 50,000 letters behind 2,000 bases": (lambda k: long_behind_bases(many(100_000) * k), 3.9),
+            "fields of a type of another module with a name of 10,000 letters": (lambda k: fields_of_a_long_type(many(40_000) * k), 3.9),
+            "fields of a type of a module with a name of 40,000 letters": (lambda k: fields_through_a_long_module(many(160_000) * k), 3.9),
         },
     ),
     (
@@ -669,6 +704,7 @@ GROWN = [
             "seven modules that 4,000 import, and that import 4,000": (lambda k: hubs(many(2_000) * k, 1),),
             "seven modules that 8,000 import": (lambda k: hubs(many(4_000) * k, 0),),
             "two chains of 4,000, of which one leads back": (lambda k: chains(many(2_000) * k), 3.9),
+            "units one behind the other through two chains of 2,000": (lambda k: streams(many(1_000) * k), 4.1),
         },
     ),
     (
