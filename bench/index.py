@@ -1,4 +1,5 @@
-"""Compares index and unresolved with a plain indexer (indexer.py) on small random trees, and on a folder.
+"""Compares index and unresolved with a plain indexer (indexer.py) on small random trees, on a tenth as many in which types lead on
+through many modules, and on a folder.
 
 index.py PROGRAM SEED CASES [FOLDER]
 """
@@ -37,15 +38,18 @@ def main(program, seed, cases, folder=None):
     with tempfile.TemporaryDirectory() as room:
         if folder:
             size += compare(program, os.path.abspath(folder), indexer.files_below(folder), folder)
-        for case in range(int(seed), int(seed) + int(cases)):
-            files = index_trees.Tree(case).files()
+        first, count = int(seed), int(cases)
+        trees = [(f"tree {it}", index_trees.Tree, it) for it in range(first, first + count)]
+        trees += [(f"chains {it}", index_trees.Chains, it) for it in range(first, first + count // 10)]
+        for what, made, case in trees:
+            files = made(case).files()
             for path, data in files:
-                to = f"{room}/{case}/{path}"
+                to = f"{room}/{what}/{path}"
                 os.makedirs(os.path.dirname(to), exist_ok=True)
                 with open(to, "wb") as it:
                     it.write(data)
-            size += compare(program, f"{room}/{case}", files, f"tree {case}")
-    print(f"{cases} trees, {size} bytes of indexes: each is the plain indexer's, by {', '.join(WORKERS)} workers")
+            size += compare(program, f"{room}/{what}", files, what)
+    print(f"{len(trees)} trees, {size} bytes of indexes: each is the plain indexer's, by {', '.join(WORKERS)} workers")
 
 
 if __name__ == "__main__":

@@ -1,6 +1,7 @@
-"""Small trees of Oberon-07 modules in which names hide and miss one another, the same for the same seed.
+"""Small trees of Oberon-07 modules in which names hide and miss one another, and trees in which types lead on through many modules, the
+same for the same seed.
 
-index_trees.py SEED FOLDER writes one.
+index_trees.py SEED FOLDER writes a small one.
 """
 import os
 import random
@@ -187,6 +188,84 @@ class Tree:
     def files(self):
         names = ["A", "B", "C", "D"][: self.pick(1, 2, 3, 4)]
         return [(f"{'sub/' if self.odds(0.3) else ''}{it}.Mod", self.module(it, names[:at]).encode()) for at, it in enumerate(names)]
+
+
+class Chains(Tree):
+    """Trees in which types lead on through up to 80 modules, or through up to 120 types of one: as bases, names, targets and elements."""
+
+    # how often a type is a record, a name, a pointer and an array
+    STYLES = (97, 0, 3, 0), (70, 20, 9, 1), (40, 55, 5, 0), (30, 5, 60, 5), (25, 25, 25, 25), (60, 39, 1, 0)
+
+    def reference(self, own):
+        """A name of a type, mostly of the last one, or of none."""
+        if self.odds(self.wrong):
+            return self.pick("SET", "Z", "v", "Texts.T", "X.T0", "K.T0", self.own_name, *own[:1])
+        if own and (self.odds(0.9) or not self.imported):
+            return own[-1] if self.odds(self.straight) else self.pick(*own)
+        if not self.imported:
+            return "SET"
+        alias, types = self.imported[0] if self.odds(self.straight) else self.pick(*self.imported)
+        return f"{alias}.{types[-1] if self.odds(self.straight) else self.pick(*types)}"
+
+    def record_on(self, base):
+        fields = [f"{it}{self.star()}: {self.pick('SET', base, base)}" for it in "fgxyab" if self.odds(self.own_fields)]
+        return f"RECORD ({base}) {'; '.join(fields)} END"
+
+    def led_on(self, own, later):
+        """A type that leads on to another one, which may be one that is declared later."""
+        to, which = self.reference(own), self.chance.choices("rnpa", self.style)[0]
+        if which == "r":
+            return self.record_on(to)
+        if which == "p":
+            return f"POINTER TO {later if self.odds(0.2) else self.record_on(to) if self.odds(0.3) else to}"
+        return f"ARRAY {self.pick('2', '2, 3')} OF {to}" if which == "a" else to
+
+    def chain(self, names, star):
+        """Declarations of types of these names, each of which leads on."""
+        forms = [self.led_on(names[:at], names[self.pick(-1, min(at + 1, len(names) - 1))]) for at in range(len(names))]
+        return "TYPE " + "".join(f"{it}{star} = {form}; " for it, form in zip(names, forms))
+
+    def use(self, variables):
+        there = self.odds(0.3) and self.imported
+        text = f"{self.pick(*self.imported)[0]}.{self.pick('v', 'w')}" if there else self.pick(*variables)
+        for _ in range(self.pick(1, 1, 1, 2, 3, 5)):
+            text += self.chance.choices([f".{self.pick(*'fgxyabh')}", "^", "[0]", f"({self.reference(['T0'])})"], [80, 10, 7, 3])[0]
+        return text
+
+    def uses(self, variables):
+        return "BEGIN " + "; ".join(f"{self.use(variables)} := {self.use(variables)}" for _ in range(self.used))
+
+    def led_module(self, name, imports, count):
+        """A module with these imports, each an alias with the module's name, and so many types."""
+        types, inner = [f"T{it}" for it in range(count)], [f"L{it}" for it in range(self.pick(1, 3, 40))]
+        self.own_name, self.imported = name, [(alias, self.types_of[other]) for alias, other in imports if other in self.types_of]
+        items = [other if alias == other else f"{alias} := {other}" for alias, other in imports]
+        text = f"MODULE {name}; " + (f"IMPORT {', '.join(items)}; " if items else "")
+        text += self.chain(types, "" if self.odds(self.wrong) else "*")
+        made = self.record_on(self.reference(types)) if self.odds(0.3) else self.reference(types)
+        text += f"VAR v*, w{self.star()}: {made}; u: {types[-1]}; t: {self.pick(*types)}; "
+        if self.odds(0.2):
+            text += f"PROCEDURE p; {self.chain(inner, '')}VAR l: {inner[-1]}; {self.uses('lv')} END p; "
+        text += f"{self.uses('uuvt')} END {name}."
+        self.types_of[name] = types
+        return text.replace("; ", self.pick("; ", ";\n", ";\r\n", "; (* a *) "))
+
+    def files(self):
+        self.style, self.used = self.pick(*self.STYLES), self.pick(2, 4, 8)
+        self.straight, self.wrong, self.own_fields = self.pick(0.8, 0.97, 1), self.pick(0, 0.003, 0.01), self.pick(0.003, 0.02, 0.1)
+        is_tall = self.odds(0.3)
+        names = [f"M{it}" for it in range(self.pick(2, 12, 40) if is_tall else self.chance.randint(33, 80))]
+        paths, found = list(names), []
+        for it in names, paths:
+            if self.odds(0.6):
+                self.chance.shuffle(it)
+        for at, name in enumerate(names):
+            imports = {}
+            for other in [*names[max(0, at - 1) : at], *self.chance.sample(names[:at], min(at, self.pick(0, 0, 0, 1, 2))), "Texts"]:
+                imports.setdefault(self.pick(other, other, "X", "K", self.pick(*names)), other)
+            count = self.chance.randint(60, 120) if is_tall and at == 0 else self.pick(1, 1, 2, 4)
+            found.append((f"{'sub/' if self.odds(0.1) else ''}{paths[at]}.Mod", self.led_module(name, list(imports.items()), count).encode()))
+        return found
 
 
 def main(seed, folder):

@@ -4,7 +4,6 @@ ghost use Rattle.type_search.specs.Searches.{Finds, HasElement, HasTarget};
 
 use crate::graph::TypeGraph;
 use crate::kept::Kept;
-use crate::lay::lay_if_due;
 use crate::line::Line;
 use crate::parts::{element_in, target_in};
 use crate::records::find_in;
@@ -101,18 +100,11 @@ impl<'a, G: TypeGraph> Finder<'a, G> {
         ensures found { IfOk result (λ o. IfSome o (λ f. Finds G.Declaration.eq (G.shape self.old) (λ r. G.field_of self.old r name.now) (G.base_of self.old) [] from f)) }
         ensures none { IfOk result (λ o. IfNone o ((f : G.Field) → Finds G.Declaration.eq (G.shape self.old) (λ r. G.field_of self.old r name.now) (G.base_of self.old) [] from f → ⊥)) }
     {
-        lay_if_due(
-            self.graph,
-            &mut self.by_pointers,
-            &mut self.aboves,
-            &mut self.line,
-            &mut self.sought,
-        );
         find_in(
             self.graph,
             &mut self.by_pointers,
             &mut self.aboves,
-            &self.line,
+            &mut self.line,
             &mut self.found,
             &mut self.sought,
             from,

@@ -11,6 +11,7 @@ use crate::ends::end_of;
 use crate::graph::TypeGraph;
 use crate::hop::Hop;
 use crate::kept::Kept;
+use crate::lay::lay_if_due;
 use crate::line::{Line, hop};
 use crate::shape::Shape;
 use crate::sought::Sought;
@@ -132,20 +133,22 @@ fn hop_from<'a, G: TypeGraph>(
 /// Passes a record that lacks the field of this name, and tells one above it, up to which none has it, or none where there is none or the
 /// search came back.
 fn climb<'a, G: TypeGraph>(
-    graph: &G,
+    graph: &'a G,
     kept: &mut Kept<G::Declaration, Option<G::Node>>,
     aboves: &mut Kept<G::Record, Option<G::Record>>,
-    line: &Option<Box<Line<'a, G::Record>>>,
+    line: &mut Option<Box<Line<'a, G::Record>>>,
+    sought: &mut Sought,
     way: &mut Way<G::Record>,
     record: G::Record,
     name: &[u8],
 ) -> Result<Option<G::Record>, AllocError>
     requires kept { AreTypeEnds (G.shape graph.now) true G.Declaration.eq kept.old }
     requires aboves { AreAbove (G.shape graph.now) (G.base_of graph.now) G.Record.eq aboves.old }
-    requires line { IfSome line.now (λ l. IsLine (G.shape graph.now) (G.base_of graph.now) (G.field_of graph.now) l.value.records.keys l.value.ends.items l.value.owned.items) }
+    requires line { IfSome line.old (λ l. IsLine (G.shape graph.now) (G.base_of graph.now) (G.field_of graph.now) l.value.records.keys l.value.ends.items l.value.owned.items) }
     requires lacks { G.field_of graph.now «record» name.now ≡ None }
     ensures kept { AreTypeEnds (G.shape graph.now) true G.Declaration.eq kept.new }
     ensures aboves { AreAbove (G.shape graph.now) (G.base_of graph.now) G.Record.eq aboves.new }
+    ensures line { IfSome line.new (λ l. IsLine (G.shape graph.now) (G.base_of graph.now) (G.field_of graph.now) l.value.records.keys l.value.ends.items l.value.owned.items) }
     ensures next { IfOk result (IsNextAbove (G.shape graph.now) (G.base_of graph.now) (λ r. G.field_of graph.now r name.now) G.Record.eq «record» way.old.marks.items way.new.marks.items) }
     ensures passed { IfOk result (λ o. IfSome o (λ _. (progress way.old < progress way.new) × (progress way.new < 2 ^ 65))) }
 {
@@ -153,6 +156,8 @@ fn climb<'a, G: TypeGraph>(
         return Ok(None);
     }
     pass(way, record)?;
+    sought.add(name);
+    lay_if_due(graph, kept, aboves, line, sought);
     match hop_from(graph, line, record, name) {
         Hop::Onto(above) => Ok(Some(above)),
         Hop::From(last) => above_kept(graph, kept, aboves, last),
@@ -162,10 +167,11 @@ fn climb<'a, G: TypeGraph>(
 /// The field that a name means in a record: its own, or else that of its base, up to a record whose field is kept; and some of
 /// the records that are passed on the way.
 fn field_of<'a, G: TypeGraph>(
-    graph: &G,
+    graph: &'a G,
     kept: &mut Kept<G::Declaration, Option<G::Node>>,
     aboves: &mut Kept<G::Record, Option<G::Record>>,
-    line: &Option<Box<Line<'a, G::Record>>>,
+    line: &mut Option<Box<Line<'a, G::Record>>>,
+    sought: &mut Sought,
     found: &IndexMap<(G::Record, Name<'a>), Option<G::Field>, Seed>,
     is_kept: bool,
     way: &mut Way<G::Record>,
@@ -174,11 +180,12 @@ fn field_of<'a, G: TypeGraph>(
 ) -> Result<Option<G::Field>, AllocError>
     requires kept { AreTypeEnds (G.shape graph.now) true G.Declaration.eq kept.old }
     requires aboves { AreAbove (G.shape graph.now) (G.base_of graph.now) G.Record.eq aboves.old }
-    requires line { IfSome line.now (λ l. IsLine (G.shape graph.now) (G.base_of graph.now) (G.field_of graph.now) l.value.records.keys l.value.ends.items l.value.owned.items) }
+    requires line { IfSome line.old (λ l. IsLine (G.shape graph.now) (G.base_of graph.now) (G.field_of graph.now) l.value.records.keys l.value.ends.items l.value.owned.items) }
     requires found { AreFound (G.shape graph.now) (G.base_of graph.now) (G.field_of graph.now) G.Record.eq found.now }
     requires none_passed { way.old.marks.items ≡ [] }
     ensures kept { AreTypeEnds (G.shape graph.now) true G.Declaration.eq kept.new }
     ensures aboves { AreAbove (G.shape graph.now) (G.base_of graph.now) G.Record.eq aboves.new }
+    ensures line { IfSome line.new (λ l. IsLine (G.shape graph.now) (G.base_of graph.now) (G.field_of graph.now) l.value.records.keys l.value.ends.items l.value.owned.items) }
     ensures fields { IfOk result (AreFieldsOf (G.shape graph.now) (G.base_of graph.now) (λ r. G.field_of graph.now r name.now) from way.new.marks.items) }
 {
     let mut record = from;
@@ -186,7 +193,7 @@ fn field_of<'a, G: TypeGraph>(
         if let Some(field) = field_here(graph, found, is_kept, record, name) {
             return Ok(field);
         }
-        match climb(graph, kept, aboves, line, way, record, name)? {
+        match climb(graph, kept, aboves, line, sought, way, record, name)? {
             None => return Ok(None),
             Some(above) => record = above,
         }
@@ -213,10 +220,10 @@ fn keep_field<'a, G: TypeGraph>(
 
 /// The field that a name means in a record, which is kept of it and of some of the records that are passed.
 fn field_passed<'a, G: TypeGraph>(
-    graph: &G,
+    graph: &'a G,
     kept: &mut Kept<G::Declaration, Option<G::Node>>,
     aboves: &mut Kept<G::Record, Option<G::Record>>,
-    line: &Option<Box<Line<'a, G::Record>>>,
+    line: &mut Option<Box<Line<'a, G::Record>>>,
     found: &mut IndexMap<(G::Record, Name<'a>), Option<G::Field>, Seed>,
     sought: &mut Sought,
     way: &mut Way<G::Record>,
@@ -225,27 +232,29 @@ fn field_passed<'a, G: TypeGraph>(
 ) -> Result<Option<G::Field>, AllocError>
     requires kept { AreTypeEnds (G.shape graph.now) true G.Declaration.eq kept.old }
     requires aboves { AreAbove (G.shape graph.now) (G.base_of graph.now) G.Record.eq aboves.old }
-    requires line { IfSome line.now (λ l. IsLine (G.shape graph.now) (G.base_of graph.now) (G.field_of graph.now) l.value.records.keys l.value.ends.items l.value.owned.items) }
+    requires line { IfSome line.old (λ l. IsLine (G.shape graph.now) (G.base_of graph.now) (G.field_of graph.now) l.value.records.keys l.value.ends.items l.value.owned.items) }
     requires found { AreFound (G.shape graph.now) (G.base_of graph.now) (G.field_of graph.now) G.Record.eq found.old }
     requires none_passed { way.old.marks.items ≡ [] }
     ensures kept { AreTypeEnds (G.shape graph.now) true G.Declaration.eq kept.new }
     ensures aboves { AreAbove (G.shape graph.now) (G.base_of graph.now) G.Record.eq aboves.new }
+    ensures line { IfSome line.new (λ l. IsLine (G.shape graph.now) (G.base_of graph.now) (G.field_of graph.now) l.value.records.keys l.value.ends.items l.value.owned.items) }
     ensures found { AreFound (G.shape graph.now) (G.base_of graph.now) (G.field_of graph.now) G.Record.eq found.new }
     ensures is { IfOk result (IsFieldIn (G.shape graph.now) (G.base_of graph.now) (λ r. G.field_of graph.now r name.now) from) }
 {
     let is_kept = sought.note(kept.allocator(), name);
-    let field = field_of(graph, kept, aboves, line, found, is_kept, way, from, name)?;
-    sought.add(way.passed);
+    let field = field_of(
+        graph, kept, aboves, line, sought, found, is_kept, way, from, name,
+    )?;
     keep_field(graph, found, way.marks.as_slice(), name, field)?;
     Ok(field)
 }
 
 /// The field that a name means in a record: its own, or else one that is kept for the searches that follow.
 fn field_kept<'a, G: TypeGraph>(
-    graph: &G,
+    graph: &'a G,
     kept: &mut Kept<G::Declaration, Option<G::Node>>,
     aboves: &mut Kept<G::Record, Option<G::Record>>,
-    line: &Option<Box<Line<'a, G::Record>>>,
+    line: &mut Option<Box<Line<'a, G::Record>>>,
     found: &mut IndexMap<(G::Record, Name<'a>), Option<G::Field>, Seed>,
     sought: &mut Sought,
     from: G::Record,
@@ -253,10 +262,11 @@ fn field_kept<'a, G: TypeGraph>(
 ) -> Result<Option<G::Field>, AllocError>
     requires kept { AreTypeEnds (G.shape graph.now) true G.Declaration.eq kept.old }
     requires aboves { AreAbove (G.shape graph.now) (G.base_of graph.now) G.Record.eq aboves.old }
-    requires line { IfSome line.now (λ l. IsLine (G.shape graph.now) (G.base_of graph.now) (G.field_of graph.now) l.value.records.keys l.value.ends.items l.value.owned.items) }
+    requires line { IfSome line.old (λ l. IsLine (G.shape graph.now) (G.base_of graph.now) (G.field_of graph.now) l.value.records.keys l.value.ends.items l.value.owned.items) }
     requires found { AreFound (G.shape graph.now) (G.base_of graph.now) (G.field_of graph.now) G.Record.eq found.old }
     ensures kept { AreTypeEnds (G.shape graph.now) true G.Declaration.eq kept.new }
     ensures aboves { AreAbove (G.shape graph.now) (G.base_of graph.now) G.Record.eq aboves.new }
+    ensures line { IfSome line.new (λ l. IsLine (G.shape graph.now) (G.base_of graph.now) (G.field_of graph.now) l.value.records.keys l.value.ends.items l.value.owned.items) }
     ensures found { AreFound (G.shape graph.now) (G.base_of graph.now) (G.field_of graph.now) G.Record.eq found.new }
     ensures is { IfOk result (IsFieldIn (G.shape graph.now) (G.base_of graph.now) (λ r. G.field_of graph.now r name.now) from) }
 {
@@ -271,10 +281,10 @@ fn field_kept<'a, G: TypeGraph>(
 
 /// The field that a name means at a type: of the record to which it leads, or else of its base.
 pub(crate) fn find_in<'a, G: TypeGraph>(
-    graph: &G,
+    graph: &'a G,
     kept: &mut Kept<G::Declaration, Option<G::Node>>,
     aboves: &mut Kept<G::Record, Option<G::Record>>,
-    line: &Option<Box<Line<'a, G::Record>>>,
+    line: &mut Option<Box<Line<'a, G::Record>>>,
     found: &mut IndexMap<(G::Record, Name<'a>), Option<G::Field>, Seed>,
     sought: &mut Sought,
     from: G::Node,
@@ -282,10 +292,11 @@ pub(crate) fn find_in<'a, G: TypeGraph>(
 ) -> Result<Option<G::Field>, AllocError>
     requires kept { AreTypeEnds (G.shape graph.now) true G.Declaration.eq kept.old }
     requires aboves { AreAbove (G.shape graph.now) (G.base_of graph.now) G.Record.eq aboves.old }
-    requires line { IfSome line.now (λ l. IsLine (G.shape graph.now) (G.base_of graph.now) (G.field_of graph.now) l.value.records.keys l.value.ends.items l.value.owned.items) }
+    requires line { IfSome line.old (λ l. IsLine (G.shape graph.now) (G.base_of graph.now) (G.field_of graph.now) l.value.records.keys l.value.ends.items l.value.owned.items) }
     requires found { AreFound (G.shape graph.now) (G.base_of graph.now) (G.field_of graph.now) G.Record.eq found.old }
     ensures kept { AreTypeEnds (G.shape graph.now) true G.Declaration.eq kept.new }
     ensures aboves { AreAbove (G.shape graph.now) (G.base_of graph.now) G.Record.eq aboves.new }
+    ensures line { IfSome line.new (λ l. IsLine (G.shape graph.now) (G.base_of graph.now) (G.field_of graph.now) l.value.records.keys l.value.ends.items l.value.owned.items) }
     ensures fields { AreFound (G.shape graph.now) (G.base_of graph.now) (G.field_of graph.now) G.Record.eq found.new }
     ensures found { IfOk result (λ o. IfSome o (λ f. Finds G.Declaration.eq (G.shape graph.now) (λ r. G.field_of graph.now r name.now) (G.base_of graph.now) [] from f)) }
     ensures none { IfOk result (λ o. IfNone o ((f : G.Field) → Finds G.Declaration.eq (G.shape graph.now) (λ r. G.field_of graph.now r name.now) (G.base_of graph.now) [] from f → ⊥)) }

@@ -17,7 +17,7 @@ const TIMES: u64 = 4;
 #[derive(Drop)]
 pub(crate) struct Sought {
     words: Vec<u64>,
-    /// How many records searches passed.
+    /// How many records searches passed, with one more at each for each 64 bytes of the name.
     passed: u64,
     /// At how many it is asked again whether a line is due.
     due: u64,
@@ -42,9 +42,10 @@ impl Sought {
         }
     }
 
-    /// Adds the records that a search passed.
-    pub(crate) fn add(&mut self, passed: u64) {
-        self.passed = self.passed.saturating_add(passed);
+    /// Adds a record that a search for a name passed, and one more for each 64 bytes of the name, which is hashed there.
+    pub(crate) fn add(&mut self, name: &[u8]) {
+        let pieces = (name.len() / 64) as u64;
+        self.passed = self.passed.saturating_add(1).saturating_add(pieces);
     }
 
     /// Whether searches passed so many records that a line is due, or is once more, where memory for one was refused.

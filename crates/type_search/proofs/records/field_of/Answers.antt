@@ -9,7 +9,7 @@ records-init g c =
     let shape = g.G.TypeGraph.shape c.args.graph.now in
     let base = g.G.TypeGraph.base_of c.args.graph.now in
     let field = λ (r : g.row.G-Record.Denot). g.G.TypeGraph.field_of c.args.graph.now r c.args.name.now in
-    record { kept = c.requires.kept; aboves = c.requires.aboves; climbs = climbs_nowhere shape base field g.G.Record.PartialEq.eq g.met.G.TypeGraph.told_apart c.args.from c.args.way.now.marks.items c.requires.none_passed }
+    record { kept = c.requires.kept; aboves = c.requires.aboves; line = c.requires.line; climbs = climbs_nowhere shape base field g.G.Record.PartialEq.eq g.met.G.TypeGraph.told_apart c.args.from c.args.way.now.marks.items c.requires.none_passed }
 
 pub returns-in-Some-clause-fields : goal.returns-in-Some-clause-fields
 returns-in-Some-clause-fields g c =
@@ -35,6 +35,7 @@ records-preserved g c =
     record {
       kept = c.in_ok-climb.ensures.kept;
       aboves = c.in_ok-climb.ensures.aboves;
+      line = c.in_ok-climb.ensures.line;
       climbs = goes_on shape base field g.G.Record.PartialEq.eq g.met.G.TypeGraph.told_apart c.args.from c.records.«record» c.in-Some-2.above c.records.way.marks.items c.climb.new.way.marks.items
           c.in_ok-climb.field-0 c.in-Some-2.is c.in_ok-climb.ensures.next c.records.invariant.climbs;
     }
