@@ -652,7 +652,7 @@ GROWN = [
             "records through 512 modules, each with the last as its base": (lambda k: bases_through_modules(many(256) * k, b"RECORD (M%d.R) END"), 4.3),
             "names of one record through 512 modules": (lambda k: bases_through_modules(many(256) * k, b"M%d.R"), 4.3),
             "190 parentheses in one another, again and again": (lambda k: one(b"MODULE M; BEGIN " + b"; ".join(many(400) * k * [190 * b"h(" + b"x" + 190 * b")"]) + b" END M."),),
-            "a name of 50,000 letters behind 2,000 bases": (lambda k: long_behind_bases(many(100_000) * k), 3.9),
+            "a name of 50,000 letters behind 2,000 bases": (lambda k: long_behind_bases(many(100_000) * k),),
             "fields of a type of another module with a name of 10,000 letters": (lambda k: fields_of_a_long_type(many(40_000) * k), 3.9),
             "fields of a type of a module with a name of 40,000 letters": (lambda k: fields_through_a_long_module(many(160_000) * k), 3.9),
         },
