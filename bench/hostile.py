@@ -489,10 +489,11 @@ def renamed_modules(names, items):
     return {**files, "t/M.Mod": b"MODULE M; END M.", "t/N.Mod": b"MODULE N; END N."}
 
 
-def bases_of_one(modules, count):
-    """A module with so many records, each with the last as its base, and so many modules that use a name which none has."""
+def bases_of_one(modules, count, uses=1):
+    """A module with so many records, each with the last as its base, and so many modules that use so many names which none has."""
+    body = b"; ".join(b"v.g%d := {}" % it for it in range(uses))
     types = b"".join(b"R%d* = RECORD (R%d) END; " % (it, it - 1) for it in range(1, count))
-    files = {f"t/M{it:04}.Mod": b"MODULE M%d; IMPORT A; VAR v: A.R%d; BEGIN v.g := {} END M%d." % (it, count - 1, it) for it in range(modules)}
+    files = {f"t/M{it:04}.Mod": b"MODULE M%d; IMPORT A; VAR v: A.R%d; BEGIN %s END M%d." % (it, count - 1, body, it) for it in range(modules)}
     files["t/A.Mod"] = b"MODULE A; TYPE R0* = RECORD f*: SET END; " + types + b"END A."
     return files
 
@@ -648,7 +649,8 @@ GROWN = [
             "modules that declare a few names, each of which imports the one before it": (lambda k: small_modules(many(2_048) * k, lambda it: (it - 1,) if it else ()), 3.4),
             "modules whose names fall together, each of which imports the one before it": (lambda k: chain_of(together(k, "each", part=1_024)), 3.8),
             "modules whose names fall, each of which imports the one before it": (lambda k: chain_of([b"M%d" % (9_999 - it) for it in range(many(2_048) * k)]), 3.8),
-            "uses of 200 modules behind 2,000 bases of one": (lambda k: bases_of_one(many(100) * k, many(1_000) * k), 4.7),
+            "uses of 200 modules behind 2,000 bases of one": (lambda k: bases_of_one(many(100) * k, many(1_000) * k),),
+            "nine uses of each of 200 modules behind 2,000 bases of one": (lambda k: bases_of_one(many(100) * k, many(1_000) * k, 9),),
             "records through 512 modules, each with the last as its base": (lambda k: bases_through_modules(many(256) * k, b"RECORD (M%d.R) END"), 4.3),
             "names of one record through 512 modules": (lambda k: bases_through_modules(many(256) * k, b"M%d.R"), 4.3),
             "190 parentheses in one another, again and again": (lambda k: one(b"MODULE M; BEGIN " + b"; ".join(many(400) * k * [190 * b"h(" + b"x" + 190 * b")"]) + b" END M."),),

@@ -1,7 +1,7 @@
 -- What a worker has at hand for a module, whatever is made of it.
 use Rattle.std.proofs.Common.{◌≡◌, ℕ, ◌<◌, ◌≤◌, ◌^◌, Bool, true, false, List, [], ◌∷◌, length, Some, sym, ap, ◌∙◌, subst, arith}
 use Rattle.std.specs.Prelude.{Contains, slice_get, slice_index_or, Box}
-use Rattle.std.specs.Bool.{OnTrue}
+use Rattle.std.specs.Arc.{arc_value}
 use Rattle.std.specs.declared.alloc.Global.{Global}
 use Rattle.std.proofs.lemmas.List.{length-map}
 use Rattle.std.proofs.lemmas.Option.{slice_get-get_or}
@@ -10,11 +10,12 @@ use Rattle.ob_imports.specs.Outcomes.{AreFilesOfGraph}
 use Rattle.ob_interface.specs.Interfaces.{ModuleInterface}
 use Rattle.ob_scope.proofs.Elements.{contains_slice}
 use Rattle.ob_scan.specs.Texts.{text_at}
-use Rattle.ob_types.specs.Homes.{AreByName}
 use Rattle.oscip_tree.specs.declared.parts.ModuleParts.{ModuleParts}
 use Rattle.oscip_tree.specs.declared.source.Source.{Source}
 use Rattle.work_board.specs.Graphs.{row_at}
 use Rattle.board_workers.specs.Parts.{IsJob}
+use Rattle.ob_board.specs.Ahead.{IsAheadOf, ServesAmong}
+use Rattle.ob_board.specs.declared.ahead.Ahead.{Ahead}
 use Rattle.ob_board.specs.Boards.{modules_of}
 use Rattle.ob_board.specs.Reached.{file_of, files_of, interface_in, marked_interfaces, names, AreReachedInterfaces, ReachesAlike, SeenFile}
 use Rattle.ob_board.specs.Seen.{all_seen, seen_in, AreSourcesRead}
@@ -22,9 +23,9 @@ use Rattle.ob_board.proofs.Shared.{parts_reached}
 use Rattle.ob_board.specs.Entries.{interfaces_of, AreAllNamed, IsEntryOf, PlainEntry}
 use Rattle.ob_board.specs.Found.{IsAtHand, IsFoundOf, PlainFound}
 use Rattle.ob_board.specs.Records.{IsRecordedOf, PlainRecorded}
-use Rattle.ob_board.proofs.ByName.{reached_by_name}
+use Rattle.ob_board.proofs.Within.{serves_among}
 use Rattle.ob_board.proofs.EntryHanding.{reached_named}
-use Rattle.ob_board.proofs.Handing.{at_seen, below, name_here}
+use Rattle.ob_board.proofs.Handing.{at_seen, below, name_here, seen_long}
 
 -- a number of the board is that of a source and of its parts, and with the parts that a worker is given they are what is at hand
 pub record IsGiven (files : List SeenFile) (sources : List Source) (modules : List (Box ModuleParts Global)) (board : ImportGraph) (n : ℕ) (parts : List ModuleInterface) : Type 0 where
@@ -32,7 +33,7 @@ pub record IsGiven (files : List SeenFile) (sources : List Source) (modules : Li
   pub at_hand : (s : Source) (m : Box ModuleParts Global) (p : ModuleParts) → p ≡ (slice_index_or modules n m).value → IsAtHand files (slice_index_or sources n s) p parts
   pub named : (s : Source) (m : Box ModuleParts Global) (p : ModuleParts) → p ≡ (slice_index_or modules n m).value → text_at (slice_index_or sources n s).bytes.items p.tokens 1 ≡ row_at (modules_of board).names n
   pub all_named : (s : Source) (m : Box ModuleParts Global) → AreAllNamed parts
-  pub by_name : (s : Source) (m : Box ModuleParts Global) (known : Bool) → OnTrue known (AreByName (interfaces_of modules)) → OnTrue known (AreByName parts)
+  pub serves : (s : Source) (m : Box ModuleParts Global) (ahead : Ahead) → IsAheadOf (interfaces_of modules) ahead → ServesAmong parts ahead
 
 few_marked : (marks : List Bool) (files : List SeenFile) → length (marked_interfaces marks files) ≤ length files
 few_marked [] files = omega arith
@@ -45,6 +46,14 @@ few_reached : (files : List SeenFile) (g : ImportGraph) (m : List ℕ) (parts : 
 few_reached files g m parts kept among =
     let few : length (files_of files) ≤ 4096 = kept.are_files.few_modules in
     omega (arith, few, few_marked among.marks files, length-map files file_of, ap length among.reached_are)
+
+-- the same of all modules
+pub few_modules : (sources : List Source) (modules : List (Box ModuleParts Global)) (g : ImportGraph) → AreSourcesRead sources modules g → length (interfaces_of modules) ≤ 2 ^ 32
+few_modules sources modules g seen =
+    let files = all_seen sources modules in
+    let few : length (files_of files) ≤ 4096 = seen.kept.are_files.few_modules in
+    let many : length modules ≡ length sources = seen.as_many in
+    omega (arith, few, many, length-map files file_of, seen_long sources modules many, length-map modules (λ (m : Box ModuleParts Global). arc_value (m.value).interface))
 
 -- what an entry says of its file
 abbrev SaysOfFile : {E : Type 0} → (List SeenFile → List ℕ → E → Type 0) → (E → ModuleInterface) → Type 0
@@ -82,7 +91,7 @@ module _ {E : Type 0} (is_of : List SeenFile → List ℕ → E → Type 0) (sha
             ap (λ (x : ModuleParts). text_at here.bytes.items x.tokens 1) is
             ∙ sym (name_here sources modules g seen n here (slice_index_or modules n m) (slice_get-get_or sources n s both.0) (slice_get-get_or modules n m both.1));
         all_named = λ s m. reached_named sources modules g seen [] _ parts (reached s m);
-        by_name = λ s m known all. let among = reached s m in reached_by_name sources modules g seen known all among.marks parts among.reached_are;
+        serves = λ s m ahead is. serves_among sources modules g seen _ parts (reached s m) ahead is;
       }
 
   given : (files : List SeenFile) (sources : List Source) (modules : List (Box ModuleParts Global)) (g board : ImportGraph) → files ≡ all_seen sources modules → AreSourcesRead sources modules g → g ≡ board

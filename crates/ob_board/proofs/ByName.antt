@@ -40,7 +40,7 @@ by_name_more x xs first s (suc k) d l =
     subst (λ (n : ℕ). IsBefore (get_or xs k d) (get_or (x ∷ xs) n d)) e (s k d (omega (arith, l)))
 
 -- those with a mark are among all
-among_all : (marks : List Bool) (files : List SeenFile) (i : ModuleInterface) → Contains (marked_interfaces marks files) i → Contains (map interface_in files) i
+pub among_all : (marks : List Bool) (files : List SeenFile) (i : ModuleInterface) → Contains (marked_interfaces marks files) i → Contains (map interface_in files) i
 among_all [] files i h = no_member i h
 among_all (mark ∷ marks) [] i h = no_member i h
 among_all (true ∷ marks) (file ∷ files) i h = elim (first_or_later (interface_in file) (marked_interfaces marks files) i h) [
@@ -61,7 +61,7 @@ marked_by_name (true ∷ marks) (file ∷ files) s =
 marked_by_name (false ∷ marks) (file ∷ files) s = marked_by_name marks files (rest_by_name (interface_in file) (map interface_in files) s)
 
 -- the interfaces of all parts are those of the files
-same_interfaces : (sources : List Source) (modules : List (Box ModuleParts Global)) → length modules ≡ length sources
+pub same_interfaces : (sources : List Source) (modules : List (Box ModuleParts Global)) → length modules ≡ length sources
     → ((k : ℕ) (s : Source) (m : Box ModuleParts Global) → slice_get sources k ≡ Some s → slice_get modules k ≡ Some m → IsSourceRead s m.value)
     → interfaces_of modules ≡ map interface_in (all_seen sources modules)
 same_interfaces [] [] many each = refl

@@ -20,7 +20,7 @@ use Rattle.ob_board.proofs.Shared.{same_file}
 use Rattle.ob_board.specs.Found.{IsFoundOf, PlainFound}
 use Rattle.ob_board.specs.Unresolved.{IsUnresolvedIn, IsUnresolvedOf, PlainUnresolved}
 
-seen_long : (sources : List Source) (modules : List (Box ModuleParts Global)) → length modules ≡ length sources → length (all_seen sources modules) ≡ length sources
+pub seen_long : (sources : List Source) (modules : List (Box ModuleParts Global)) → length modules ≡ length sources → length (all_seen sources modules) ≡ length sources
 seen_long [] modules e = refl
 seen_long (s ∷ sources) [] e = absurd (omega arith)
 seen_long (s ∷ sources) (m ∷ modules) e = let rest = seen_long sources modules (omega arith) in omega arith

@@ -12,4 +12,5 @@ pub mod OneTree
 pub mod OneExternals
 pub mod OneIndex
 pub mod ByName
+pub mod Within
 pub mod Gathering

@@ -46,14 +46,17 @@ module _ (files : List SeenFile) (g : ImportGraph) (kept : AreFilesOfGraph (file
       slice_get-map (λ (f : File). f.name) (files_of files) k ∙ ap (option_map (λ (f : File). f.name)) (slice_get-map file_of files k ∙ ap (option_map file_of) at)
 
   -- no two files have modules of one name
+  pub same_place : (k j : ℕ) (file other : SeenFile) → slice_get files k ≡ Some file → slice_get files j ≡ Some other → names other 1 ≡ names file 1 → j ≡ k
+  same_place k j file other at there named =
+      let of_files = names_of (files_of files) in
+      let one : place_of of_files (names file 1) ≡ k = place_is of_files (names file 1) k kept.are_files.differ (name_in_files k file at) in
+      let two : place_of of_files (names other 1) ≡ j = place_is of_files (names other 1) j kept.are_files.differ (name_in_files j other there) in
+      sym two ∙ ap (place_of of_files) named ∙ one
+
   pub same_file : (k : ℕ) (file other : SeenFile) → slice_get files k ≡ Some file → Contains files other → names other 1 ≡ names file 1 → other ≡ file
   same_file k file other at (j, lt, is) named =
       let at_j : slice_get files j ≡ Some other = slice_get-get_or files j other lt ∙ ap (λ (f : SeenFile). Some f) is in
-      let of_files = names_of (files_of files) in
-      let one : place_of of_files (names file 1) ≡ k = place_is of_files (names file 1) k kept.are_files.differ (name_in_files k file at) in
-      let two : place_of of_files (names other 1) ≡ j = place_is of_files (names other 1) j kept.are_files.differ (name_in_files j other at_j) in
-      let place : j ≡ k = sym two ∙ ap (place_of of_files) named ∙ one in
-      let both : Some other ≡ Some file = sym at_j ∙ ap (slice_get files) place ∙ at in
+      let both : Some other ≡ Some file = sym at_j ∙ ap (slice_get files) (same_place k j file other at at_j named) ∙ at in
       cc
 
 module _ {E : Type 0} (is_of : List ℕ → E → Type 0) (shared_of : E → ModuleInterface) (files : List SeenFile) (g : ImportGraph) (kept : AreFilesOfGraph (files_of files) g)

@@ -5,6 +5,7 @@ pub mod Resolved
 pub mod Unresolved
 pub mod Found
 pub mod Entries
+pub mod Ahead
 pub mod Indexes
 pub mod Records
 pub mod WrittenIndexes

@@ -12,7 +12,8 @@ ghost use Rattle.ob_board.specs.Indexes.{IsIndexOf};
 ghost use Rattle.ob_board.specs.Seen.{all_seen};
 
 use crate::Entry;
-use crate::indexing::{index_of, names_ascend};
+use crate::ahead::Ahead;
+use crate::indexing::index_of;
 use crate::made::{Made, Making};
 use crate::named_index::{BoardOf, NamedIndex};
 use board_workers::Work;
@@ -113,14 +114,14 @@ impl<'a, F: NamedIndex> Making<'a, F, Made<F>> {
         requires right { is_wrong_part F.package_name ≡ false }
         ensures { IfOk result (λ work. work ≡ F.graph) }
     {
-        let by_name = names_ascend(alloc, tree.modules.as_slice())?;
+        let ahead = Ahead::of_files(alloc, sources, tree.modules.as_slice(), &tree.graph)?;
         Ok(Making::new(
             alloc,
             sources,
             tree.modules.as_slice(),
             &tree.graph,
             package_name,
-            by_name,
+            ahead,
         ))
     }
 

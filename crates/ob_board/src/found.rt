@@ -1,20 +1,20 @@
 //! What is found of a module: its interface, and its identifiers that stand for nothing.
 ghost use Rattle.std.specs.Prelude.{◌≡◌, ◌≤◌, ◌^◌, length, map, IfOk, List};
 ghost use Rattle.std.specs.Arc.{arc_value};
-ghost use Rattle.std.specs.Bool.{OnTrue};
 ghost use Rattle.ob_rows.specs.Tables.{rows_in};
 ghost use Rattle.ob_scan.specs.Spelling.{AreInText};
 ghost use Rattle.ob_scan.specs.Texts.{text_at};
 ghost use Rattle.ob_targets.specs.declared.target.Reference.{Reference};
 ghost use Rattle.ob_targets.specs.Refers.{unresolved, AreReferences};
-ghost use Rattle.ob_types.specs.Homes.{AreByName};
 ghost use Rattle.ob_types.specs.World.{world};
+ghost use Rattle.ob_board.specs.Ahead.{IsAheadOf, ServesAmong};
 ghost use Rattle.ob_board.specs.Seen.{all_seen, AreSourcesRead};
 ghost use Rattle.ob_board.specs.Entries.{interfaces_of};
 ghost use Rattle.ob_board.specs.Found.{IsAtHand};
 ghost use Rattle.ob_board.specs.Unresolved.{plain_unresolved};
 
 use crate::Unresolved;
+use crate::ahead::Ahead;
 use crate::files::NamedFiles;
 use crate::laws::reached_by_names;
 use crate::module_types::module_types;
@@ -100,44 +100,44 @@ fn unresolved_by(alloc: Global, types: &Types<'_>) -> Result<Vec<u32>, AllocErro
     numbers
 }
 
-/// The same, by what its parts and the interfaces of what it reaches say, told whether it is known that the names of these
-/// ascend, with a hint of their order.
+/// The same, by what its parts and the interfaces of what it reaches say, with what is known ahead of all modules and a hint of
+/// the order of these.
 fn numbers_of(
     alloc: Global,
     source: &Source,
     parts: &ModuleParts,
     reached: &[Arc<Interface>],
-    by_name: bool,
+    ahead: &Ahead,
     hint: &[u32],
 ) -> Result<Vec<u32>, AllocError>
     requires in_text { AreInText source.now.bytes.items parts.now.tokens }
     requires few { length (map arc_value reached.now) ≤ 2 ^ 32 }
-    requires by_name { OnTrue by_name (AreByName (map arc_value reached.now)) }
+    requires ahead { ServesAmong (map arc_value reached.now) ahead.now }
     ensures { IfOk result (λ numbers. (refs : List Reference) × (numbers.items ≡ unresolved refs)
         × AreReferences (world source.now.bytes.items parts.now.tokens (rows_in parts.now.table) parts.now.scopes (map arc_value reached.now)) refs) }
 {
-    let types = module_types(alloc, source, parts, reached, by_name, hint)?;
+    let types = module_types(alloc, source, parts, reached, ahead, hint)?;
     let numbers = unresolved_by(alloc, &types);
     drop(types);
     numbers
 }
 
-/// What is found of a module by its parts and the interfaces of what it reaches, told whether it is known that the names of these
-/// ascend, with a hint of their order.
+/// What is found of a module by its parts and the interfaces of what it reaches, with what is known ahead of all modules and a
+/// hint of the order of these.
 fn found_in<F: NamedFiles>(
     alloc: Global,
     source: &Source,
     parts: &ModuleParts,
     reached: &[Arc<Interface>],
-    by_name: bool,
+    ahead: &Ahead,
     hint: &[u32],
 ) -> Result<Found<F>, AllocError>
     requires at_hand { IsAtHand F.files source.now parts.now (map arc_value reached.now) }
-    requires by_name { OnTrue by_name (AreByName (map arc_value reached.now)) }
+    requires ahead { ServesAmong (map arc_value reached.now) ahead.now }
     ensures { IfOk result (λ found. found.name ≡ text_at source.now.bytes.items parts.now.tokens 1) }
 {
     tokens_in_text();
-    let numbers = numbers_of(alloc, source, parts, reached, by_name, hint)?;
+    let numbers = numbers_of(alloc, source, parts, reached, ahead, hint)?;
     let bytes = source.bytes.as_slice();
     let rows = rows_of(
         alloc,
@@ -163,16 +163,15 @@ pub(crate) struct Finding<'a, F: NamedFiles> {
     sources: &'a [Source],
     modules: &'a [Box<ModuleParts>],
     graph: &'a Graph,
-    /// Whether the names of the modules are known to ascend.
-    by_name: bool,
+    /// What is known of all modules.
+    ahead: Ahead,
     of: PhantomData<F>,
 }
 
 impl<'a, F: NamedFiles> Model for Finding<'a, F> {
     ghost use Rattle.std.specs.Prelude.{◌≡◌};
     ghost use Rattle.ob_imports.specs.Graphs.{ImportGraph};
-    ghost use Rattle.ob_types.specs.Homes.{AreByName};
-    ghost use Rattle.std.specs.Bool.{OnTrue};
+    ghost use Rattle.ob_board.specs.Ahead.{IsAheadOf};
     ghost use Rattle.ob_board.specs.Entries.{interfaces_of};
     ghost use Rattle.ob_board.specs.Seen.{all_seen, AreSourcesRead};
 
@@ -181,21 +180,21 @@ impl<'a, F: NamedFiles> Model for Finding<'a, F> {
     ghost view = { λ w. w.graph.now };
 
     ghost invariant = { λ w. (F.files ≡ all_seen w.sources.now w.modules.now) × AreSourcesRead w.sources.now w.modules.now w.graph.now
-        × OnTrue w.by_name (AreByName (interfaces_of w.modules.now)) };
+        × IsAheadOf (interfaces_of w.modules.now) w.ahead };
 }
 
 impl<'a, F: NamedFiles> Finding<'a, F> {
-    /// What finds it of the modules of these files, told whether the names of the modules are known to ascend.
+    /// What finds it of the modules of these files, with what is known ahead of all of them.
     pub(crate) fn new(
         alloc: Global,
         sources: &'a [Source],
         modules: &'a [Box<ModuleParts>],
         graph: &'a Graph,
-        by_name: bool,
+        ahead: Ahead,
     ) -> Finding<'a, F>
         requires files { F.files ≡ all_seen sources.now modules.now }
         requires seen { AreSourcesRead sources.now modules.now graph.now }
-        requires by_name { OnTrue by_name (AreByName (interfaces_of modules.now)) }
+        requires ahead { IsAheadOf (interfaces_of modules.now) ahead }
         ensures { result ≡ graph.now }
     {
         Finding {
@@ -203,7 +202,7 @@ impl<'a, F: NamedFiles> Finding<'a, F> {
             sources,
             modules,
             graph,
-            by_name,
+            ahead,
             of: PhantomData,
         }
     }
@@ -219,13 +218,19 @@ impl<F: NamedFiles> Work for Finding<'_, F> {
     fn make(&self, number: u32, parts: &[Arc<Interface>]) -> Result<Found<F>, AllocError> {
         reached_by_names();
         let place = number as usize;
-        let hint = order_hint(self.alloc, self.graph, number, parts.len(), self.by_name)?;
+        let hint = order_hint(
+            self.alloc,
+            self.graph,
+            number,
+            parts.len(),
+            self.ahead.by_name,
+        )?;
         let found = found_in(
             self.alloc,
             &self.sources[place],
             &self.modules[place],
             parts,
-            self.by_name,
+            &self.ahead,
             hint.as_slice(),
         )?;
         Ok(found)

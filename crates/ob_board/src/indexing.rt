@@ -1,30 +1,26 @@
 //! The entries of the modules of a tree, and its index.
 ghost use Rattle.std.specs.Prelude.{◌≡◌, false, map, IfErr, IfOk};
-ghost use Rattle.std.specs.Arc.{arc_value};
-ghost use Rattle.std.specs.Bool.{OnTrue};
 ghost use Rattle.std.specs.List.{flat_map};
 ghost use Rattle.std.specs.String.{string_bytes};
 ghost use Rattle.ob_emit.specs.Externals.{AreExternalRows};
-ghost use Rattle.ob_types.specs.Homes.{AreByName};
 ghost use Rattle.oscip_tree.specs.Trees.{IsTreeFault};
 ghost use Rattle.scip_index.specs.Plain.{plain_document, plain_index, plain_metadata, plain_symbol};
 ghost use Rattle.scip_symbol.specs.Outcomes.{is_wrong_part};
 ghost use Rattle.ob_board.specs.Seen.{all_seen, AreSourcesRead};
-ghost use Rattle.ob_board.specs.Entries.{interfaces_of, plain_entry, AreEntriesOf};
+ghost use Rattle.ob_board.specs.Entries.{plain_entry, AreEntriesOf};
 ghost use Rattle.ob_board.specs.Indexes.{own_metadata, AreTreeEntries, IsIndex, IsMadeOf};
 
+use crate::ahead::Ahead;
 use crate::made::{Made, Making};
 use crate::named_index::NamedIndex;
 use crate::{Entry, board_graph};
 use board_workers::BoardGate;
 use ob_emit::all_externals;
-use ob_interface::Interface;
-use ob_types::ascend;
-use oscip_tree::{ModuleParts, Source, TreeFault, TreeParts, tree_parts};
+use oscip_tree::{Source, TreeFault, TreeParts, tree_parts};
 use scip_index::{Document, Index, Metadata, SymbolInfo, ToolInfo};
 use std::alloc::{AllocError, Global};
 use std::marker::Brand;
-use std::sync::{Arc, Wait};
+use std::sync::Wait;
 use std::thread::Threads;
 
 /// What an index is told beside its tree: the package that its symbols name, and the root of the project.
@@ -46,28 +42,6 @@ fn plain<F: NamedIndex>(alloc: Global, all: Vec<Made<F>>) -> Result<Vec<Entry>, 
     Ok(entries)
 }
 
-/// The interfaces of all modules.
-fn interfaces(
-    alloc: Global,
-    modules: &[Box<ModuleParts>],
-) -> Result<Vec<Arc<Interface>>, AllocError>
-    ensures { IfOk result (λ all. map arc_value all.items ≡ interfaces_of modules.now) }
-{
-    let mut all = Vec::new(alloc);
-    for parts in modules {
-        all.push(Arc::try_clone(&parts.interface)?)?;
-    }
-    Ok(all)
-}
-
-/// Whether the names of all modules ascend.
-pub(crate) fn names_ascend(alloc: Global, modules: &[Box<ModuleParts>]) -> Result<bool, AllocError>
-    ensures { IfOk result (λ by_name. OnTrue by_name (AreByName (interfaces_of modules.now))) }
-{
-    let all = interfaces(alloc, modules)?;
-    Ok(ascend(all.as_slice()))
-}
-
 /// The entries of a tree of which these are the parts, in the order of the files.
 fn entries_in<F: NamedIndex + Send + Sync, G: BoardGate + Sync, R: Threads + Wait + Sync>(
     rt: &R,
@@ -85,7 +59,7 @@ fn entries_in<F: NamedIndex + Send + Sync, G: BoardGate + Sync, R: Threads + Wai
     requires right { is_wrong_part F.package_name ≡ false }
     ensures { IfOk result (λ entries. AreEntriesOf F.files F.package_name (map plain_entry entries.items)) }
 {
-    let by_name = names_ascend(alloc, tree.modules.as_slice())?;
+    let ahead = Ahead::of_files(alloc, sources, tree.modules.as_slice(), &tree.graph)?;
     let graph = board_graph(alloc, &tree.graph)?;
     let work = Making::<F, Made<F>>::new(
         alloc,
@@ -93,7 +67,7 @@ fn entries_in<F: NamedIndex + Send + Sync, G: BoardGate + Sync, R: Threads + Wai
         tree.modules.as_slice(),
         &tree.graph,
         options.package.as_str(),
-        by_name,
+        ahead,
     );
     let all = board_workers::entries(rt, alloc, &graph, workers, &work, gate);
     drop(graph);

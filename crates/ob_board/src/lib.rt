@@ -4,6 +4,7 @@
 //! the identifiers that stand for nothing are the tree's.
 #![tactic(auto)]
 
+mod ahead;
 mod driving;
 mod entry;
 mod files;

@@ -5,9 +5,9 @@ ghost use Rattle.oscip_tree.specs.Trees.{IsTreeFault};
 ghost use Rattle.ob_board.specs.Seen.{all_seen, AreSourcesRead};
 ghost use Rattle.ob_board.specs.Unresolved.{plain_unresolved, AreUnresolved, IsUnresolvedOf};
 
+use crate::ahead::Ahead;
 use crate::files::NamedFiles;
 use crate::found::{Finding, Found};
-use crate::indexing::names_ascend;
 use crate::{Unresolved, board_graph};
 use board_workers::entries_alone;
 use oscip_tree::{Source, TreeFault, TreeParts, tree_parts};
@@ -37,15 +37,9 @@ fn listed<F: NamedFiles>(
     requires seen { AreSourcesRead sources.now tree.now.modules.items tree.now.graph }
     ensures { IfOk result (λ rows. IsUnresolvedOf F.files (map plain_unresolved rows.items)) }
 {
-    let by_name = names_ascend(alloc, tree.modules.as_slice())?;
+    let ahead = Ahead::of_files(alloc, sources, tree.modules.as_slice(), &tree.graph)?;
     let graph = board_graph(alloc, &tree.graph)?;
-    let work = Finding::<F>::new(
-        alloc,
-        sources,
-        tree.modules.as_slice(),
-        &tree.graph,
-        by_name,
-    );
+    let work = Finding::<F>::new(alloc, sources, tree.modules.as_slice(), &tree.graph, ahead);
     let all = entries_alone(alloc, &graph, &work);
     drop(graph);
     joined(alloc, all?)

@@ -1,15 +1,15 @@
 //! The entries of the modules of a tree, as they are made at a board.
 ghost use Rattle.std.specs.Prelude.{◌≡◌, false, map, IfOk};
 ghost use Rattle.std.specs.Arc.{arc_value};
-ghost use Rattle.std.specs.Bool.{OnTrue};
 ghost use Rattle.ob_scan.specs.Texts.{text_at};
-ghost use Rattle.ob_types.specs.Homes.{AreByName};
 ghost use Rattle.scip_symbol.specs.Outcomes.{is_wrong_part};
+ghost use Rattle.ob_board.specs.Ahead.{IsAheadOf, ServesAmong};
 ghost use Rattle.ob_board.specs.Seen.{all_seen, AreSourcesRead};
 ghost use Rattle.ob_board.specs.Entries.{interfaces_of, plain_entry, AreAllNamed, IsEntryOf};
 ghost use Rattle.ob_board.specs.Found.{IsAtHand};
 
 use crate::Entry;
+use crate::ahead::Ahead;
 use crate::laws::reached_by_names;
 use crate::named_index::NamedIndex;
 use crate::ordering::order_hint;
@@ -78,20 +78,20 @@ impl<F: NamedIndex> WorkEntry for Made<F> {
     }
 }
 
-/// The entry of a module by its parts and the interfaces of what it reaches, told whether it is known that the names of these
-/// ascend, with a hint of their order.
+/// The entry of a module by its parts and the interfaces of what it reaches, with what is known ahead of all modules and a hint
+/// of the order of these.
 fn made_in<F: NamedIndex>(
     alloc: Global,
     source: &Source,
     parts: &ModuleParts,
     reached: &[Arc<Interface>],
-    by_name: bool,
+    ahead: &Ahead,
     hint: &[u32],
     package_name: &str,
 ) -> Result<Made<F>, AllocError>
     requires at_hand { IsAtHand F.files source.now parts.now (map arc_value reached.now) }
     requires named { AreAllNamed (map arc_value reached.now) }
-    requires by_name { OnTrue by_name (AreByName (map arc_value reached.now)) }
+    requires ahead { ServesAmong (map arc_value reached.now) ahead.now }
     requires package { package_name.now ≡ F.package_name }
     requires right { is_wrong_part F.package_name ≡ false }
     ensures { IfOk result (λ m. m.name ≡ text_at source.now.bytes.items parts.now.tokens 1) }
@@ -99,7 +99,7 @@ fn made_in<F: NamedIndex>(
     let Written {
         document,
         externals,
-    } = write_module(alloc, source, parts, reached, by_name, hint, package_name)?;
+    } = write_module(alloc, source, parts, reached, ahead, hint, package_name)?;
     let name = String::from_str(alloc, parts.scopes.name())?;
     let interface = Arc::try_clone(&parts.interface)?;
     let entry = Entry {
@@ -122,8 +122,8 @@ pub struct Making<'a, F: NamedIndex, E> {
     pub(crate) modules: &'a [Box<ModuleParts>],
     pub(crate) graph: &'a Graph,
     pub(crate) package_name: &'a str,
-    /// Whether the names of the modules are known to ascend.
-    pub(crate) by_name: bool,
+    /// What is known of all modules.
+    pub(crate) ahead: Ahead,
     of: PhantomData<F>,
     made: PhantomData<E>,
 }
@@ -131,9 +131,8 @@ pub struct Making<'a, F: NamedIndex, E> {
 impl<'a, F: NamedIndex, E> Model for Making<'a, F, E> {
     ghost use Rattle.std.specs.Prelude.{◌≡◌, false};
     ghost use Rattle.ob_imports.specs.Graphs.{ImportGraph};
-    ghost use Rattle.ob_types.specs.Homes.{AreByName};
     ghost use Rattle.scip_symbol.specs.Outcomes.{is_wrong_part};
-    ghost use Rattle.std.specs.Bool.{OnTrue};
+    ghost use Rattle.ob_board.specs.Ahead.{IsAheadOf};
     ghost use Rattle.ob_board.specs.Seen.{all_seen, AreSourcesRead};
     ghost use Rattle.ob_board.specs.Entries.{interfaces_of};
 
@@ -142,26 +141,25 @@ impl<'a, F: NamedIndex, E> Model for Making<'a, F, E> {
     ghost view = { λ w. w.graph.now };
 
     ghost invariant = { λ w. (F.files ≡ all_seen w.sources.now w.modules.now) × AreSourcesRead w.sources.now w.modules.now w.graph.now × (w.package_name.now ≡ F.package_name)
-        × (is_wrong_part F.package_name ≡ false) × OnTrue w.by_name (AreByName (interfaces_of w.modules.now)) × (F.graph ≡ w.graph.now) };
+        × (is_wrong_part F.package_name ≡ false) × IsAheadOf (interfaces_of w.modules.now) w.ahead × (F.graph ≡ w.graph.now) };
 }
 
 impl<'a, F: NamedIndex, E> Making<'a, F, E> {
-    /// What makes this of the modules of these files, with symbols of this package, told whether the names of the modules
-    /// are known to ascend.
+    /// What makes this of the modules of these files, with symbols of this package, and with what is known ahead of all modules.
     pub(crate) fn new(
         alloc: Global,
         sources: &'a [Source],
         modules: &'a [Box<ModuleParts>],
         graph: &'a Graph,
         package_name: &'a str,
-        by_name: bool,
+        ahead: Ahead,
     ) -> Making<'a, F, E>
         requires files { F.files ≡ all_seen sources.now modules.now }
         requires seen { AreSourcesRead sources.now modules.now graph.now }
         requires graph { F.graph ≡ graph.now }
         requires package { package_name.now ≡ F.package_name }
         requires right { is_wrong_part F.package_name ≡ false }
-        requires by_name { OnTrue by_name (AreByName (interfaces_of modules.now)) }
+        requires ahead { IsAheadOf (interfaces_of modules.now) ahead }
         ensures { result ≡ graph.now }
     {
         Making {
@@ -170,7 +168,7 @@ impl<'a, F: NamedIndex, E> Making<'a, F, E> {
             modules,
             graph,
             package_name,
-            by_name,
+            ahead,
             of: PhantomData,
             made: PhantomData,
         }
@@ -194,13 +192,19 @@ impl<F: NamedIndex> Work for Making<'_, F, Made<F>> {
     fn make(&self, number: u32, parts: &[Arc<Interface>]) -> Result<Made<F>, AllocError> {
         reached_by_names();
         let place = number as usize;
-        let hint = order_hint(self.alloc, self.graph, number, parts.len(), self.by_name)?;
+        let hint = order_hint(
+            self.alloc,
+            self.graph,
+            number,
+            parts.len(),
+            self.ahead.by_name,
+        )?;
         let made = made_in(
             self.alloc,
             &self.sources[place],
             &self.modules[place],
             parts,
-            self.by_name,
+            &self.ahead,
             hint.as_slice(),
             self.package_name,
         )?;

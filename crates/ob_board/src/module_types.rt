@@ -6,16 +6,18 @@ ghost use Rattle.ob_rows.specs.Tables.{rows_in};
 ghost use Rattle.ob_scan.specs.Spelling.{AreInText};
 ghost use Rattle.ob_types.specs.Homes.{AreByName};
 ghost use Rattle.ob_types.specs.World.{world};
+ghost use Rattle.ob_board.specs.Ahead.{ServesAmong};
 
+use crate::ahead::Ahead;
 use ob_interface::Interface;
 use ob_types::Types;
 use oscip_tree::{ModuleParts, Source};
 use std::alloc::{AllocError, Global};
 use std::sync::Arc;
 
-/// The types of a module, by its parts and the interfaces of what it reaches, told whether it is known that the names of these
-/// ascend, with a hint of their order.
-pub(crate) fn module_types<'a>(
+/// The types of a module, by its parts and these interfaces, told whether it is known that the names of these ascend, with a hint of
+/// their order.
+pub(crate) fn types_among<'a>(
     alloc: Global,
     source: &'a Source,
     parts: &'a ModuleParts,
@@ -38,4 +40,23 @@ pub(crate) fn module_types<'a>(
         by_name,
         hint,
     )
+}
+
+/// The types of a module, by its parts and the interfaces of what it reaches, with what is known ahead of all modules and a hint of
+/// the order of these.
+pub(crate) fn module_types<'a>(
+    alloc: Global,
+    source: &'a Source,
+    parts: &'a ModuleParts,
+    reached: &'a [Arc<Interface>],
+    ahead: &'a Ahead,
+    hint: &[u32],
+) -> Result<Types<'a>, AllocError>
+    requires in_text { AreInText source.now.bytes.items parts.now.tokens }
+    requires few { length (map arc_value reached.now) ≤ 2 ^ 32 }
+    requires ahead { ServesAmong (map arc_value reached.now) ahead.now }
+    ensures { IfOk result (λ t. t ≡ world source.now.bytes.items parts.now.tokens (rows_in parts.now.table) parts.now.scopes (map arc_value reached.now)) }
+{
+    let types = types_among(alloc, source, parts, reached, ahead.by_name, hint)?;
+    Ok(types.with_shortcuts(ahead.shortcuts()))
 }

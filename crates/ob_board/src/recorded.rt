@@ -3,13 +3,13 @@
 ghost use Rattle.std.specs.Prelude.{◌≡◌, false, map, IfOk};
 ghost use Rattle.scip_index.specs.Plain.{plain_symbol};
 ghost use Rattle.std.specs.Arc.{arc_value};
-ghost use Rattle.std.specs.Bool.{OnTrue};
 ghost use Rattle.ob_scan.specs.Texts.{text_at};
-ghost use Rattle.ob_types.specs.Homes.{AreByName};
 ghost use Rattle.scip_symbol.specs.Outcomes.{is_wrong_part};
+ghost use Rattle.ob_board.specs.Ahead.{ServesAmong};
 ghost use Rattle.ob_board.specs.Entries.{AreAllNamed};
 ghost use Rattle.ob_board.specs.Found.{IsAtHand};
 
+use crate::ahead::Ahead;
 use crate::laws::reached_by_names;
 use crate::made::Making;
 use crate::named_index::NamedIndex;
@@ -86,20 +86,20 @@ impl<F: NamedIndex> WorkEntry for Recorded<F> {
     }
 }
 
-/// The entry of a module by its parts and the interfaces of what it reaches, told whether it is known that the names of these
-/// ascend, with a hint of their order.
+/// The entry of a module by its parts and the interfaces of what it reaches, with what is known ahead of all modules and a hint
+/// of the order of these.
 fn recorded_in<F: NamedIndex>(
     alloc: Global,
     source: &Source,
     parts: &ModuleParts,
     reached: &[Arc<Interface>],
-    by_name: bool,
+    ahead: &Ahead,
     hint: &[u32],
     package_name: &str,
 ) -> Result<Recorded<F>, AllocError>
     requires at_hand { IsAtHand F.files source.now parts.now (map arc_value reached.now) }
     requires named { AreAllNamed (map arc_value reached.now) }
-    requires by_name { OnTrue by_name (AreByName (map arc_value reached.now)) }
+    requires ahead { ServesAmong (map arc_value reached.now) ahead.now }
     requires package { package_name.now ≡ F.package_name }
     requires right { is_wrong_part F.package_name ≡ false }
     ensures { IfOk result (λ r. r.name ≡ text_at source.now.bytes.items parts.now.tokens 1) }
@@ -109,7 +109,7 @@ fn recorded_in<F: NamedIndex>(
         source,
         parts,
         reached,
-        by_name,
+        ahead,
         hint,
         package_name,
     )?;
@@ -134,13 +134,19 @@ impl<F: NamedIndex> Work for Making<'_, F, Recorded<F>> {
     fn make(&self, number: u32, parts: &[Arc<Interface>]) -> Result<Recorded<F>, AllocError> {
         reached_by_names();
         let place = number as usize;
-        let hint = order_hint(self.alloc, self.graph, number, parts.len(), self.by_name)?;
+        let hint = order_hint(
+            self.alloc,
+            self.graph,
+            number,
+            parts.len(),
+            self.ahead.by_name,
+        )?;
         let recorded = recorded_in(
             self.alloc,
             &self.sources[place],
             &self.modules[place],
             parts,
-            self.by_name,
+            &self.ahead,
             hint.as_slice(),
             self.package_name,
         )?;

@@ -12,7 +12,8 @@ ghost use Rattle.ob_board.specs.Indexes.{own_metadata};
 ghost use Rattle.ob_board.specs.Records.{AreRecordsOf, AreTreeRecords};
 ghost use Rattle.ob_board.specs.WrittenIndexes.{IsWrittenIndex};
 
-use crate::indexing::{metadata, names_ascend};
+use crate::ahead::Ahead;
+use crate::indexing::metadata;
 use crate::made::Making;
 use crate::named_index::NamedIndex;
 use crate::recorded::Recorded;
@@ -77,7 +78,7 @@ fn records_in<F: NamedIndex + Send + Sync, G: BoardGate + Sync, R: Threads + Wai
     requires right { is_wrong_part F.package_name ≡ false }
     ensures { IfOk result (λ g. AreRecordsOf F.files F.package_name (map (λ row. row.items) g.records.items) (map plain_symbol g.rows.items)) }
 {
-    let by_name = names_ascend(alloc, tree.modules.as_slice())?;
+    let ahead = Ahead::of_files(alloc, sources, tree.modules.as_slice(), &tree.graph)?;
     let graph = board_graph(alloc, &tree.graph)?;
     let work = Making::<F, Recorded<F>>::new(
         alloc,
@@ -85,7 +86,7 @@ fn records_in<F: NamedIndex + Send + Sync, G: BoardGate + Sync, R: Threads + Wai
         tree.modules.as_slice(),
         &tree.graph,
         options.package.as_str(),
-        by_name,
+        ahead,
     );
     let all = board_workers::entries(rt, alloc, &graph, workers, &work, gate);
     drop(graph);

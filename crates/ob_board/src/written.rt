@@ -1,17 +1,17 @@
 //! The document and the external symbols of a module.
 ghost use Rattle.std.specs.Prelude.{◌≡◌, ◌<◌, ◌≤◌, ◌^◌, false, length, map, IfOk, Ok};
 ghost use Rattle.std.specs.Arc.{arc_value};
-ghost use Rattle.std.specs.Bool.{OnTrue};
 ghost use Rattle.ob_rows.specs.Tables.{rows_in};
 ghost use Rattle.ob_emit.specs.Named.{HaveNames};
 ghost use Rattle.ob_scan.specs.Spelling.{IsOutcome, Spells};
 ghost use Rattle.ob_scope.specs.Scoped.{AreScopes};
-ghost use Rattle.ob_types.specs.Homes.{AreByName};
 ghost use Rattle.scip_index.specs.Plain.{plain_document, plain_symbol};
 ghost use Rattle.scip_symbol.specs.Outcomes.{is_wrong_part};
+ghost use Rattle.ob_board.specs.Ahead.{ServesAmong};
 ghost use Rattle.ob_board.specs.Entries.{AreAllNamed, IsWritten, IsWrittenBy};
 ghost use Rattle.ob_board.specs.Records.{IsRecorded, IsRecordedBy};
 
+use crate::ahead::Ahead;
 use crate::module_types::module_types;
 use ob_emit::laws::{names_of_references, names_of_scopes};
 use ob_emit::{EmitFault, document, document_record, externals};
@@ -60,14 +60,14 @@ fn written_by(
     }
 }
 
-/// What is written of a module, by its parts and the interfaces of what it reaches, told whether it is known that the names of
-/// these ascend, with a hint of their order.
+/// What is written of a module, by its parts and the interfaces of what it reaches, with what is known ahead of all modules and a
+/// hint of the order of these.
 pub(crate) fn write_module(
     alloc: Global,
     source: &Source,
     parts: &ModuleParts,
     reached: &[Arc<Interface>],
-    by_name: bool,
+    ahead: &Ahead,
     hint: &[u32],
     package_name: &str,
 ) -> Result<Written, AllocError>
@@ -75,13 +75,13 @@ pub(crate) fn write_module(
     requires scoped { AreScopes source.now.bytes.items parts.now.tokens (rows_in parts.now.table) parts.now.scopes }
     requires named { AreAllNamed (map arc_value reached.now) }
     requires few { length (map arc_value reached.now) ≤ 2 ^ 32 }
-    requires by_name { OnTrue by_name (AreByName (map arc_value reached.now)) }
+    requires ahead { ServesAmong (map arc_value reached.now) ahead.now }
     requires package { is_wrong_part package_name.now ≡ false }
     ensures { IfOk result (λ w. IsWritten source.now parts.now (map arc_value reached.now) package_name.now (plain_document w.document) (map plain_symbol w.externals.items)) }
 {
     tokens_in_text();
     names_of_scopes();
-    let types = module_types(alloc, source, parts, reached, by_name, hint)?;
+    let types = module_types(alloc, source, parts, reached, ahead, hint)?;
     let written = written_by(alloc, source.path.as_str(), &types, package_name);
     drop(types);
     written
@@ -120,14 +120,14 @@ fn recorded_by(
     }
 }
 
-/// The record of a module, by its parts and the interfaces of what it reaches, told whether it is known that the names of these
-/// ascend, with a hint of their order. No message is made on the way: what `write_module` answers, as bytes.
+/// The record of a module, by its parts and the interfaces of what it reaches, with what is known ahead of all modules and a hint of
+/// the order of these. No message is made on the way: what `write_module` answers, as bytes.
 pub(crate) fn record_module(
     alloc: Global,
     source: &Source,
     parts: &ModuleParts,
     reached: &[Arc<Interface>],
-    by_name: bool,
+    ahead: &Ahead,
     hint: &[u32],
     package_name: &str,
 ) -> Result<WrittenRecord, AllocError>
@@ -135,13 +135,13 @@ pub(crate) fn record_module(
     requires scoped { AreScopes source.now.bytes.items parts.now.tokens (rows_in parts.now.table) parts.now.scopes }
     requires named { AreAllNamed (map arc_value reached.now) }
     requires few { length (map arc_value reached.now) ≤ 2 ^ 32 }
-    requires by_name { OnTrue by_name (AreByName (map arc_value reached.now)) }
+    requires ahead { ServesAmong (map arc_value reached.now) ahead.now }
     requires package { is_wrong_part package_name.now ≡ false }
     ensures { IfOk result (λ w. IsRecorded source.now parts.now (map arc_value reached.now) package_name.now w.bytes.items (map plain_symbol w.externals.items)) }
 {
     tokens_in_text();
     names_of_scopes();
-    let types = module_types(alloc, source, parts, reached, by_name, hint)?;
+    let types = module_types(alloc, source, parts, reached, ahead, hint)?;
     let recorded = recorded_by(alloc, source.path.as_str(), &types, package_name);
     drop(types);
     recorded

@@ -4,3 +4,7 @@ pub mod Ascending
 pub mod Backwards
 pub mod Placed
 pub mod Telling
+pub mod Alike
+pub mod Within
+pub mod Known
+pub mod Lending

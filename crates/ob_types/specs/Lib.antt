@@ -7,3 +7,6 @@ pub mod Told
 pub mod Depths
 pub mod DepthLaws
 pub mod NameLaws
+pub mod Alike
+pub mod Within
+pub mod Known

@@ -6,7 +6,7 @@ ghost use Rattle.std.specs.Ordering.{nat_cmp};
 ghost use Rattle.std.specs.declared.cmp.Ordering.TheVariants.{Less};
 ghost use Rattle.std.specs.Arc.{arc_value};
 ghost use Rattle.ob_interface.specs.Places.{rank_cmp, AreRanked, IsLeastPlace};
-ghost use Rattle.ob_types.specs.Homes.{home_in, name_at, same_place, AreAllPlaces, AreByName, IsNameOrder};
+ghost use Rattle.ob_types.specs.Homes.{home_in, name_at, same_place, AreAllPlaces, AreByName, AreHomes, IsNameOrder};
 
 use ob_interface::Interface;
 use std::alloc::{AllocError, Global};
@@ -156,6 +156,24 @@ fn place_in_order(reached: &[Arc<Interface>], name: &[u8]) -> Option<usize>
         .ok()
 }
 
+/// The place of the module of this name, among modules whose places by their names are these, or whose names ascend.
+pub(crate) fn place_by(
+    reached: &[Arc<Interface>],
+    order: &Option<Vec<u32>>,
+    name: &[u8],
+) -> Option<u32>
+    requires { AreHomes (map arc_value reached.now) order.now }
+    ensures { result ≡ home_in (map arc_value reached.now) name.now }
+{
+    match order {
+        Some(order) => place_along(reached, order.as_slice(), name),
+        None => match place_in_order(reached, name) {
+            Some(place) => Some(place as u32),
+            None => None,
+        },
+    }
+}
+
 impl<'a> Homes<'a> {
     /// The places of these modules, whose names are compared where it isn't known that they ascend. The hint has the places by the names,
     /// as far as is known.
@@ -186,12 +204,16 @@ impl<'a> Homes<'a> {
     pub(crate) fn place(&self, name: &[u8]) -> Option<u32>
         ensures { result ≡ home_in self.now name.now }
     {
+        place_by(self.reached, &self.order, name)
+    }
+
+    /// The places by the names, where these don't ascend.
+    pub(crate) fn order(&self, alloc: Global) -> Result<Option<Vec<u32>>, AllocError>
+        ensures { IfOk result (AreHomes self.now) }
+    {
         match &self.order {
-            Some(order) => place_along(self.reached, order.as_slice(), name),
-            None => match place_in_order(self.reached, name) {
-                Some(place) => Some(place as u32),
-                None => None,
-            },
+            None => Ok(None),
+            Some(order) => Ok(Some(order.as_slice().to_vec(alloc)?)),
         }
     }
 }

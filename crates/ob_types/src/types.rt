@@ -1,7 +1,7 @@
 //! The types of a module and of those that it reaches.
 #![tactic(auto)]
 
-ghost use Rattle.std.specs.Prelude.{◌≡◌, ◌≤◌, ◌^◌, IfOk, length, map, slice_get};
+ghost use Rattle.std.specs.Prelude.{◌≡◌, ◌≤◌, ◌^◌, IfOk, IfSome, length, map, slice_get};
 ghost use Rattle.std.specs.Option.{option_map};
 ghost use Rattle.std.specs.Arc.{arc_value};
 ghost use Rattle.std.specs.Bool.{OnTrue};
@@ -10,11 +10,13 @@ ghost use Rattle.ob_scan.specs.Spelling.{AreInText};
 ghost use Rattle.ob_types.specs.Homes.{AreByName};
 ghost use Rattle.ob_types.specs.World.{exported, form_of, home_of, item_of, meaning, owner_at, owner_there, sort_of, sort_there, text, world};
 ghost use Rattle.ob_types.specs.Shapes.{named_here, type_of_field};
+ghost use Rattle.ob_types.specs.Within.{AreWithin};
 
 use crate::hints::hints_of;
 use crate::indexed::Indexed;
 use crate::nodes::{Field, Named, Node, Record};
 use crate::parts::Parts;
+use crate::shortcuts::Shortcuts;
 use crate::told::{records_told, size_told};
 use ob_interface::Interface;
 use ob_rows::{Sort, Table};
@@ -23,7 +25,7 @@ use ob_scope::Scopes;
 use std::alloc::{AllocError, Global};
 use std::marker::Model;
 use std::sync::Arc;
-use type_search::{OwnField, Shape, TypeGraph};
+use type_search::{Hop, OwnField, Shape, TypeGraph};
 
 /// A module with the interfaces of the modules of its tree that it reaches, by what names and types mean in it. A contract sees it as the
 /// `World`. It borrows all that it is made of, and has indexes of its own.
@@ -33,7 +35,9 @@ use type_search::{OwnField, Shape, TypeGraph};
 /// in the file is answered.
 #[derive(Drop)]
 pub struct Types<'a> {
-    indexed: Indexed<'a>,
+    pub(crate) indexed: Indexed<'a>,
+    /// What is known of all modules of the tree.
+    shortcuts: Option<&'a Shortcuts>,
 }
 
 impl<'a> Model for Types<'a> {
@@ -44,6 +48,11 @@ impl<'a> Model for Types<'a> {
     ghost use Rattle.ob_types.specs.Parted.{world_of};
 
     ghost view = { λ t. world_of t.indexed.parts };
+
+    ghost use Rattle.std.specs.Prelude.{IfSome};
+    ghost use Rattle.ob_types.specs.Within.{AreWithin};
+
+    ghost invariant = { λ t. IfSome t.shortcuts (λ s. AreWithin s.now (world_of t.indexed.parts).reached) };
 }
 
 impl<'a> Types<'a> {
@@ -90,7 +99,19 @@ impl<'a> Types<'a> {
             hints: hints_of(alloc, table, tokens.len())?,
         };
         let indexed = Indexed::new(alloc, parts, by_name, hint)?;
-        Ok(Types { indexed })
+        Ok(Types {
+            indexed,
+            shortcuts: None,
+        })
+    }
+
+    /// The same, with what is known of all modules of the tree: it is for speed alone.
+    pub fn with_shortcuts(mut self, shortcuts: Option<&'a Shortcuts>) -> Types<'a>
+        requires { IfSome shortcuts (λ s. AreWithin s.now self.reached) }
+        ensures { result ≡ self.entry }
+    {
+        self.shortcuts = shortcuts;
+        self
     }
 
     /// What every value keeps: the tokens stand in the bytes.
@@ -282,6 +303,14 @@ impl TypeGraph for Types<'_> {
 
     fn fields(&self, alloc: Global) -> Result<Vec<OwnField<'_, Record>>, AllocError> {
         self.indexed.all_fields(alloc)
+    }
+
+    fn known_end(&self, pointers: bool, node: Node) -> Option<Option<Node>> {
+        self.shortcuts?.end(&self.indexed, pointers, node)
+    }
+
+    fn known_hop(&self, record: Record, name: &[u8]) -> Option<Hop<Record>> {
+        self.shortcuts?.hop(&self.indexed, record, name)
     }
 
     ghost deep = { deep };

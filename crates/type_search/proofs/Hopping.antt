@@ -1,11 +1,12 @@
 -- Hops along a line are climbs.
-use Rattle.std.proofs.Common.{◌≡◌, ℕ, zero, suc, ◌+◌, ◌-◌, ◌<◌, ◌≤◌, List, length, length-set, get_or, set, Bool, true, false, Option, Some, None, refl, sym, ap, ◌∙◌, subst, arith, ◌⊎◌, inl, inr}
-use Rattle.std.specs.Prelude.{position, slice_get, IsPermutation}
+use Rattle.std.proofs.Common.{◌≡◌, ◌++◌, ◌∷◌, [], ℕ, zero, suc, ◌+◌, ◌-◌, ◌<◌, ◌≤◌, List, length, length-set, get_or, set, Bool, true, false, Option, Some, None, refl, sym, ap, ◌∙◌, subst, arith, ◌⊎◌, inl, inr}
+use Rattle.std.specs.Prelude.{position, slice_get, Contains, IsPermutation}
 use Rattle.std.specs.List.{position_or_len, IsDistinct}
 use Rattle.std.specs.Bool.{OnTrue}
 use Rattle.std.proofs.lemmas.Bool.{cases_lt}
 use Rattle.std.proofs.lemmas.Bool.Decides.{nat_tests}
 use Rattle.std.proofs.lemmas.List.Sums.{position_or_len_is}
+use Rattle.std.proofs.lemmas.List.Elements.{Contains-append_left, Contains-push}
 use Rattle.std.proofs.lemmas.List.Quantifiers.{position-Some}
 use Rattle.std.proofs.lemmas.Map.Keys.{apart_from_distinct}
 use Rattle.std.proofs.lemmas.List.{get_or-set_other, get_or-set_same}
@@ -25,6 +26,17 @@ not_true false h = refl
 
 pub ends_at : (ends : List ℕ) (place end : ℕ) → place < length ends → end ≡ get_or ends place end → slice_get ends place ≡ Some end
 ends_at ends place end within is = slice_get-get_or ends place end within ∙ ap (λ (n : ℕ). Some n) (sym is)
+
+-- a field is added behind the others
+pub added_last : {R : Type 0} (same : R → R → Bool) (line : List R) (field : OwnField R) (before after : List Owned) (entry : Owned) (place : ℕ) (o : Option ℕ) → after ≡ before ++ entry ∷ [] → entry.name.items ≡ field.name.now → entry.place ≡ place
+    → o ≡ Some place → o ≡ position (same field.of_record) line → AddsField same line field before after
+added_last same line field before after entry place o last named at some found = record {
+  stays = λ name k has. (let among = subst (λ (es : List Owned). Contains es has.entry) (sym last) (Contains-append_left before (entry ∷ []) has.entry has.among) in record { entry = has.entry; among = among; is = has.is });
+  added = λ k there. (
+      let one : Some place ≡ Some k = sym some ∙ found ∙ there in
+      let is : place ≡ k = cc in
+      record { entry = entry; among = subst (λ (es : List Owned). Contains es entry) (sym last) (Contains-push before entry); is = ap (λ (n : List ℕ). (n, entry.place)) named ∙ ap (λ (n : ℕ). (field.name.now, n)) (at ∙ is) });
+}
 
 -- a record that is found stands at its place, and one that stands at a place is found there
 module _ {R : Type 0} (same : R → R → Bool) (apart : (r s : R) → same r s ≡ true → r ≡ s) where

@@ -1,5 +1,5 @@
 -- Fields of a line in the order of their names and places.
-use Rattle.std.proofs.Common.{◌≡◌, ℕ, ◌<◌, ◌≤◌, List, [], length, get_or, true, false, Some, sym, ap, ◌∙◌, refl, arith, ◌⊎◌, inl, inr, Ordering}
+use Rattle.std.proofs.Common.{◌≡◌, ℕ, ◌<◌, ◌≤◌, List, length, get_or, true, false, Some, sym, ap, ◌∙◌, refl, arith, ◌⊎◌, inl, inr, Ordering}
 use Rattle.std.specs.Prelude.{None, IsPermutation}
 use Rattle.std.specs.Ordering.{nat_cmp, ordering_then, ordering_index, is_le}
 use Rattle.std.specs.declared.cmp.Ordering.TheVariants.{Less, Equal, Greater}
@@ -14,10 +14,6 @@ use Rattle.std.proofs.lemmas.Map.Lookups.{exact_bytes}
 use Rattle.std.proofs.lemmas.Option.{slice_get-get_or, get_or_from_slice_get}
 use Rattle.type_search.specs.declared.owned.Owned.{Owned}
 use Rattle.type_search.specs.Lines.{stand_cmp, stand_of, StandByName, HasPlace, IsNextPlace, Stand, StandUpTo}
-
--- what is read beyond the last
-abbrev pub no_owned : Owned
-no_owned = record { name = record { ref_ptr = (0, 0); now = [] }; place = 0 }
 
 pub stand_total : IsTotalOrder stand_cmp
 stand_total = then_total (on_total (λ (k : Stand). k.0) nat_list_cmp_total) (on_total (λ (k : Stand). k.1) nat_cmp_total)
@@ -64,7 +60,7 @@ partitioned es x s i j d le l h =
 -- where these end stands the next field of the name, if there is one
 pub record StandsNext (es : List Owned) (name : List ℕ) (i k : ℕ) : Type 0 where
   pub within : i < length es
-  pub named : (d : Owned) → (get_or es i d).name.now ≡ name
+  pub named : (d : Owned) → (get_or es i d).name.items ≡ name
   pub before : (d : Owned) → (get_or es i d).place ≤ k
 
 pub stands_next : (es : List Owned) (name : List ℕ) (place i k : ℕ) → StandByName es → StandUpTo es (name, place) i → place < k → HasPlace es name k → StandsNext es name i k
@@ -91,28 +87,28 @@ stands_next es name place i k s point behind has = record { within = omega (arit
     front : i ≤ has.among.0
     front = behind_point (cases_lt has.among.0 i)
 
-    here : (d : Owned) → (slice_cmp nat_cmp (get_or es i d).name.now name ≡ Equal) × ((get_or es i d).place ≤ k)
+    here : (d : Owned) → (slice_cmp nat_cmp (get_or es i d).name.items name ≡ Equal) × ((get_or es i d).place ≤ k)
     here d =
         let x : Stand = (name, k) in
         let up : ordering_index (stand_cmp (stand_of (get_or es i d)) x) ≤ ordering_index (stand_cmp (stand_of (get_or es has.among.0 d)) x) = rises es x s i has.among.0 d front has.among.1 in
         let tie : stand_cmp (stand_of (get_or es has.among.0 d)) x ≡ Equal = ap (λ (y : Stand). stand_cmp y x) (at_j d) ∙ tied_itself stand_total x in
         let one : ordering_index (stand_cmp (stand_of (get_or es has.among.0 d)) x) ≤ 1 = equal_index _ tie in
         let after : is_le (stand_cmp (stand_of (get_or es i d)) (name, place)) ≡ false = point.1 i d (omega arith) (omega (arith, front, l)) in
-        between (slice_cmp nat_cmp (get_or es i d).name.now name) (get_or es i d).place k place (omega arith) after
+        between (slice_cmp nat_cmp (get_or es i d).name.items name) (get_or es i d).place k place (omega arith) after
 
 pub none_beyond : (es : List Owned) (name : List ℕ) (place i : ℕ) → StandByName es → StandUpTo es (name, place) i → length es ≤ i → IsNextPlace es name place None
 none_beyond es name place i s point past = record { behind = tt; least = λ k b has. (let h = (stands_next es name place i k s point b has).within in omega (arith, h, past)) }
 
-pub next_there : (es : List Owned) (name : List ℕ) (place i : ℕ) (d : Owned) → StandByName es → StandUpTo es (name, place) i → i < length es → (get_or es i d).name.now ≡ name → IsNextPlace es name place (Some (get_or es i d).place)
+pub next_there : (es : List Owned) (name : List ℕ) (place i : ℕ) (d : Owned) → StandByName es → StandUpTo es (name, place) i → i < length es → (get_or es i d).name.items ≡ name → IsNextPlace es name place (Some (get_or es i d).place)
 next_there es name place i d s point within named =
     let after : is_le (stand_cmp (stand_of (get_or es i d)) (name, place)) ≡ false = point.1 i d (omega arith) within in
-    let tie : slice_cmp nat_cmp (get_or es i d).name.now name ≡ Equal = ap (λ (y : List ℕ). slice_cmp nat_cmp y name) named ∙ tied_itself nat_list_cmp_total name in
+    let tie : slice_cmp nat_cmp (get_or es i d).name.items name ≡ Equal = ap (λ (y : List ℕ). slice_cmp nat_cmp y name) named ∙ tied_itself nat_list_cmp_total name in
     record {
-      behind = behind_it (slice_cmp nat_cmp (get_or es i d).name.now name) (get_or es i d).place place tie after;
+      behind = behind_it (slice_cmp nat_cmp (get_or es i d).name.items name) (get_or es i d).place place tie after;
       least = λ k b has. (stands_next es name place i k s point b has).before d;
     }
 
-pub none_there : (es : List Owned) (name : List ℕ) (place i : ℕ) (d : Owned) → StandByName es → StandUpTo es (name, place) i → ((get_or es i d).name.now ≡ name → ⊥) → IsNextPlace es name place None
+pub none_there : (es : List Owned) (name : List ℕ) (place i : ℕ) (d : Owned) → StandByName es → StandUpTo es (name, place) i → ((get_or es i d).name.items ≡ name → ⊥) → IsNextPlace es name place None
 none_there es name place i d s point differs = record { behind = tt; least = λ k b has. differs ((stands_next es name place i k s point b has).named d) }
 
 pub still_has : (es fs : List Owned) (name : List ℕ) (place : ℕ) → IsPermutation es fs → HasPlace es name place → HasPlace fs name place

@@ -3,5 +3,6 @@ pub mod Leading
 pub mod Extending
 pub mod ToldFields
 pub mod Lines
+pub mod Laid
 pub mod Progress
 pub mod Keeping

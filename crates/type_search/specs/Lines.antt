@@ -19,7 +19,7 @@ abbrev pub stand_cmp : Stand → Stand → Ordering
 stand_cmp a b = ordering_then (slice_cmp nat_cmp a.0 b.0) (nat_cmp a.1 b.1)
 
 abbrev pub stand_of : Owned → Stand
-stand_of e = (e.name.now, e.place)
+stand_of e = (e.name.items, e.place)
 
 -- fields stand in the order of their names, and of their places where the names are one
 abbrev pub StandByName : List Owned → Type 0

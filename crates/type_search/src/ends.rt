@@ -1,13 +1,32 @@
 //! Where types lead, kept for the searches that follow.
-ghost use Rattle.std.specs.Prelude.{◌≡◌, [], IfOk};
+ghost use Rattle.std.specs.Prelude.{◌≡◌, [], IfOk, IfSome, true};
 ghost use Rattle.std.specs.List.{All};
 ghost use Rattle.type_search.specs.Leading.{AreEnded, AreTypeEnds, IsTypeEnd, IsTypeEndOf};
 
 use crate::graph::TypeGraph;
 use crate::kept::Kept;
 use crate::shape::Shape;
-use crate::way::{Way, comes_back, no_way, pass};
+use crate::way::{Way, comes_back, is_far, no_way, pass};
 use std::alloc::AllocError;
+
+/// So many declarations are marked on a way that is far, and fewer on any other.
+const FAR_MARKS: usize = 5;
+
+/// Where a type leads, as far as that is known ahead. A search that hasn't come far asks for nothing.
+fn end_ahead<G: TypeGraph>(
+    graph: &G,
+    pointers: bool,
+    way: &Way<G::Declaration>,
+    node: G::Node,
+) -> Option<Option<G::Node>>
+    ensures { IfSome result (IsTypeEnd (G.shape graph.now) pointers node) }
+{
+    if is_far(way) {
+        graph.known_end(pointers, node)
+    } else {
+        None
+    }
+}
 
 /// Where a type leads by names, and by pointers where these are followed, and some of the declarations that are passed on the way there or
 /// to one that is kept.
@@ -33,6 +52,9 @@ fn walk<G: TypeGraph>(
                     return Ok(None);
                 }
                 pass(way, declaration)?;
+                if let Some(known) = end_ahead(graph, pointers, way, next) {
+                    return Ok(known);
+                }
                 node = next;
             }
             Shape::Pointer(next) => {
@@ -104,4 +126,18 @@ pub(crate) fn end_of<G: TypeGraph>(
 {
     let mut way = no_way(kept.allocator());
     end_passed(graph, pointers, kept, least, &mut way, from)
+}
+
+/// Whether a search from a type by names and pointers comes far. No answer depends on it.
+pub(crate) fn leads_far<G: TypeGraph>(
+    graph: &G,
+    kept: &mut Kept<G::Declaration, Option<G::Node>>,
+    from: G::Node,
+) -> Result<bool, AllocError>
+    requires { AreTypeEnds (G.shape graph.now) true G.Declaration.eq kept.old }
+    ensures { AreTypeEnds (G.shape graph.now) true G.Declaration.eq kept.new }
+{
+    let mut way = no_way(kept.allocator());
+    end_passed(graph, true, kept, FAR_MARKS, &mut way, from)?;
+    Ok(is_far(&way))
 }

@@ -1,9 +1,13 @@
 //! Searches in a graph of types, which keep what they come to.
 ghost use Rattle.std.specs.Prelude.{◌≡◌, [], IfOk, IfSome, IfNone};
+ghost use Rattle.type_search.specs.Laid.{IsLaid};
+ghost use Rattle.type_search.specs.Leading.{IsTypeEnd};
 ghost use Rattle.type_search.specs.Searches.{Finds, HasElement, HasTarget};
 
+use crate::ends::{end_of, leads_far};
 use crate::graph::TypeGraph;
 use crate::kept::Kept;
+use crate::lay::lay;
 use crate::line::Line;
 use crate::parts::{element_in, target_in};
 use crate::records::find_in;
@@ -26,7 +30,7 @@ pub struct Finder<'a, G: TypeGraph> {
     /// The records to which the bases of records lead.
     aboves: Kept<G::Record, Option<G::Record>>,
     /// All records in a line, once searches climbed far.
-    line: Option<Box<Line<'a, G::Record>>>,
+    line: Option<Box<Line<G::Record>>>,
     /// What names mean in records.
     found: IndexMap<(G::Record, Name<'a>), Option<G::Field>, Seed>,
     /// The names of which something may be kept there, and how far searches climbed.
@@ -36,14 +40,14 @@ pub struct Finder<'a, G: TypeGraph> {
 impl<'a, G: TypeGraph> Model for Finder<'a, G> {
     ghost use Rattle.std.specs.Prelude.{false, true, IfSome};
     ghost use Rattle.type_search.specs.Extending.{AreAbove, AreFound};
+    ghost use Rattle.type_search.specs.Laid.{IsLaid};
     ghost use Rattle.type_search.specs.Leading.{AreTypeEnds};
-    ghost use Rattle.type_search.specs.Lines.{IsLine};
 
     ghost Value = { G };
 
     ghost view = { λ f. f.graph.now };
 
-    ghost invariant = { λ f. AreTypeEnds (G.shape f.graph.now) false G.Declaration.eq f.by_names × AreTypeEnds (G.shape f.graph.now) true G.Declaration.eq f.by_pointers × AreAbove (G.shape f.graph.now) (G.base_of f.graph.now) G.Record.eq f.aboves × IfSome f.line (λ l. IsLine (G.shape f.graph.now) (G.base_of f.graph.now) (G.field_of f.graph.now) l.value.records.keys l.value.ends.items l.value.owned.items) × AreFound (G.shape f.graph.now) (G.base_of f.graph.now) (G.field_of f.graph.now) G.Record.eq f.found };
+    ghost invariant = { λ f. AreTypeEnds (G.shape f.graph.now) false G.Declaration.eq f.by_names × AreTypeEnds (G.shape f.graph.now) true G.Declaration.eq f.by_pointers × AreAbove (G.shape f.graph.now) (G.base_of f.graph.now) G.Record.eq f.aboves × IfSome f.line (λ l. IsLaid (G.shape f.graph.now) (G.base_of f.graph.now) (G.field_of f.graph.now) l.value) × AreFound (G.shape f.graph.now) (G.base_of f.graph.now) (G.field_of f.graph.now) G.Record.eq f.found };
 }
 
 impl<'a, G: TypeGraph> Finder<'a, G> {
@@ -110,5 +114,32 @@ impl<'a, G: TypeGraph> Finder<'a, G> {
             from,
             name,
         )
+    }
+
+    /// Whether a search from a type by names and pointers passes sixteen declarations or more. No answer depends on it.
+    pub fn is_far(&mut self, from: G::Node) -> Result<bool, AllocError>
+        ensures { self.new ≡ self.old }
+    {
+        leads_far(self.graph, &mut self.by_pointers, from)
+    }
+
+    /// The type to which a type leads by names, and by pointers too where these are followed, or none where it comes back to itself.
+    pub fn end(&mut self, pointers: bool, from: G::Node) -> Result<Option<G::Node>, AllocError>
+        ensures graph { self.new ≡ self.old }
+        ensures end { IfOk result (IsTypeEnd (G.shape self.old) pointers from) }
+    {
+        if pointers {
+            end_of(self.graph, true, &mut self.by_pointers, 1, from)
+        } else {
+            end_of(self.graph, false, &mut self.by_names, 1, from)
+        }
+    }
+
+    /// The records in a line, or none where no run of it has so many records.
+    pub fn lay(&mut self, least: usize) -> Result<Option<Box<Line<G::Record>>>, AllocError>
+        ensures graph { self.new ≡ self.old }
+        ensures line { IfOk result (λ o. IfSome o (λ l. IsLaid (G.shape self.old) (G.base_of self.old) (G.field_of self.old) l.value)) }
+    {
+        lay(self.graph, &mut self.by_pointers, &mut self.aboves, least)
     }
 }

@@ -1,9 +1,12 @@
 //! Graphs of types.
-ghost use Rattle.std.specs.Prelude.{◌≡◌, ◌<◌, ℕ, List, Option, Some, IfOk, true};
+ghost use Rattle.std.specs.Prelude.{◌≡◌, ◌<◌, ℕ, List, None, Option, Some, IfOk, IfSome, true};
+ghost use Rattle.type_search.specs.Leading.{IsTypeEnd};
+ghost use Rattle.type_search.specs.Lines.{IsHop};
 ghost use Rattle.type_search.specs.declared.shape.Shape.{Shape};
 ghost use Rattle.type_search.specs.declared.shape.Shape.TheVariants as shapes;
 ghost use Rattle.type_search.specs.ToldFields.{AreAllFields};
 
+use crate::hop::Hop;
 use crate::shape::Shape;
 use crate::told::OwnField;
 use std::alloc::{AllocError, Global};
@@ -42,6 +45,15 @@ pub trait TypeGraph {
     /// The type that is a record's base.
     fn base(&self, record: Self::Record) -> Option<Self::Node>
         ensures { result ≡ base_of self.now «record» };
+
+    /// Where a type leads by names, and by pointers too where these are followed, if that is known ahead.
+    fn known_end(&self, pointers: bool, node: Self::Node) -> Option<Option<Self::Node>>
+        ensures { IfSome result (IsTypeEnd (shape self.now) pointers node) };
+
+    /// Where a search goes on from a record that lacks the field of this name, if that is known ahead.
+    fn known_hop(&self, record: Self::Record, name: &[u8]) -> Option<Hop<Self::Record>>
+        requires { field_of self.now «record» name.now ≡ None }
+        ensures { IfSome result (IsHop (shape self.now) (base_of self.now) (λ r. field_of self.now r name.now) «record») };
 
     /// About how much `records` and `fields` look at. No answer depends on it.
     fn size(&self) -> u64;

@@ -2,7 +2,7 @@
 
 /// Where a search goes on from a record that lacks the field.
 #[derive(Clone, Copy, Drop)]
-pub(crate) enum Hop<R> {
+pub enum Hop<R> {
     /// At this record, up to which none has it.
     Onto(R),
     /// Above this record, up to which none has it, nor this one.

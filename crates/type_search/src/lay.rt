@@ -3,7 +3,8 @@ ghost use Rattle.std.specs.Prelude.{◌≡◌, ◌<◌, true, suc, length, IfOk,
 ghost use Rattle.std.specs.Bool.{OnTrue};
 ghost use Rattle.type_search.specs.Extending.{AreAbove};
 ghost use Rattle.type_search.specs.Leading.{AreTypeEnds};
-ghost use Rattle.type_search.specs.Lines.{AddsField, StandByName, AreEnds, AreOwned, IsLine, LeadsOn, LeadsUpTo};
+ghost use Rattle.type_search.specs.Laid.{IsLaid};
+ghost use Rattle.type_search.specs.Lines.{AddsField, StandByName, AreEnds, AreOwned, LeadsOn, LeadsUpTo};
 
 use crate::forest::in_paths;
 use crate::graph::TypeGraph;
@@ -129,47 +130,46 @@ fn ends_of<G: TypeGraph>(
 }
 
 /// Adds a field whose record stands in the line.
-fn add_field<'a, R: Copy + Eq + Hash + Drop>(
+fn add_field<R: Copy + Eq + Hash + Drop>(
+    alloc: Global,
     line: &IndexSet<R, Seed>,
-    owned: &mut Vec<Owned<'a>>,
-    field: &OwnField<'a, R>,
+    owned: &mut Vec<Owned>,
+    field: &OwnField<'_, R>,
 ) -> Result<(), AllocError>
     ensures { OnOk result (AddsField R.eq line.now.keys field.now owned.old.items owned.new.items) }
 {
     match line.get_index_of(&field.of_record) {
         None => Ok(()),
         Some(place) => {
-            owned.push(Owned {
-                name: field.name,
-                place,
-            })?;
+            let name = field.name.to_vec(alloc)?;
+            owned.push(Owned { name, place })?;
             Ok(())
         }
     }
 }
 
 /// The fields that a graph tells of the records of the line.
-fn owned_in<'a, G: TypeGraph>(
-    graph: &'a G,
+fn owned_in<G: TypeGraph>(
+    graph: &G,
     alloc: Global,
     line: &IndexSet<G::Record, Seed>,
-) -> Result<Vec<Owned<'a>>, AllocError>
+) -> Result<Vec<Owned>, AllocError>
     ensures { IfOk result (λ owned. AreOwned (G.shape graph.now) (G.base_of graph.now) (G.field_of graph.now) line.now.keys owned.items) }
 {
     let told = graph.fields(alloc)?;
     let mut owned = Vec::with_capacity(alloc, line.len())?;
     for field in &told {
-        add_field(line, &mut owned, field)?;
+        add_field(alloc, line, &mut owned, field)?;
     }
     Ok(owned)
 }
 
 /// The same by their names.
-fn owned_by_name<'a, G: TypeGraph>(
-    graph: &'a G,
+fn owned_by_name<G: TypeGraph>(
+    graph: &G,
     alloc: Global,
     line: &IndexSet<G::Record, Seed>,
-) -> Result<Vec<Owned<'a>>, AllocError>
+) -> Result<Vec<Owned>, AllocError>
     ensures owned { IfOk result (λ owned. AreOwned (G.shape graph.now) (G.base_of graph.now) (G.field_of graph.now) line.now.keys owned.items) }
     ensures by_name { IfOk result (λ owned. StandByName owned.items) }
 {
@@ -200,49 +200,63 @@ fn line_of<G: TypeGraph>(
     )
 }
 
-/// The line of a graph.
-fn lay<'a, G: TypeGraph>(
-    graph: &'a G,
+/// Whether a run has at least so many records.
+fn has_run(ends: &[usize], least: usize) -> bool {
+    for place in 0..ends.len() {
+        if ends[place] >= place && ends[place] - place >= least.saturating_sub(1) {
+            return true;
+        }
+    }
+    false
+}
+
+/// The line of a graph, or none where no run of it has so many records.
+pub(crate) fn lay<G: TypeGraph>(
+    graph: &G,
     kept: &mut Kept<G::Declaration, Option<G::Node>>,
     aboves: &mut Kept<G::Record, Option<G::Record>>,
-) -> Result<Box<Line<'a, G::Record>>, AllocError>
+    least: usize,
+) -> Result<Option<Box<Line<G::Record>>>, AllocError>
     requires kept { AreTypeEnds (G.shape graph.now) true G.Declaration.eq kept.old }
     requires aboves { AreAbove (G.shape graph.now) (G.base_of graph.now) G.Record.eq aboves.old }
     ensures kept { AreTypeEnds (G.shape graph.now) true G.Declaration.eq kept.new }
     ensures aboves { AreAbove (G.shape graph.now) (G.base_of graph.now) G.Record.eq aboves.new }
-    ensures line { IfOk result (λ line. IsLine (G.shape graph.now) (G.base_of graph.now) (G.field_of graph.now) line.value.records.keys line.value.ends.items line.value.owned.items) }
+    ensures line { IfOk result (λ o. IfSome o (λ l. IsLaid (G.shape graph.now) (G.base_of graph.now) (G.field_of graph.now) l.value)) }
 {
     let alloc = kept.allocator();
     let records = line_of(graph, kept, aboves)?;
     let ends = ends_of(graph, alloc, aboves, records.as_slice())?;
+    if !has_run(ends.as_slice(), least) {
+        return Ok(None);
+    }
     let owned = owned_by_name(graph, alloc, &records)?;
     let laid = Line {
         records,
         ends,
         owned,
     };
-    Ok(Box::new(alloc, laid)?)
+    Ok(Some(Box::new(alloc, laid)?))
 }
 
 /// Puts the records of a graph in a line, once that is due. Where memory for it is refused there is none, and searches climb on.
-pub(crate) fn lay_if_due<'a, G: TypeGraph>(
-    graph: &'a G,
+pub(crate) fn lay_if_due<G: TypeGraph>(
+    graph: &G,
     kept: &mut Kept<G::Declaration, Option<G::Node>>,
     aboves: &mut Kept<G::Record, Option<G::Record>>,
-    line: &mut Option<Box<Line<'a, G::Record>>>,
+    line: &mut Option<Box<Line<G::Record>>>,
     sought: &mut Sought,
 )
     requires kept { AreTypeEnds (G.shape graph.now) true G.Declaration.eq kept.old }
     requires aboves { AreAbove (G.shape graph.now) (G.base_of graph.now) G.Record.eq aboves.old }
-    requires line { IfSome line.old (λ l. IsLine (G.shape graph.now) (G.base_of graph.now) (G.field_of graph.now) l.value.records.keys l.value.ends.items l.value.owned.items) }
+    requires line { IfSome line.old (λ l. IsLaid (G.shape graph.now) (G.base_of graph.now) (G.field_of graph.now) l.value) }
     ensures kept { AreTypeEnds (G.shape graph.now) true G.Declaration.eq kept.new }
     ensures aboves { AreAbove (G.shape graph.now) (G.base_of graph.now) G.Record.eq aboves.new }
-    ensures line { IfSome line.new (λ l. IsLine (G.shape graph.now) (G.base_of graph.now) (G.field_of graph.now) l.value.records.keys l.value.ends.items l.value.owned.items) }
+    ensures line { IfSome line.new (λ l. IsLaid (G.shape graph.now) (G.base_of graph.now) (G.field_of graph.now) l.value) }
 {
     if line.is_some() || !sought.is_line_due(graph) {
         return;
     }
-    if let Ok(laid) = lay(graph, kept, aboves) {
-        *line = Some(laid);
+    if let Ok(laid) = lay(graph, kept, aboves, 0) {
+        *line = laid;
     }
 }

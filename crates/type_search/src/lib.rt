@@ -24,5 +24,7 @@ mod way;
 
 pub use finder::Finder;
 pub use graph::TypeGraph;
+pub use hop::Hop;
+pub use line::{Line, hop_along};
 pub use shape::Shape;
 pub use told::OwnField;

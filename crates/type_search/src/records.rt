@@ -2,8 +2,9 @@
 ghost use Rattle.std.specs.Prelude.{◌≡◌, ◌<◌, ◌^◌, [], true, IfOk, IfSome, IfNone, None};
 ghost use Rattle.std.specs.List.{All};
 ghost use Rattle.type_search.specs.Extending.{shape_record, AreAbove, AreFieldsOf, AreFound, IsAbove, IsFieldIn, IsNextAbove, IsRecordOf};
+ghost use Rattle.type_search.specs.Laid.{IsLaid};
 ghost use Rattle.type_search.specs.Leading.{AreTypeEnds};
-ghost use Rattle.type_search.specs.Lines.{IsHop, IsLine};
+ghost use Rattle.type_search.specs.Lines.{IsHop};
 ghost use Rattle.type_search.specs.Progress.{progress};
 ghost use Rattle.type_search.specs.Searches.{Finds};
 
@@ -12,10 +13,10 @@ use crate::graph::TypeGraph;
 use crate::hop::Hop;
 use crate::kept::Kept;
 use crate::lay::lay_if_due;
-use crate::line::{Line, hop};
+use crate::line::{Line, hop_along};
 use crate::shape::Shape;
 use crate::sought::Sought;
-use crate::way::{Way, comes_back, no_way, pass};
+use crate::way::{Way, comes_back, is_far, no_way, pass};
 use indexmap::IndexMap;
 use std::alloc::AllocError;
 use text_hash::{Name, Seed};
@@ -113,30 +114,52 @@ pub(crate) fn above_kept<G: TypeGraph>(
     Ok(above)
 }
 
-/// Hops from a record that lacks the field of this name, where the records stand in a line.
-fn hop_from<'a, G: TypeGraph>(
+/// Hops from a record that lacks the field of this name, as far as that is known ahead. A search that hasn't come far asks for nothing.
+fn hop_ahead<G: TypeGraph>(
     graph: &G,
-    line: &Option<Box<Line<'a, G::Record>>>,
+    way: &Way<G::Record>,
     record: G::Record,
     name: &[u8],
 ) -> Hop<G::Record>
-    requires line { IfSome line.now (λ l. IsLine (G.shape graph.now) (G.base_of graph.now) (G.field_of graph.now) l.value.records.keys l.value.ends.items l.value.owned.items) }
+    requires { G.field_of graph.now «record» name.now ≡ None }
+    ensures { IsHop (G.shape graph.now) (G.base_of graph.now) (λ r. G.field_of graph.now r name.now) «record» result }
+{
+    if !is_far(way) {
+        return Hop::From(record);
+    }
+    match graph.known_hop(record, name) {
+        Some(hop) => hop,
+        None => Hop::From(record),
+    }
+}
+
+/// Hops from a record that lacks the field of this name, along the line where there is one.
+fn hop_from<G: TypeGraph>(
+    graph: &G,
+    line: &Option<Box<Line<G::Record>>>,
+    way: &Way<G::Record>,
+    record: G::Record,
+    name: &[u8],
+) -> Hop<G::Record>
+    requires line { IfSome line.now (λ l. IsLaid (G.shape graph.now) (G.base_of graph.now) (G.field_of graph.now) l.value) }
     requires lacks { G.field_of graph.now «record» name.now ≡ None }
     ensures { IsHop (G.shape graph.now) (G.base_of graph.now) (λ r. G.field_of graph.now r name.now) «record» result }
 {
     match line {
-        None => Hop::From(record),
-        Some(line) => hop(graph, line, record, name),
+        None => hop_ahead(graph, way, record, name),
+        Some(line) => {
+            hop_along::<G::Node, G::Declaration, G::Record, G::Field>(line, record, name)
+        }
     }
 }
 
 /// Passes a record that lacks the field of this name, and tells one above it, up to which none has it, or none where there is none or the
 /// search came back.
-fn climb<'a, G: TypeGraph>(
-    graph: &'a G,
+fn climb<G: TypeGraph>(
+    graph: &G,
     kept: &mut Kept<G::Declaration, Option<G::Node>>,
     aboves: &mut Kept<G::Record, Option<G::Record>>,
-    line: &mut Option<Box<Line<'a, G::Record>>>,
+    line: &mut Option<Box<Line<G::Record>>>,
     sought: &mut Sought,
     way: &mut Way<G::Record>,
     record: G::Record,
@@ -144,11 +167,11 @@ fn climb<'a, G: TypeGraph>(
 ) -> Result<Option<G::Record>, AllocError>
     requires kept { AreTypeEnds (G.shape graph.now) true G.Declaration.eq kept.old }
     requires aboves { AreAbove (G.shape graph.now) (G.base_of graph.now) G.Record.eq aboves.old }
-    requires line { IfSome line.old (λ l. IsLine (G.shape graph.now) (G.base_of graph.now) (G.field_of graph.now) l.value.records.keys l.value.ends.items l.value.owned.items) }
+    requires line { IfSome line.old (λ l. IsLaid (G.shape graph.now) (G.base_of graph.now) (G.field_of graph.now) l.value) }
     requires lacks { G.field_of graph.now «record» name.now ≡ None }
     ensures kept { AreTypeEnds (G.shape graph.now) true G.Declaration.eq kept.new }
     ensures aboves { AreAbove (G.shape graph.now) (G.base_of graph.now) G.Record.eq aboves.new }
-    ensures line { IfSome line.new (λ l. IsLine (G.shape graph.now) (G.base_of graph.now) (G.field_of graph.now) l.value.records.keys l.value.ends.items l.value.owned.items) }
+    ensures line { IfSome line.new (λ l. IsLaid (G.shape graph.now) (G.base_of graph.now) (G.field_of graph.now) l.value) }
     ensures next { IfOk result (IsNextAbove (G.shape graph.now) (G.base_of graph.now) (λ r. G.field_of graph.now r name.now) G.Record.eq «record» way.old.marks.items way.new.marks.items) }
     ensures passed { IfOk result (λ o. IfSome o (λ _. (progress way.old < progress way.new) × (progress way.new < 2 ^ 65))) }
 {
@@ -158,7 +181,7 @@ fn climb<'a, G: TypeGraph>(
     pass(way, record)?;
     sought.add(name);
     lay_if_due(graph, kept, aboves, line, sought);
-    match hop_from(graph, line, record, name) {
+    match hop_from(graph, line, way, record, name) {
         Hop::Onto(above) => Ok(Some(above)),
         Hop::From(last) => above_kept(graph, kept, aboves, last),
     }
@@ -167,10 +190,10 @@ fn climb<'a, G: TypeGraph>(
 /// The field that a name means in a record: its own, or else that of its base, up to a record whose field is kept; and some of
 /// the records that are passed on the way.
 fn field_of<'a, G: TypeGraph>(
-    graph: &'a G,
+    graph: &G,
     kept: &mut Kept<G::Declaration, Option<G::Node>>,
     aboves: &mut Kept<G::Record, Option<G::Record>>,
-    line: &mut Option<Box<Line<'a, G::Record>>>,
+    line: &mut Option<Box<Line<G::Record>>>,
     sought: &mut Sought,
     found: &IndexMap<(G::Record, Name<'a>), Option<G::Field>, Seed>,
     is_kept: bool,
@@ -180,12 +203,12 @@ fn field_of<'a, G: TypeGraph>(
 ) -> Result<Option<G::Field>, AllocError>
     requires kept { AreTypeEnds (G.shape graph.now) true G.Declaration.eq kept.old }
     requires aboves { AreAbove (G.shape graph.now) (G.base_of graph.now) G.Record.eq aboves.old }
-    requires line { IfSome line.old (λ l. IsLine (G.shape graph.now) (G.base_of graph.now) (G.field_of graph.now) l.value.records.keys l.value.ends.items l.value.owned.items) }
+    requires line { IfSome line.old (λ l. IsLaid (G.shape graph.now) (G.base_of graph.now) (G.field_of graph.now) l.value) }
     requires found { AreFound (G.shape graph.now) (G.base_of graph.now) (G.field_of graph.now) G.Record.eq found.now }
     requires none_passed { way.old.marks.items ≡ [] }
     ensures kept { AreTypeEnds (G.shape graph.now) true G.Declaration.eq kept.new }
     ensures aboves { AreAbove (G.shape graph.now) (G.base_of graph.now) G.Record.eq aboves.new }
-    ensures line { IfSome line.new (λ l. IsLine (G.shape graph.now) (G.base_of graph.now) (G.field_of graph.now) l.value.records.keys l.value.ends.items l.value.owned.items) }
+    ensures line { IfSome line.new (λ l. IsLaid (G.shape graph.now) (G.base_of graph.now) (G.field_of graph.now) l.value) }
     ensures fields { IfOk result (AreFieldsOf (G.shape graph.now) (G.base_of graph.now) (λ r. G.field_of graph.now r name.now) from way.new.marks.items) }
 {
     let mut record = from;
@@ -220,10 +243,10 @@ fn keep_field<'a, G: TypeGraph>(
 
 /// The field that a name means in a record, which is kept of it and of some of the records that are passed.
 fn field_passed<'a, G: TypeGraph>(
-    graph: &'a G,
+    graph: &G,
     kept: &mut Kept<G::Declaration, Option<G::Node>>,
     aboves: &mut Kept<G::Record, Option<G::Record>>,
-    line: &mut Option<Box<Line<'a, G::Record>>>,
+    line: &mut Option<Box<Line<G::Record>>>,
     found: &mut IndexMap<(G::Record, Name<'a>), Option<G::Field>, Seed>,
     sought: &mut Sought,
     way: &mut Way<G::Record>,
@@ -232,12 +255,12 @@ fn field_passed<'a, G: TypeGraph>(
 ) -> Result<Option<G::Field>, AllocError>
     requires kept { AreTypeEnds (G.shape graph.now) true G.Declaration.eq kept.old }
     requires aboves { AreAbove (G.shape graph.now) (G.base_of graph.now) G.Record.eq aboves.old }
-    requires line { IfSome line.old (λ l. IsLine (G.shape graph.now) (G.base_of graph.now) (G.field_of graph.now) l.value.records.keys l.value.ends.items l.value.owned.items) }
+    requires line { IfSome line.old (λ l. IsLaid (G.shape graph.now) (G.base_of graph.now) (G.field_of graph.now) l.value) }
     requires found { AreFound (G.shape graph.now) (G.base_of graph.now) (G.field_of graph.now) G.Record.eq found.old }
     requires none_passed { way.old.marks.items ≡ [] }
     ensures kept { AreTypeEnds (G.shape graph.now) true G.Declaration.eq kept.new }
     ensures aboves { AreAbove (G.shape graph.now) (G.base_of graph.now) G.Record.eq aboves.new }
-    ensures line { IfSome line.new (λ l. IsLine (G.shape graph.now) (G.base_of graph.now) (G.field_of graph.now) l.value.records.keys l.value.ends.items l.value.owned.items) }
+    ensures line { IfSome line.new (λ l. IsLaid (G.shape graph.now) (G.base_of graph.now) (G.field_of graph.now) l.value) }
     ensures found { AreFound (G.shape graph.now) (G.base_of graph.now) (G.field_of graph.now) G.Record.eq found.new }
     ensures is { IfOk result (IsFieldIn (G.shape graph.now) (G.base_of graph.now) (λ r. G.field_of graph.now r name.now) from) }
 {
@@ -251,10 +274,10 @@ fn field_passed<'a, G: TypeGraph>(
 
 /// The field that a name means in a record: its own, or else one that is kept for the searches that follow.
 fn field_kept<'a, G: TypeGraph>(
-    graph: &'a G,
+    graph: &G,
     kept: &mut Kept<G::Declaration, Option<G::Node>>,
     aboves: &mut Kept<G::Record, Option<G::Record>>,
-    line: &mut Option<Box<Line<'a, G::Record>>>,
+    line: &mut Option<Box<Line<G::Record>>>,
     found: &mut IndexMap<(G::Record, Name<'a>), Option<G::Field>, Seed>,
     sought: &mut Sought,
     from: G::Record,
@@ -262,11 +285,11 @@ fn field_kept<'a, G: TypeGraph>(
 ) -> Result<Option<G::Field>, AllocError>
     requires kept { AreTypeEnds (G.shape graph.now) true G.Declaration.eq kept.old }
     requires aboves { AreAbove (G.shape graph.now) (G.base_of graph.now) G.Record.eq aboves.old }
-    requires line { IfSome line.old (λ l. IsLine (G.shape graph.now) (G.base_of graph.now) (G.field_of graph.now) l.value.records.keys l.value.ends.items l.value.owned.items) }
+    requires line { IfSome line.old (λ l. IsLaid (G.shape graph.now) (G.base_of graph.now) (G.field_of graph.now) l.value) }
     requires found { AreFound (G.shape graph.now) (G.base_of graph.now) (G.field_of graph.now) G.Record.eq found.old }
     ensures kept { AreTypeEnds (G.shape graph.now) true G.Declaration.eq kept.new }
     ensures aboves { AreAbove (G.shape graph.now) (G.base_of graph.now) G.Record.eq aboves.new }
-    ensures line { IfSome line.new (λ l. IsLine (G.shape graph.now) (G.base_of graph.now) (G.field_of graph.now) l.value.records.keys l.value.ends.items l.value.owned.items) }
+    ensures line { IfSome line.new (λ l. IsLaid (G.shape graph.now) (G.base_of graph.now) (G.field_of graph.now) l.value) }
     ensures found { AreFound (G.shape graph.now) (G.base_of graph.now) (G.field_of graph.now) G.Record.eq found.new }
     ensures is { IfOk result (IsFieldIn (G.shape graph.now) (G.base_of graph.now) (λ r. G.field_of graph.now r name.now) from) }
 {
@@ -281,10 +304,10 @@ fn field_kept<'a, G: TypeGraph>(
 
 /// The field that a name means at a type: of the record to which it leads, or else of its base.
 pub(crate) fn find_in<'a, G: TypeGraph>(
-    graph: &'a G,
+    graph: &G,
     kept: &mut Kept<G::Declaration, Option<G::Node>>,
     aboves: &mut Kept<G::Record, Option<G::Record>>,
-    line: &mut Option<Box<Line<'a, G::Record>>>,
+    line: &mut Option<Box<Line<G::Record>>>,
     found: &mut IndexMap<(G::Record, Name<'a>), Option<G::Field>, Seed>,
     sought: &mut Sought,
     from: G::Node,
@@ -292,11 +315,11 @@ pub(crate) fn find_in<'a, G: TypeGraph>(
 ) -> Result<Option<G::Field>, AllocError>
     requires kept { AreTypeEnds (G.shape graph.now) true G.Declaration.eq kept.old }
     requires aboves { AreAbove (G.shape graph.now) (G.base_of graph.now) G.Record.eq aboves.old }
-    requires line { IfSome line.old (λ l. IsLine (G.shape graph.now) (G.base_of graph.now) (G.field_of graph.now) l.value.records.keys l.value.ends.items l.value.owned.items) }
+    requires line { IfSome line.old (λ l. IsLaid (G.shape graph.now) (G.base_of graph.now) (G.field_of graph.now) l.value) }
     requires found { AreFound (G.shape graph.now) (G.base_of graph.now) (G.field_of graph.now) G.Record.eq found.old }
     ensures kept { AreTypeEnds (G.shape graph.now) true G.Declaration.eq kept.new }
     ensures aboves { AreAbove (G.shape graph.now) (G.base_of graph.now) G.Record.eq aboves.new }
-    ensures line { IfSome line.new (λ l. IsLine (G.shape graph.now) (G.base_of graph.now) (G.field_of graph.now) l.value.records.keys l.value.ends.items l.value.owned.items) }
+    ensures line { IfSome line.new (λ l. IsLaid (G.shape graph.now) (G.base_of graph.now) (G.field_of graph.now) l.value) }
     ensures fields { AreFound (G.shape graph.now) (G.base_of graph.now) (G.field_of graph.now) G.Record.eq found.new }
     ensures found { IfOk result (λ o. IfSome o (λ f. Finds G.Declaration.eq (G.shape graph.now) (λ r. G.field_of graph.now r name.now) (G.base_of graph.now) [] from f)) }
     ensures none { IfOk result (λ o. IfNone o ((f : G.Field) → Finds G.Declaration.eq (G.shape graph.now) (λ r. G.field_of graph.now r name.now) (G.base_of graph.now) [] from f → ⊥)) }

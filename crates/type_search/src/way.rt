@@ -16,6 +16,9 @@ pub(crate) struct Way<R: Copy + Drop> {
     pub(crate) due: u64,
 }
 
+/// A search that has passed so many has come far.
+const FAR: u64 = 16;
+
 /// None was passed.
 pub(crate) fn no_way<R: Copy + Drop>(alloc: Global) -> Way<R>
     ensures { result.marks.items ≡ [] }
@@ -49,4 +52,9 @@ pub(crate) fn pass<R: Copy + Drop>(way: &mut Way<R>, record: R) -> Result<(), Al
     }
     way.passed = way.passed.saturating_add(1);
     Ok(())
+}
+
+/// Whether the search has come far. No answer depends on it.
+pub(crate) fn is_far<R: Copy + Drop>(way: &Way<R>) -> bool {
+    way.passed >= FAR
 }

@@ -1,6 +1,6 @@
 use Rattle.std.proofs.Common.{sym, ◌∙◌, arith}
 use Rattle.type_search.specs.Progress.{progress}
-use Rattle.type_search.proofs.Leading.{ended_again, ended_here, ended_kept, followed, no_further, not_followed, passed_less, walks_nowhere, walks_on, walks_through}
+use Rattle.type_search.proofs.Leading.{ended, ended_again, ended_here, ended_kept, followed, no_further, not_followed, passed_less, walks_nowhere, walks_on, walks_through}
 use Rattle.type_search.proofs.ends.walk.Goals as goal
 
 pub types-init : goal.types-init
@@ -15,6 +15,12 @@ pub returns-then-comes_back : goal.returns-then-comes_back
 returns-then-comes_back g c =
     ended_again (g.G.TypeGraph.shape c.args.graph.now) c.args.pointers g.G.Declaration.PartialEq.eq (g.met.G.TypeGraph.named c.args.graph.now) c.args.from c.types.node c.in-Named.next c.types.way.marks.items
     c.in-Named.declaration (sym c.shape.ensures ∙ c.in-Named.is) (c.comes_back.ensures c.if-comes_back.true) c.types.invariant
+
+pub returns-in-Some-end_ahead : goal.returns-in-Some-end_ahead
+returns-in-Some-end_ahead g c =
+    ended (g.G.TypeGraph.shape c.args.graph.now) c.args.pointers g.G.Declaration.PartialEq.eq (g.met.G.TypeGraph.named c.args.graph.now) c.args.from c.in-Named.next c.pass.new.way.marks.items c.in-Some-end_ahead.known
+    (walks_through (g.G.TypeGraph.shape c.args.graph.now) c.args.pointers g.G.Declaration.PartialEq.eq (g.met.G.TypeGraph.named c.args.graph.now) c.args.from c.types.node c.in-Named.next c.types.way.marks.items c.pass.new.way.marks.items
+    c.in-Named.declaration (sym c.shape.ensures ∙ c.in-Named.is) c.in_ok-pass-in-Named.ensures.marks c.types.invariant) c.in-Some-end_ahead.ensures
 
 pub types-preserved-in-Named : goal.types-preserved-in-Named
 types-preserved-in-Named g c =

@@ -1,7 +1,9 @@
-use Rattle.std.proofs.Common.{◌≡◌, false, true, get_or, sym, ◌∙◌}
+use Rattle.std.proofs.Common.{◌≡◌, Some, false, true, ap, subst, sym, ◌∙◌}
 use Rattle.std.specs.Str.{bytes_eq}
 use Rattle.std.proofs.lemmas.Slice.Eq.{bytes_eq-Decides}
-use Rattle.type_search.proofs.Standing.{next_there, no_owned, none_beyond, none_there}
+use Rattle.type_search.specs.declared.owned.Owned.{Owned}
+use Rattle.type_search.specs.Lines.{IsNextPlace}
+use Rattle.type_search.proofs.Standing.{next_there, none_beyond, none_there}
 use Rattle.type_search.proofs.owned.next_place.Goals as goal
 
 pub returns-then-at-fields : goal.returns-then-at-fields
@@ -9,11 +11,17 @@ returns-then-at-fields c = none_beyond c.args.fields.now c.args.name.now c.args.
 
 pub returns-then-eq : goal.returns-then-eq
 returns-then-eq c =
-    let it = get_or c.args.fields.now c.count_up_to-at.result no_owned in
-    next_there c.args.fields.now c.args.name.now c.args.place c.count_up_to-at.result no_owned c.requires c.count_up_to-at.ensures c.if-at-fields.false ((bytes_eq-Decides it.name.now c.args.name.now).0 (sym c.eq.ensures ∙ c.if-eq.true))
+    let it = c.index-fields-at.result in
+    let same = (bytes_eq-Decides c.as_slice.result.now c.args.name.now).0 (sym c.eq.ensures ∙ c.if-eq.true) in
+    let named = ap (λ (o : Owned). o.name.items) (sym c.index-fields-at.is) ∙ sym c.as_slice.ensures.value ∙ same in
+    subst (λ (o : Owned). IsNextPlace c.args.fields.now c.args.name.now c.args.place (Some o.place)) (sym c.index-fields-at.is)
+    (next_there c.args.fields.now c.args.name.now c.args.place c.count_up_to-at.result it c.requires c.count_up_to-at.ensures c.if-at-fields.false named)
 
 pub returns-else-eq : goal.returns-else-eq
 returns-else-eq c =
-    let it = get_or c.args.fields.now c.count_up_to-at.result no_owned in
-    none_there c.args.fields.now c.args.name.now c.args.place c.count_up_to-at.result no_owned c.requires c.count_up_to-at.ensures
-    (λ e. let t : bytes_eq it.name.now c.args.name.now ≡ true = (bytes_eq-Decides it.name.now c.args.name.now).1 e in let bad : true ≡ false = sym t ∙ sym c.eq.ensures ∙ c.if-eq.false in cc)
+    let it = c.index-fields-at.result in
+    none_there c.args.fields.now c.args.name.now c.args.place c.count_up_to-at.result it c.requires c.count_up_to-at.ensures
+    (λ e. (
+    let same = c.as_slice.ensures.value ∙ ap (λ (o : Owned). o.name.items) c.index-fields-at.is ∙ e in
+    let t : bytes_eq c.as_slice.result.now c.args.name.now ≡ true = (bytes_eq-Decides c.as_slice.result.now c.args.name.now).1 same in
+    let bad : true ≡ false = sym t ∙ sym c.eq.ensures ∙ c.if-eq.false in cc))

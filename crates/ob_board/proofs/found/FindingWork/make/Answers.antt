@@ -18,9 +18,9 @@ bounds-self-inside-place-2 g c = (here g (goal.at.bounds-self-inside-place-2 g c
 pub found_in-requires-clause-at_hand : goal.found_in-requires-clause-at_hand
 found_in-requires-clause-at_hand g c = (here g (goal.at.found_in-requires-clause-at_hand g c).After-self).at_hand c.index-self-place.result c.index-self-place-2.result _ c.deref.ensures
 
-pub found_in-requires-clause-by_name : goal.found_in-requires-clause-by_name
-found_in-requires-clause-by_name g c =
-    (here g (goal.at.found_in-requires-clause-by_name g c).After-self).by_name c.index-self-place.result c.index-self-place-2.result c.self.inside.by_name c.self.invariant.2
+pub found_in-requires-clause-ahead : goal.found_in-requires-clause-ahead
+found_in-requires-clause-ahead g c =
+    (here g (goal.at.found_in-requires-clause-ahead g c).After-self).serves c.index-self-place.result c.index-self-place-2.result c.self.inside.ahead c.self.invariant.2
 
 pub returns : goal.returns
 returns g c = c.in_ok-found.ensures ∙ (here g (goal.at.returns g c).After-self).named c.index-self-place.result c.index-self-place-2.result _ c.deref.ensures

@@ -21,9 +21,9 @@ made_in-requires-clause-at_hand g c = (here g (goal.at.made_in-requires-clause-a
 pub made_in-requires-clause-named : goal.made_in-requires-clause-named
 made_in-requires-clause-named g c = (here g (goal.at.made_in-requires-clause-named g c).After-self).all_named c.index-self-place.result c.index-self-place-2.result
 
-pub made_in-requires-clause-by_name : goal.made_in-requires-clause-by_name
-made_in-requires-clause-by_name g c =
-    (here g (goal.at.made_in-requires-clause-by_name g c).After-self).by_name c.index-self-place.result c.index-self-place-2.result c.self.inside.by_name c.self.invariant.4
+pub made_in-requires-clause-ahead : goal.made_in-requires-clause-ahead
+made_in-requires-clause-ahead g c =
+    (here g (goal.at.made_in-requires-clause-ahead g c).After-self).serves c.index-self-place.result c.index-self-place-2.result c.self.inside.ahead c.self.invariant.4
 
 pub returns : goal.returns
 returns g c = c.in_ok-made.ensures ∙ (here g (goal.at.returns g c).After-self).named c.index-self-place.result c.index-self-place-2.result _ c.deref.ensures

@@ -1,6 +1,0 @@
-use Rattle.type_search.proofs.Extending.{lacks_itself}
-use Rattle.type_search.proofs.records.hop_from.Goals as goal
-
-pub returns-in-None : goal.returns-in-None
-returns-in-None g c =
-    lacks_itself (g.G.TypeGraph.shape c.args.graph.now) (g.G.TypeGraph.base_of c.args.graph.now) (λ (r : g.row.G-Record.Denot). g.G.TypeGraph.field_of c.args.graph.now r c.args.name.now) c.args.«record» c.requires.lacks
