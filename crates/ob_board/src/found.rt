@@ -101,7 +101,7 @@ fn unresolved_by(alloc: Global, types: &Types<'_>) -> Result<Vec<u32>, AllocErro
 }
 
 /// The same, by what its parts and the interfaces of what it reaches say, with what is known ahead of all modules and a hint of
-/// the order of these.
+/// the order of what it reaches.
 fn numbers_of(
     alloc: Global,
     source: &Source,
@@ -123,7 +123,7 @@ fn numbers_of(
 }
 
 /// What is found of a module by its parts and the interfaces of what it reaches, with what is known ahead of all modules and a
-/// hint of the order of these.
+/// hint of the order of what it reaches.
 fn found_in<F: NamedFiles>(
     alloc: Global,
     source: &Source,

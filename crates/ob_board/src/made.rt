@@ -79,7 +79,7 @@ impl<F: NamedIndex> WorkEntry for Made<F> {
 }
 
 /// The entry of a module by its parts and the interfaces of what it reaches, with what is known ahead of all modules and a hint
-/// of the order of these.
+/// of the order of what it reaches.
 fn made_in<F: NamedIndex>(
     alloc: Global,
     source: &Source,

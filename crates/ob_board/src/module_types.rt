@@ -43,7 +43,7 @@ pub(crate) fn types_among<'a>(
 }
 
 /// The types of a module, by its parts and the interfaces of what it reaches, with what is known ahead of all modules and a hint of
-/// the order of these.
+/// the order of what it reaches.
 pub(crate) fn module_types<'a>(
     alloc: Global,
     source: &'a Source,

@@ -87,7 +87,7 @@ impl<F: NamedIndex> WorkEntry for Recorded<F> {
 }
 
 /// The entry of a module by its parts and the interfaces of what it reaches, with what is known ahead of all modules and a hint
-/// of the order of these.
+/// of the order of what it reaches.
 fn recorded_in<F: NamedIndex>(
     alloc: Global,
     source: &Source,

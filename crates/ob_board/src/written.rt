@@ -61,7 +61,7 @@ fn written_by(
 }
 
 /// What is written of a module, by its parts and the interfaces of what it reaches, with what is known ahead of all modules and a
-/// hint of the order of these.
+/// hint of the order of what it reaches.
 pub(crate) fn write_module(
     alloc: Global,
     source: &Source,
@@ -121,7 +121,7 @@ fn recorded_by(
 }
 
 /// The record of a module, by its parts and the interfaces of what it reaches, with what is known ahead of all modules and a hint of
-/// the order of these. No message is made on the way: what `write_module` answers, as bytes.
+/// the order of what it reaches. No message is made on the way: what `write_module` answers, as bytes.
 pub(crate) fn record_module(
     alloc: Global,
     source: &Source,
