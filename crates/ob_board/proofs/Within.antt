@@ -1,14 +1,13 @@
 -- What a module of a tree reaches stands among all modules of the tree, with all that it imports of them.
-use Rattle.std.proofs.Common.{◌≡◌, ℕ, zero, suc, Bool, true, false, List, [], ◌∷◌, ◌++◌, length, get_or, map, Option, None, Some, refl, sym, ap, ◌∙◌, subst, arith, inl, inr}
+use Rattle.std.proofs.Common.{◌≡◌, ℕ, zero, suc, Bool, true, false, List, [], ◌∷◌, ◌++◌, length, map, Option, None, Some, refl, sym, ap, ◌∙◌, subst, arith, inl, inr}
 use Rattle.std.specs.Prelude.{Box, Contains, find, position, slice_get, slice_index_or}
 use Rattle.std.specs.declared.alloc.Global.{Global}
 use Rattle.std.specs.List.{position_or_len}
 use Rattle.std.specs.Option.{option_map}
 use Rattle.std.specs.Str.{bytes_eq}
 use Rattle.std.proofs.lemmas.Bool.{cases_Bool, cases_lt, false≢true, lt-ltb}
-use Rattle.std.proofs.lemmas.List.Quantifiers.{position-Some}
 use Rattle.std.proofs.lemmas.List.Sums.{fails_before_first}
-use Rattle.std.proofs.lemmas.Option.{none-some, slice_get-get_or, IfSome_then}
+use Rattle.std.proofs.lemmas.Option.{none-some, IfSome_then}
 use Rattle.std.proofs.lemmas.Slice.Eq.{bytes_eq-Decides}
 use Rattle.digraph.specs.Chains.{IsChain}
 use Rattle.digraph.proofs.Members.{first_member, first_or_later, later_member, no_member}
@@ -24,6 +23,7 @@ use Rattle.ob_scan.specs.declared.token.Token.{Token}
 use Rattle.ob_scan.specs.Texts.{text_at}
 use Rattle.ob_types.specs.Homes.{home_in}
 use Rattle.ob_types.specs.Within.{AreWithin}
+use Rattle.ob_types.proofs.Within.{placed}
 use Rattle.ob_scope.proofs.Elements.{contains_of, contains_slice, of_slice, some_one}
 use Rattle.ob_board.specs.Ahead.{IsAheadOf, ServesAmong}
 use Rattle.ob_board.specs.declared.ahead.Ahead.{Ahead}
@@ -34,18 +34,6 @@ use Rattle.ob_board.proofs.ByName.{among_all, reached_by_name, same_interfaces}
 use Rattle.ob_board.proofs.Shared.{same_place}
 
 -- ---- places of modules by their names
-
-record IsLed (modules : List ModuleInterface) (name : List ℕ) (k : ℕ) : Type 0 where
-  to : ModuleInterface
-  at : slice_get modules k ≡ Some to
-  named : to.name ≡ name
-
--- a name leads to a module of the name
-led : (modules : List ModuleInterface) (name : List ℕ) (k : ℕ) → home_in modules name ≡ Some k → IsLed modules name k
-led modules name k e =
-    let d : ModuleInterface = record { name = []; declarations = []; bases = []; imports = [] } in
-    let first = position-Some (λ (m : ModuleInterface). bytes_eq m.name name) modules k d e in
-    record { to = get_or modules k d; at = slice_get-get_or modules k d first.0; named = (bytes_eq-Decides _ name).0 first.1 }
 
 -- the name of each module leads somewhere
 leads : (modules : List ModuleInterface) (m : ModuleInterface) → Contains modules m → home_in modules m.name ≡ None → ⊥
@@ -110,9 +98,9 @@ module _ (files : List SeenFile) (g : ImportGraph) (kept : AreFilesOfGraph (file
   home_is : (o : Option ℕ) (k : ℕ) (m : ModuleInterface) → home_in all m.name ≡ o → slice_get all k ≡ Some m → o ≡ Some k
   home_is None k m e at = absurd (leads all m (contains_slice all k m at) e)
   home_is (Some j) k m e at =
-      let to = led all m.name j e in
+      let to = placed all m.name j e in
       let (file, here, is) = of_slice interface_in files k m at in
-      let (other, there, also) = of_slice interface_in files j to.to to.at in
+      let (other, there, also) = of_slice interface_in files j to.module_there to.at in
       let named : names other 1 ≡ names file 1 = ap (λ (x : ModuleInterface). x.name) also ∙ to.named ∙ sym (ap (λ (x : ModuleInterface). x.name) is) in
       ap (λ (n : ℕ). Some n) (same_place files g kept k j file other here there named)
 
@@ -128,8 +116,8 @@ module _ (files : List SeenFile) (g : ImportGraph) (kept : AreFilesOfGraph (file
     closed m alias name k has of there none =
         let from = of_marked are.marks files m (among m has) in
         let file = from.file in
-        let to = led all name k there in
-        let (other, at, is) = of_slice interface_in files k to.to to.at in
+        let to = placed all name k there in
+        let (other, at, is) = of_slice interface_in files k to.module_there to.at in
         let named : names other 1 ≡ name = ap (λ (x : ModuleInterface). x.name) is ∙ to.named in
         let import = named_import file.bytes file.tokens alias name (file.rows).imports (subst (λ (x : ModuleInterface). module_named x alias ≡ Some name) (sym from.is) of) in
         let imports : Imports (files_of files) (names file 1) name = (file_of file, contains_of file_of files from.place file from.at, refl, import) in

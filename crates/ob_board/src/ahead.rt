@@ -10,22 +10,15 @@ ghost use Rattle.ob_board.specs.Seen.{AreSourcesRead};
 
 use crate::module_types::types_among;
 use ob_imports::Graph;
-use ob_interface::{Interface, Part};
-use ob_rows::Sort;
+use ob_interface::Interface;
 use ob_scan::laws::tokens_in_text;
-use ob_types::{Node, Shortcuts, Types, ascend, shortcuts_of};
+use ob_types::{Shortcuts, ascend, shortcuts_of};
 use oscip_tree::{ModuleParts, Source};
 use std::alloc::{AllocError, Global};
 use std::sync::Arc;
-use type_search::{Shape, TypeGraph};
 
 /// The fewest modules of a tree that share what is found of their types.
-const LEAST: usize = 32;
-
-/// A way that passes so many names, or takes so many steps, is long.
-const NAMES: u32 = 16;
-
-const STEPS: u32 = 64;
+const LEAST: usize = 2;
 
 /// Whether the names of all modules are known to ascend, and what is known of their types, for those that reach some of them.
 #[derive(Drop)]
@@ -62,74 +55,7 @@ fn shortest(sources: &[Source]) -> usize
     place
 }
 
-/// Whether the type of a declaration leads on: by a name, a pointer or a base.
-fn leads_on(module: &Interface, place: u32) -> bool {
-    match module.declaration_at(place) {
-        Some(it) if matches!(it.sort, Sort::Type) => match module.part(place, 0) {
-            Some(Part::Record(record)) => module.base(record).is_some(),
-            Some(Part::Pointer | Part::Named { .. }) => true,
-            Some(Part::Array | Part::Procedure) | None => false,
-        },
-        _ => false,
-    }
-}
-
-/// What a type leads to in one step, by a name, by a pointer or by the base of a record, and whether by a name.
-fn step(types: &Types<'_>, node: Node) -> Option<(Node, bool)> {
-    match types.shape(node) {
-        Shape::Named(_, next) => Some((next, true)),
-        Shape::Pointer(next) => Some((next, false)),
-        Shape::Record(record) => Some((types.base(record)?, false)),
-        Shape::Array(_) | Shape::Procedure | Shape::Unknown => None,
-    }
-}
-
-/// Whether the way from a type is long.
-fn is_long(types: &Types<'_>, from: Node) -> bool {
-    let mut node = from;
-    let mut names = 0_u32;
-    for _ in 0..STEPS {
-        let Some((next, is_name)) = step(types, node) else {
-            return false;
-        };
-        names = names.saturating_add(u32::from(is_name));
-        if names >= NAMES {
-            return true;
-        }
-        node = next;
-    }
-    true
-}
-
-/// Whether a way from a declaration of the module at this place is long.
-fn has_long(types: &Types<'_>, module: &Interface, reached: u32) -> bool {
-    for place in 0..module.declaration_count() {
-        let declaration = place as u32;
-        let from = Node::Other {
-            reached,
-            declaration,
-            part: 0,
-        };
-        if leads_on(module, declaration) && is_long(types, from) {
-            return true;
-        }
-    }
-    false
-}
-
-/// Whether a way from a declaration of any module is long. No answer depends on it.
-fn are_long(types: &Types<'_>, all: &[Arc<Interface>]) -> bool {
-    let mut reached = 0_u32;
-    for module in all {
-        if has_long(types, module, reached) {
-            return true;
-        }
-        reached = reached.saturating_add(1);
-    }
-    false
-}
-
-/// What is known of the types of all modules of these files, as the shortest of them sees all. Of few modules, or where no way is long,
+/// What is known of the types of all modules of these files, as the shortest of them sees all. Of one module, or where no way is long,
 /// nothing is: there each climbs by itself sooner than that is found.
 fn shortcuts_in(
     alloc: Global,
@@ -157,12 +83,7 @@ fn shortcuts_in(
         by_name,
         graph.by_name(),
     )?;
-    if !are_long(&types, all) {
-        return Ok(None);
-    }
-    let shortcuts = shortcuts_of(alloc, &types);
-    drop(types);
-    Ok(Some(Box::new(alloc, shortcuts?)?))
+    shortcuts_of(alloc, &types)
 }
 
 impl Ahead {

@@ -23,7 +23,7 @@ use Rattle.ob_types.specs.World.{World, home, exported_at, exported, declaration
 
 -- ---- twins
 
-pub turned : (w v : World) (i j : ℕ) → IsTwin w v i j → IsTwin v w j i
+turned : (w v : World) (i j : ℕ) → IsTwin w v i j → IsTwin v w j i
 turned w v i j t = record { twin = t.twin; here = t.there; there = t.here; named_here = t.named_there; named_there = t.named_here }
 
 one_twin : (w v : World) (i k j : ℕ) → IsTwin w v i j → IsTwin w v k j → i ≡ k
@@ -33,11 +33,11 @@ one_twin w v i k j t u =
     let f : Some i ≡ Some k = sym t.named_here ∙ ap (λ (m : ModuleInterface). home w m.name) same ∙ u.named_here in
     cc
 
-pub turned_node : (w v : World) (n m : Node) → AreNodesAlike w v n m → AreNodesAlike v w m n
+turned_node : (w v : World) (n m : Node) → AreNodesAlike w v n m → AreNodesAlike v w m n
 turned_node w v n m (part_alike {i = i} {j = j} t) = part_alike (turned w v i j t)
 turned_node w v n m (base_alike {i = i} {j = j} t) = base_alike (turned w v i j t)
 
-pub turned_record : (w v : World) (r s : Record) → AreRecordsAlike w v r s → AreRecordsAlike v w s r
+turned_record : (w v : World) (r s : Record) → AreRecordsAlike w v r s → AreRecordsAlike v w s r
 turned_record w v r s (record_alike {i = i} {j = j} t) = record_alike (turned w v i j t)
 
 -- what an interface says it says of both
@@ -75,7 +75,7 @@ same_behind w v i j d (suc p) t = ap is_pointer (same_row w v i j d p t)
 
 -- ---- types
 
-pub data AreShapesAlike (w v : World) : TypeShape → TypeShape → Type 0 where
+data AreShapesAlike (w v : World) : TypeShape → TypeShape → Type 0 where
   arrays : {n m : Node} → AreNodesAlike w v n m → AreShapesAlike w v (shapes.Array n) (shapes.Array m)
   pointers : {n m : Node} → AreNodesAlike w v n m → AreShapesAlike w v (shapes.Pointer n) (shapes.Pointer m)
   both_records : {r s : Record} → AreRecordsAlike w v r s → AreShapesAlike w v (shapes.Record r) (shapes.Record s)
@@ -133,7 +133,7 @@ pub data AreHomesAlike (w v : World) : Option ℕ → Option ℕ → Type 0 wher
   no_homes : AreHomesAlike w v None None
   homes : {i j : ℕ} → IsTwin w v i j → AreHomesAlike w v (Some i) (Some j)
 
-pub turned_homes : (w v : World) (o p : Option ℕ) → AreHomesAlike w v o p → AreHomesAlike v w p o
+turned_homes : (w v : World) (o p : Option ℕ) → AreHomesAlike w v o p → AreHomesAlike v w p o
 turned_homes w v o p no_homes = no_homes
 turned_homes w v o p (homes {i = i} {j = j} t) = homes (turned w v i j t)
 
@@ -145,7 +145,7 @@ home_alike w v name o p (homes {i = i} {j = j} t) = exported_alike w v name i j 
 abbrev pub AreImportsAlike : World → World → Type 0
 AreImportsAlike w v = (i j : ℕ) (alias name : List ℕ) → IsTwin w v i j → named_by_alias w i alias ≡ Some name → AreHomesAlike w v (home w name) (home v name)
 
-pub turned_imports : (w v : World) → AreImportsAlike w v → AreImportsAlike v w
+turned_imports : (w v : World) → AreImportsAlike w v → AreImportsAlike v w
 turned_imports w v h j i alias name t e = let u = turned v w j i t in turned_homes w v (home w name) (home v name) (h i j alias name u (same_alias w v i j alias u ∙ e))
 
 module _ (w v : World) (imports : AreImportsAlike w v) where
@@ -214,10 +214,10 @@ module _ (w v : World) (imports : AreImportsAlike w v) where
   ends_alike follows s t (names {n = k} a) e = absurd (let f : Some k ≡ None = e in cc)
   ends_alike follows s t unknowns e = refl
 
-  pub record LeadAlike (follows : Bool) (m last : Node) : Type 0 where
-    pub end : Node
-    pub leads : TypeLeadsTo (shape v) follows m end
-    pub alike : AreNodesAlike w v last end
+  record LeadAlike (follows : Bool) (m last : Node) : Type 0 where
+    end : Node
+    leads : TypeLeadsTo (shape v) follows m end
+    alike : AreNodesAlike w v last end
 
   leads_alike : (follows : Bool) (k : ℕ) (n m last : Node) → AreNodesAlike w v n m → TypeLeads (shape w) follows k n last → LeadAlike follows m last
   leads_alike follows k n m last a (ends e) = record { end = m; leads = record { steps = zero; leads = ends (ends_alike follows (shape w n) (shape v m) (shape_alike n m a) e) }; alike = a }
@@ -226,7 +226,7 @@ module _ (w v : World) (imports : AreImportsAlike w v) where
       let there = leads_alike follows l x next.next last next.alike rest in
       record { end = there.end; leads = record { steps = suc there.leads.steps; leads = on next.is there.leads.leads }; alike = there.alike }
 
-  pub lead_alike : (follows : Bool) (n m last : Node) → AreNodesAlike w v n m → TypeLeadsTo (shape w) follows n last → LeadAlike follows m last
+  lead_alike : (follows : Bool) (n m last : Node) → AreNodesAlike w v n m → TypeLeadsTo (shape w) follows n last → LeadAlike follows m last
   lead_alike follows n m last a l = leads_alike follows l.steps n m last a l.leads
 
   -- ---- records
@@ -271,12 +271,12 @@ module _ (w v : World) (imports : AreImportsAlike w v) where
       let both = base_same i j k n (base_there w i k) t e in
       record { node = nodes.OtherBase j k; is = ap (option_map (λ (b : Base). nodes.OtherBase j k)) (sym (same_base w v i j k t)) ∙ both.0; alike = both.1 }
 
-  pub record ExtendsAlike (s above : Record) : Type 0 where
-    pub up : Record
-    pub extends : Extends (shape v) (base_of v) s up
-    pub alike : AreRecordsAlike w v above up
+  record ExtendsAlike (s above : Record) : Type 0 where
+    up : Record
+    extends : Extends (shape v) (base_of v) s up
+    alike : AreRecordsAlike w v above up
 
-  pub extends_alike : (r s above : Record) → AreRecordsAlike w v r s → Extends (shape w) (base_of w) r above → ExtendsAlike s above
+  extends_alike : (r s above : Record) → AreRecordsAlike w v r s → Extends (shape w) (base_of w) r above → ExtendsAlike s above
   extends_alike r s above a x =
       let base = base_of_alike r s x.by a x.is_base in
       let to = to_record_alike x.by base.node above base.alike x.is_of in
@@ -313,12 +313,12 @@ module _ (w v : World) (imports : AreImportsAlike w v) where
         let up = extends_alike x below.up above below.alike extends in
         record { up = up.up; rises = higher below.rises (lacks_field name x below.up below.alike none) up.extends; alike = up.alike }
 
-    pub record LacksAlike (s last : Record) : Type 0 where
-      pub up : Record
-      pub lacks : Lacks (shape v) (base_of v) field_in s up
-      pub alike : AreRecordsAlike w v last up
+    record LacksAlike (s last : Record) : Type 0 where
+      up : Record
+      lacks : Lacks (shape v) (base_of v) field_in s up
+      alike : AreRecordsAlike w v last up
 
-    pub lacks_alike : (r s last : Record) → AreRecordsAlike w v r s → Lacks (shape w) (base_of w) field_here r last → LacksAlike s last
+    lacks_alike : (r s last : Record) → AreRecordsAlike w v r s → Lacks (shape w) (base_of w) field_here r last → LacksAlike s last
     lacks_alike r s last a l =
         let up = rises_alike l.bases r s last a l.rises in
         record { up = up.up; lacks = record { bases = l.bases; rises = up.rises; none = lacks_field name last up.up up.alike l.none }; alike = up.alike }

@@ -7,12 +7,12 @@ use Rattle.std.proofs.lemmas.Map.Lookups.{exact_pairs, exact_unsigned}
 use Rattle.type_search.specs.Leading.{IsTypeEnd}
 use Rattle.ob_types.specs.declared.nodes.Node.{Node}
 use Rattle.ob_types.specs.declared.shortcuts.Ends.{Ends}
-use Rattle.ob_types.specs.Known.{key_cmp, AreEnds, AreEndsOf}
+use Rattle.ob_types.specs.Known.{key_cmp, AreAllEndsOf, AreEndsOf}
 use Rattle.ob_types.specs.Shapes.{shape}
 use Rattle.ob_types.specs.World.{World}
 
 -- where one declaration more leads is kept
-pub one_more : (w : World) (i d : ℕ) (ends : Ends) (before after : BTreeMap (ℕ × ℕ) Ends) → ((k : ℕ × ℕ) → get key_cmp after k ≡ cond (is_at (key_cmp (i, d)) k) (Some ends) (get key_cmp before k)) → AreEndsOf w i d ends → AreEnds w before → AreEnds w after
+pub one_more : (w : World) (i d : ℕ) (ends : Ends) (before after : BTreeMap (ℕ × ℕ) Ends) → ((k : ℕ × ℕ) → get key_cmp after k ≡ cond (is_at (key_cmp (i, d)) k) (Some ends) (get key_cmp before k)) → AreEndsOf w i d ends → AreAllEndsOf w before → AreAllEndsOf w after
 one_more w i d ends before after adds more are = record { each = λ j e told is. (at j e told (is_at (key_cmp (i, d)) (j, e)) refl (sym (adds (j, e)) ∙ is)) }
   where
     at : (j e : ℕ) (told : Ends) (b : Bool) → is_at (key_cmp (i, d)) (j, e) ≡ b → cond b (Some ends) (get key_cmp before (j, e)) ≡ Some told → AreEndsOf w j e told

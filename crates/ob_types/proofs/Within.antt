@@ -1,40 +1,38 @@
 -- Places of modules that stand in two worlds, of which one has the modules of the other and all that they import.
 use Rattle.std.proofs.Common.{◌≡◌, ℕ, List, [], ◌∷◌, Option, Some, None, refl, sym, ap, ◌∙◌, subst}
-use Rattle.std.specs.Prelude.{Contains, slice_get}
+use Rattle.std.specs.Prelude.{slice_get}
 use Rattle.std.specs.Option.{option_and_then}
 use Rattle.std.specs.Str.{bytes_eq}
 use Rattle.std.proofs.lemmas.List.Quantifiers.{position-Some}
-use Rattle.std.proofs.lemmas.Option.{slice_get-get_or, slice_get_within, get_or_from_slice_get}
+use Rattle.std.proofs.lemmas.Option.{slice_get-get_or}
 use Rattle.std.proofs.lemmas.Slice.Eq.{bytes_eq-Decides}
 use Rattle.ob_interface.specs.Interfaces.{ModuleInterface}
 use Rattle.ob_interface.specs.Placed.{module_named}
+use Rattle.ob_scope.proofs.Elements.{contains_slice}
 use Rattle.ob_types.specs.Alike.{IsTwin}
 use Rattle.ob_types.specs.Homes.{home_in}
 use Rattle.ob_types.specs.Within.{AreWithin}
 use Rattle.ob_types.specs.World.{World, home, named_by_alias}
 use Rattle.ob_types.proofs.Alike.{no_homes, homes, AreHomesAlike, AreImportsAlike}
 
-record IsPlaced (modules : List ModuleInterface) (k : ℕ) (name : List ℕ) : Type 0 where
-  module_there : ModuleInterface
-  at : slice_get modules k ≡ Some module_there
-  named : module_there.name ≡ name
+pub record IsPlaced (modules : List ModuleInterface) (k : ℕ) (name : List ℕ) : Type 0 where
+  pub module_there : ModuleInterface
+  pub at : slice_get modules k ≡ Some module_there
+  pub named : module_there.name ≡ name
 
 -- where a name leads there is a module of the name
-placed : (modules : List ModuleInterface) (name : List ℕ) (k : ℕ) → home_in modules name ≡ Some k → IsPlaced modules k name
+pub placed : (modules : List ModuleInterface) (name : List ℕ) (k : ℕ) → home_in modules name ≡ Some k → IsPlaced modules k name
 placed [] name k e = absurd (let f : None ≡ Some k = e in cc)
 placed (m ∷ modules) name k e =
     let first = position-Some (λ (x : ModuleInterface). bytes_eq x.name name) (m ∷ modules) k m e in
     record { module_there = _; at = slice_get-get_or (m ∷ modules) k m first.0; named = (bytes_eq-Decides _ name).0 first.1 }
-
-member_at : (modules : List ModuleInterface) (k : ℕ) (m : ModuleInterface) → slice_get modules k ≡ Some m → Contains modules m
-member_at modules k m e = (k, slice_get_within modules k m e, get_or_from_slice_get modules k m m e)
 
 module _ (w v : World) (within : AreWithin v.reached w.reached) where
   -- a module to which its name leads here is found by its name there
   twin_of : (i : ℕ) (m : ModuleInterface) → slice_get w.reached i ≡ Some m → home w m.name ≡ Some i → (j : ℕ) × IsTwin w v i j
   unfolding home
   twin_of i m at named =
-      let (j, l, e) = within.among m (member_at w.reached i m at) in
+      let (j, l, e) = within.among m (contains_slice w.reached i m at) in
       let there : slice_get v.reached j ≡ Some m = slice_get-get_or v.reached j m l ∙ ap (λ (x : ModuleInterface). Some x) e in
       (j, record { twin = m; here = at; there = there; named_here = named; named_there = within.named j m there })
 
@@ -69,7 +67,7 @@ module _ (w v : World) (within : AreWithin v.reached w.reached) where
   home_both : (i : ℕ) (m : ModuleInterface) (alias name : List ℕ) (o p : Option ℕ) → slice_get w.reached i ≡ Some m → module_named m alias ≡ Some name → home w name ≡ o → home v name ≡ p → AreHomesAlike w v o p
   unfolding home
   home_both i m alias name None None at of here there = no_homes
-  home_both i m alias name None (Some k) at of here there = absurd (within.closed m alias name k (member_at w.reached i m at) of there here)
+  home_both i m alias name None (Some k) at of here there = absurd (within.closed m alias name k (contains_slice w.reached i m at) of there here)
   home_both i m alias name (Some k) p at of here there =
       let (j, is, t) = home_twin name k here in
       subst (λ (o : Option ℕ). AreHomesAlike w v (Some k) o) (sym is ∙ there) (homes t)

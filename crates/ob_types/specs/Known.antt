@@ -25,7 +25,7 @@ pub record AreEndsOf (w : World) (i d : ℕ) (ends : Ends) : Type 0 where
   pub by_pointers : IsTypeEnd (shape w) true (nodes.Other i d 0) ends.by_pointers
 
 -- so of these declarations
-pub record AreEnds (w : World) (all : BTreeMap (ℕ × ℕ) Ends) : Type 0 where
+pub record AreAllEndsOf (w : World) (all : BTreeMap (ℕ × ℕ) Ends) : Type 0 where
   pub each : (i d : ℕ) (ends : Ends) → get key_cmp all (i, d) ≡ Some ends → AreEndsOf w i d ends
 
 -- this is so in a world that reaches these modules, whose places by their names are known
@@ -34,4 +34,4 @@ pub record AreKnown (modules : List ModuleInterface) (order : Option (Vec ℕ)) 
   pub reached : tree.reached ≡ modules
   pub homes : AreHomes modules order
   pub laid : IfSome line (λ l. IsLaid (shape tree) (base_of tree) (field_of tree) l.value)
-  pub ends_are : AreEnds tree ends
+  pub ends_are : AreAllEndsOf tree ends

@@ -17,6 +17,7 @@ mod shortcuts;
 mod there;
 mod told;
 mod types;
+mod ways;
 
 pub use ahead::shortcuts_of;
 pub use homes::ascend;

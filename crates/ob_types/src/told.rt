@@ -129,8 +129,9 @@ fn behind_parts(module: &Interface, place: u32) -> usize {
     behind
 }
 
-/// The last part of the form of a declaration, which is the record if there is one: it is sought by halving, as forms may be long.
-fn last_part<'a>(module: &'a Interface, place: u32) -> Option<Part<'a>> {
+/// The last part of the form of a declaration with its place, which is the record if there is one: it is sought by halving, as forms may be
+/// long.
+pub(crate) fn last_part<'a>(module: &'a Interface, place: u32) -> Option<(usize, Part<'a>)> {
     let mut low = 0_usize;
     let mut high = behind_parts(module, place);
     for _ in 0..32 {
@@ -145,7 +146,7 @@ fn last_part<'a>(module: &'a Interface, place: u32) -> Option<Part<'a>> {
             low = middle;
         }
     }
-    module.part(place, low)
+    Some((low, module.part(place, low)?))
 }
 
 /// Adds the records of the declarations of a module that is reached.
@@ -155,7 +156,7 @@ fn add_records(
     reached: u32,
 ) -> Result<(), AllocError> {
     for place in 0..module.declaration_count() {
-        if let Some(Part::Record(record)) = last_part(module, place as u32) {
+        if let Some((_, Part::Record(record))) = last_part(module, place as u32) {
             records.push(Record::Other { reached, record })?;
         }
     }

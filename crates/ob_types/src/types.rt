@@ -41,16 +41,14 @@ pub struct Types<'a> {
 }
 
 impl<'a> Model for Types<'a> {
+    ghost use Rattle.std.specs.Prelude.{IfSome};
+    ghost use Rattle.ob_types.specs.Parted.{world_of};
+    ghost use Rattle.ob_types.specs.Within.{AreWithin};
     ghost use Rattle.ob_types.specs.World.{World};
 
     ghost Value = { World };
 
-    ghost use Rattle.ob_types.specs.Parted.{world_of};
-
     ghost view = { λ t. world_of t.indexed.parts };
-
-    ghost use Rattle.std.specs.Prelude.{IfSome};
-    ghost use Rattle.ob_types.specs.Within.{AreWithin};
 
     ghost invariant = { λ t. IfSome t.shortcuts (λ s. AreWithin s.now (world_of t.indexed.parts).reached) };
 }

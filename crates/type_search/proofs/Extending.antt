@@ -148,10 +148,6 @@ module _ {N D R : Type 0} (shape : N → Shape N D R) where
           go f k (base_field {above = s} p e h) = closed s e
 
       module _ (same : R → R → Bool) (apart : (r s : R) → same r s ≡ true → r ≡ s) where
-        pub record IsRisen (now r : R) : Type 0 where
-          pub steps : ℕ
-          pub rises : Rises shape base field steps r now
-
         -- a search from the first record stands before the second, and has met these
         pub record Climbs (from now : R) (met : List R) : Type 0 where
           pub steps : ℕ

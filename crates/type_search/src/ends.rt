@@ -6,30 +6,27 @@ ghost use Rattle.type_search.specs.Leading.{AreEnded, AreTypeEnds, IsTypeEnd, Is
 use crate::graph::TypeGraph;
 use crate::kept::Kept;
 use crate::shape::Shape;
-use crate::way::{Way, comes_back, is_far, no_way, pass};
+use crate::way::{FAR, Way, comes_back, no_way, pass};
 use std::alloc::AllocError;
 
-/// So many declarations are marked on a way that is far, and fewer on any other.
-const FAR_MARKS: usize = 5;
-
-/// Where a type leads, as far as that is known ahead. A search that hasn't come far asks for nothing.
+/// Where a type leads, as far as that is known ahead. A search that hasn't come far by so many steps asks for nothing.
 fn end_ahead<G: TypeGraph>(
     graph: &G,
     pointers: bool,
-    way: &Way<G::Declaration>,
+    steps: u64,
     node: G::Node,
 ) -> Option<Option<G::Node>>
     ensures { IfSome result (IsTypeEnd (G.shape graph.now) pointers node) }
 {
-    if is_far(way) {
+    if steps >= FAR {
         graph.known_end(pointers, node)
     } else {
         None
     }
 }
 
-/// Where a type leads by names, and by pointers where these are followed, and some of the declarations that are passed on the way there or
-/// to one that is kept.
+/// Where a type leads by names, and by pointers where these are followed, and some of the declarations that are passed on the way there,
+/// to one that is kept, or to one of which it is known ahead. Names and pointers are steps alike.
 fn walk<G: TypeGraph>(
     graph: &G,
     pointers: bool,
@@ -42,7 +39,9 @@ fn walk<G: TypeGraph>(
     ensures { IfOk result (AreEnded (G.shape graph.now) pointers G.Declaration.eq from way.new.marks.items) }
 {
     let mut node = from;
+    let mut steps = 0_u64;
     'types: loop {
+        steps = steps.saturating_add(1);
         match graph.shape(node) {
             Shape::Named(declaration, next) => {
                 if let Some(end) = kept.get(declaration) {
@@ -52,7 +51,7 @@ fn walk<G: TypeGraph>(
                     return Ok(None);
                 }
                 pass(way, declaration)?;
-                if let Some(known) = end_ahead(graph, pointers, way, next) {
+                if let Some(known) = end_ahead(graph, pointers, steps, next) {
                     return Ok(known);
                 }
                 node = next;
@@ -126,18 +125,4 @@ pub(crate) fn end_of<G: TypeGraph>(
 {
     let mut way = no_way(kept.allocator());
     end_passed(graph, pointers, kept, least, &mut way, from)
-}
-
-/// Whether a search from a type by names and pointers comes far. No answer depends on it.
-pub(crate) fn leads_far<G: TypeGraph>(
-    graph: &G,
-    kept: &mut Kept<G::Declaration, Option<G::Node>>,
-    from: G::Node,
-) -> Result<bool, AllocError>
-    requires { AreTypeEnds (G.shape graph.now) true G.Declaration.eq kept.old }
-    ensures { AreTypeEnds (G.shape graph.now) true G.Declaration.eq kept.new }
-{
-    let mut way = no_way(kept.allocator());
-    end_passed(graph, true, kept, FAR_MARKS, &mut way, from)?;
-    Ok(is_far(&way))
 }

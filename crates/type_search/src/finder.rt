@@ -4,7 +4,7 @@ ghost use Rattle.type_search.specs.Laid.{IsLaid};
 ghost use Rattle.type_search.specs.Leading.{IsTypeEnd};
 ghost use Rattle.type_search.specs.Searches.{Finds, HasElement, HasTarget};
 
-use crate::ends::{end_of, leads_far};
+use crate::ends::end_of;
 use crate::graph::TypeGraph;
 use crate::kept::Kept;
 use crate::lay::lay;
@@ -116,13 +116,6 @@ impl<'a, G: TypeGraph> Finder<'a, G> {
         )
     }
 
-    /// Whether a search from a type by names and pointers passes sixteen declarations or more. No answer depends on it.
-    pub fn is_far(&mut self, from: G::Node) -> Result<bool, AllocError>
-        ensures { self.new ≡ self.old }
-    {
-        leads_far(self.graph, &mut self.by_pointers, from)
-    }
-
     /// The type to which a type leads by names, and by pointers too where these are followed, or none where it comes back to itself.
     pub fn end(&mut self, pointers: bool, from: G::Node) -> Result<Option<G::Node>, AllocError>
         ensures graph { self.new ≡ self.old }
@@ -135,11 +128,11 @@ impl<'a, G: TypeGraph> Finder<'a, G> {
         }
     }
 
-    /// The records in a line, or none where no run of it has so many records.
-    pub fn lay(&mut self, least: usize) -> Result<Option<Box<Line<G::Record>>>, AllocError>
+    /// These records in a line, or none where there are no records. No answer depends on which are told: a search hops from these alone.
+    pub fn lay(&mut self, told: &[G::Record]) -> Result<Option<Box<Line<G::Record>>>, AllocError>
         ensures graph { self.new ≡ self.old }
         ensures line { IfOk result (λ o. IfSome o (λ l. IsLaid (G.shape self.old) (G.base_of self.old) (G.field_of self.old) l.value)) }
     {
-        lay(self.graph, &mut self.by_pointers, &mut self.aboves, least)
+        lay(self.graph, &mut self.by_pointers, &mut self.aboves, told)
     }
 }

@@ -29,15 +29,13 @@ fn seed_of<R: Hash>(records: &[R]) -> Seed {
     Seed::for_keys(&digest.finish().to_le_bytes(), records.len())
 }
 
-/// The records that a graph tells, each once.
-fn records_of<G: TypeGraph>(
-    graph: &G,
+/// The records that are told, each once.
+fn records_of<R: Copy + Eq + Hash + Drop>(
     alloc: Global,
-) -> Result<IndexSet<G::Record, Seed>, AllocError> {
-    let told = graph.records(alloc)?;
-    let seed = seed_of(told.as_slice());
-    let mut records = IndexSet::with_capacity_and_hasher(alloc, told.len(), seed)?;
-    for record in &told {
+    told: &[R],
+) -> Result<IndexSet<R, Seed>, AllocError> {
+    let mut records = IndexSet::with_capacity_and_hasher(alloc, told.len(), seed_of(told))?;
+    for record in told {
         records.insert(*record)?;
     }
     Ok(records)
@@ -178,11 +176,12 @@ fn owned_by_name<G: TypeGraph>(
     Ok(owned)
 }
 
-/// The records that a graph tells, in a line.
+/// The records that are told, in a line.
 fn line_of<G: TypeGraph>(
     graph: &G,
     kept: &mut Kept<G::Declaration, Option<G::Node>>,
     aboves: &mut Kept<G::Record, Option<G::Record>>,
+    told: &[G::Record],
 ) -> Result<IndexSet<G::Record, Seed>, AllocError>
     requires kept { AreTypeEnds (G.shape graph.now) true G.Declaration.eq kept.old }
     requires aboves { AreAbove (G.shape graph.now) (G.base_of graph.now) G.Record.eq aboves.old }
@@ -190,7 +189,7 @@ fn line_of<G: TypeGraph>(
     ensures aboves { AreAbove (G.shape graph.now) (G.base_of graph.now) G.Record.eq aboves.new }
 {
     let alloc = kept.allocator();
-    let records = records_of(graph, alloc)?;
+    let records = records_of(alloc, told)?;
     let places = places_above(graph, kept, aboves, &records)?;
     in_paths(
         alloc,
@@ -200,22 +199,12 @@ fn line_of<G: TypeGraph>(
     )
 }
 
-/// Whether a run has at least so many records.
-fn has_run(ends: &[usize], least: usize) -> bool {
-    for place in 0..ends.len() {
-        if ends[place] >= place && ends[place] - place >= least.saturating_sub(1) {
-            return true;
-        }
-    }
-    false
-}
-
-/// The line of a graph, or none where no run of it has so many records.
+/// The line of the records that are told, or none where there are none.
 pub(crate) fn lay<G: TypeGraph>(
     graph: &G,
     kept: &mut Kept<G::Declaration, Option<G::Node>>,
     aboves: &mut Kept<G::Record, Option<G::Record>>,
-    least: usize,
+    told: &[G::Record],
 ) -> Result<Option<Box<Line<G::Record>>>, AllocError>
     requires kept { AreTypeEnds (G.shape graph.now) true G.Declaration.eq kept.old }
     requires aboves { AreAbove (G.shape graph.now) (G.base_of graph.now) G.Record.eq aboves.old }
@@ -223,12 +212,12 @@ pub(crate) fn lay<G: TypeGraph>(
     ensures aboves { AreAbove (G.shape graph.now) (G.base_of graph.now) G.Record.eq aboves.new }
     ensures line { IfOk result (λ o. IfSome o (λ l. IsLaid (G.shape graph.now) (G.base_of graph.now) (G.field_of graph.now) l.value)) }
 {
-    let alloc = kept.allocator();
-    let records = line_of(graph, kept, aboves)?;
-    let ends = ends_of(graph, alloc, aboves, records.as_slice())?;
-    if !has_run(ends.as_slice(), least) {
+    if told.is_empty() {
         return Ok(None);
     }
+    let alloc = kept.allocator();
+    let records = line_of(graph, kept, aboves, told)?;
+    let ends = ends_of(graph, alloc, aboves, records.as_slice())?;
     let owned = owned_by_name(graph, alloc, &records)?;
     let laid = Line {
         records,
@@ -236,6 +225,22 @@ pub(crate) fn lay<G: TypeGraph>(
         owned,
     };
     Ok(Some(Box::new(alloc, laid)?))
+}
+
+/// The line of all records of a graph.
+fn lay_all<G: TypeGraph>(
+    graph: &G,
+    kept: &mut Kept<G::Declaration, Option<G::Node>>,
+    aboves: &mut Kept<G::Record, Option<G::Record>>,
+) -> Result<Option<Box<Line<G::Record>>>, AllocError>
+    requires kept { AreTypeEnds (G.shape graph.now) true G.Declaration.eq kept.old }
+    requires aboves { AreAbove (G.shape graph.now) (G.base_of graph.now) G.Record.eq aboves.old }
+    ensures kept { AreTypeEnds (G.shape graph.now) true G.Declaration.eq kept.new }
+    ensures aboves { AreAbove (G.shape graph.now) (G.base_of graph.now) G.Record.eq aboves.new }
+    ensures line { IfOk result (λ o. IfSome o (λ l. IsLaid (G.shape graph.now) (G.base_of graph.now) (G.field_of graph.now) l.value)) }
+{
+    let told = graph.records(kept.allocator())?;
+    lay(graph, kept, aboves, told.as_slice())
 }
 
 /// Puts the records of a graph in a line, once that is due. Where memory for it is refused there is none, and searches climb on.
@@ -256,7 +261,7 @@ pub(crate) fn lay_if_due<G: TypeGraph>(
     if line.is_some() || !sought.is_line_due(graph) {
         return;
     }
-    if let Ok(laid) = lay(graph, kept, aboves, 0) {
+    if let Ok(laid) = lay_all(graph, kept, aboves) {
         *line = laid;
     }
 }

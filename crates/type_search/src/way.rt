@@ -17,7 +17,7 @@ pub(crate) struct Way<R: Copy + Drop> {
 }
 
 /// A search that has passed so many has come far.
-const FAR: u64 = 16;
+pub(crate) const FAR: u64 = 16;
 
 /// None was passed.
 pub(crate) fn no_way<R: Copy + Drop>(alloc: Global) -> Way<R>
