@@ -508,6 +508,76 @@ def bases_through_modules(modules, form):
     return files
 
 
+def beside_small(text):
+    """A module beside 31 with nothing in them."""
+    return {"t/A.Mod": text, **{f"t/N{it:02}.Mod": b"MODULE N%d; END N%d." % (it, it) for it in range(31)}}
+
+
+def behind_long_names(size):
+    """A module of so many letters, in half of which thirteen types name one another with long names, and many the last in the rest."""
+    name = size // 104 * b"L"
+    links = b"".join(b"%s%d* = %s%d; " % (name, it, name, it - 1) for it in range(1, 14))
+    types = b"".join(b"t%d = s; " % it for it in range(size // 24))
+    return b"MODULE A; TYPE %s0* = RECORD f*: SET END; %ss* = %s13; %sEND A." % (name, links, name, types)
+
+
+def behind_deep_names(count, deep):
+    """A module of so many names of a type that thirteen others lead to a record, each by so many pointers."""
+    links = b"".join(b"a%d = %sa%d; " % (it, deep * b"POINTER TO ", it - 1) for it in range(1, 14))
+    return b"MODULE A; TYPE a0 = RECORD END; %s%sEND A." % (links, b"".join(b"t%d = a13; " % it for it in range(count)))
+
+
+def named_as_a_tree(count):
+    """A module of types that name one another as a binary tree."""
+    return b"MODULE A; TYPE R = RECORD END; t1 = R; %sEND A." % b"".join(b"t%x = t%x; " % (it, it // 2) for it in range(2, count))
+
+
+def named_in_each(modules, count):
+    """Modules, each of so many names of a type that twelve others lead to a record, each by three pointers."""
+    links = b"".join(b"a%d = %sa%d; " % (it, 3 * b"POINTER TO ", it - 1) for it in range(1, 13))
+    types = b"TYPE a0 = RECORD END; %s%s" % (links, b"".join(b"t%d = a12; " % it for it in range(count)))
+    return {f"t/M{it:02}.Mod": b"MODULE M%d; %sEND M%d." % (it, types, it) for it in range(modules)}
+
+
+def deep_between_bases(records, modules):
+    """A module of records, between each and its base fourteen names of 190 pointers, and so many modules that use a name which none has."""
+    types = [b"R0 = RECORD END; "]
+    for it in range(1, records):
+        names = [b"R%d" % (it - 1), *[b"a%dx%d" % (it, link) for link in range(14)]]
+        types += [b"%s = %s%s; " % (name, 190 * b"POINTER TO ", last) for last, name in zip(names, names[1:])]
+        types += [b"R%d = RECORD (%s) END; " % (it, names[-1])]
+    files = {f"t/M{it:04}.Mod": b"MODULE M%d; IMPORT A; BEGIN A.v.g := 1 END M%d." % (it, it) for it in range(modules)}
+    return {**files, "t/A.Mod": b"MODULE A; TYPE %sVAR v*: R%d; END A." % (b"".join(types), records - 1)}
+
+
+def bushes(levels):
+    """Records by their bases, from the lowest up: thirteen in a row, of which the last is the base of more than lie below it, and so on."""
+    types, count = [b"R0 = RECORD (R1) END; "], 1
+    for level in range(levels):
+        row = 13 * level
+        types += [b"R%d = RECORD (R%d) END; " % (it, it + 1) for it in range(row + 1, row + 13)]
+        types += [b"S%dx%d = RECORD (S%d) END; " % (level, it, level) for it in range(count + 13)]
+        types += [b"S%d = RECORD (R%d) END; " % (level, row + 13)]
+        count = 2 * count + 27
+    return b"R%d = RECORD END; " % (13 * levels), types
+
+
+def uses_behind_bushes(levels, modules, uses):
+    """A module of such records, and so many modules that use so many names which none has at the lowest."""
+    top, types = bushes(levels)
+    body = b"; ".join(b"A.v.g%d := 1" % it for it in range(uses))
+    files = {f"t/M{it:04}.Mod": b"MODULE M%d; IMPORT A; BEGIN %s END M%d." % (it, body, it) for it in range(modules)}
+    return {**files, "t/A.Mod": b"MODULE A; TYPE %s%sVAR v*: R0; END A." % (top, b"".join(reversed(types)))}
+
+
+def beside_a_chain(modules, records):
+    """Modules of so many records without a base, and one with a chain of seventeen."""
+    types = b"".join(b"R%d* = RECORD f%d*: SET END; " % (it, it) for it in range(records))
+    files = {f"t/M{it:02}.Mod": b"MODULE M%d; TYPE %sEND M%d." % (it, types, it) for it in range(modules)}
+    chain = b"".join(b"R%d = RECORD (R%d) END; " % (it, it - 1) for it in range(1, 18))
+    return {**files, "t/A.Mod": b"MODULE A; TYPE R0 = RECORD END; %sEND A." % chain}
+
+
 def long_behind_bases(size):
     """A module with a use of a name of half so many letters behind a record for each fifty of them, each with the last as its base."""
     count = size // 50
@@ -552,6 +622,32 @@ def streams(each):
     lines += [b"import h%d y%05d 1\n" % (feeder, it) for feeder in range(2) for it in range(each + 1)]
     ends = b"import c%05d zz9 1000000000\nimport y00000 c00000 1000000000\nimport a0 h0 %d\nimport a0 g0 %d\nimport g0 h1 %d\n" % (each, each, each, each)
     return {"t/net": b"".join([*lines, ends])}
+
+
+def gates(long, units, count):
+    """A network in which so many units go one by one down a long way, to and fro, until one of so many gates is full, six modules further each."""
+    all_units, top, lines = count * (units + 2), long + 6 * count, []
+
+    def add(module, imported, weight):
+        lines.append(b"import %s %s %d\n" % (module, imported, weight))
+
+    add(b"a0", b"b", 2 * all_units)
+    for it in range(1, top):
+        add(b"p%04d" % it, b"p%04d" % (it - 1), all_units)
+    add(b"p0000", b"zz9", all_units)
+    for it in range(units):
+        add(b"b", b"d%04d" % it, 3 * all_units)
+        add(b"d%04d" % it, b"w", all_units)
+        add(b"d%04d" % it, b"e", 1)
+    add(b"w", b"zz9", all_units)
+    for it in range(1, count + 1):
+        gate = b"g%04d" % it
+        add(b"e", gate, units + 2)
+        add(gate, b"p%04d" % (long + 6 * it - 2), units + 2)
+        way = [b"b", b"r%04dx0" % it, b"r%04dx1" % it, gate]
+        for module, imported in zip(way, way[1:]):
+            add(module, imported, units + 2)
+    return {"t/net": b"".join(lines)}
 
 
 def crossing(count):
@@ -653,6 +749,14 @@ GROWN = [
             "nine uses of each of 200 modules behind 2,000 bases of one": (lambda k: bases_of_one(many(100) * k, many(1_000) * k, 9),),
             "records through 512 modules, each with the last as its base": (lambda k: bases_through_modules(many(256) * k, b"RECORD (M%d.R) END"), 2.7),
             "names of one record through 512 modules": (lambda k: bases_through_modules(many(256) * k, b"M%d.R"), 2.7),
+            "uses of 30 modules behind 2,000 bases of one": (lambda k: bases_of_one(15 * k, many(1_000) * k),),
+            "names of types behind twelve of three pointers in each of 32 modules": (lambda k: named_in_each(16 * k, many(200)),),
+            "types that name one behind thirteen of long names, in 32 modules": (lambda k: beside_small(behind_long_names(many(64_000) * k)),),
+            "types that name one behind thirteen of up to 190 pointers, in 32 modules": (lambda k: beside_small(behind_deep_names(many(2_000) * k, many(95) * k)),),
+            "types that name one another as a tree, in 32 modules": (lambda k: beside_small(named_as_a_tree(many(17_000) * k)),),
+            "uses of 1,000 modules behind 64 bases, each by fourteen names of 190 pointers": (lambda k: deep_between_bases(many(32) * k, many(500) * k),),
+            "uses of 64 modules behind records of which none has a long run of bases": (lambda k: uses_behind_bushes(6 + k, many(32) * k, 320),),
+            "records without a base in 64 modules, and a chain of seventeen bases": (lambda k: beside_a_chain(64, many(250) * k),),
             "190 parentheses in one another, again and again": (lambda k: one(b"MODULE M; BEGIN " + b"; ".join(many(400) * k * [190 * b"h(" + b"x" + 190 * b")"]) + b" END M."),),
             "a name of 50,000 letters behind 2,000 bases": (lambda k: long_behind_bases(many(100_000) * k),),
             "fields of a type of another module with a name of 10,000 letters": (lambda k: fields_of_a_long_type(many(40_000) * k), 3.9),
@@ -709,6 +813,7 @@ GROWN = [
             "seven modules that 8,000 import": (lambda k: hubs(many(4_000) * k, 0),),
             "two chains of 4,000, of which one leads back": (lambda k: chains(many(2_000) * k), 3.9),
             "units one behind the other through two chains of 2,000": (lambda k: streams(many(1_000) * k), 4.1),
+            "200 units one behind the other down a way of 200, to and fro, for each of 32 gates": (lambda k: gates(many(100) * k, many(100) * k, many(16) * k), 7.6),
         },
     ),
     (
