@@ -3,6 +3,7 @@
 //! Its contract: no arc of the graph changes but for its flow, which stays within its capacity. That the flow is a greatest one is tested where it is used.
 #![tactic(auto)]
 
+mod by_label;
 mod distances;
 mod trial;
 

@@ -1,14 +1,19 @@
 //! A preflow that is run for its flow alone (Goldberg and Tarjan 1988): as long as a node with excess has a label below the number of nodes, which
 //! counts how far it is from the end at least; then what is stuck is taken back. In rounds the labels are made anew as distances, so nodes from
-//! which nothing gets to the end are told at once.
-ghost use Rattle.std.specs.Prelude.{◌≡◌, ◌<◌, ◌≤◌, ◌^◌, ℕ, All, IfOk, IfSome, OnOk, length};
+//! which nothing gets to the end are told at once. Those that wait are taken first come, first served; in a round that doesn't come to an end so,
+//! as where units come one by one, that with the highest label is taken first then (Cheriyan and Maheshwari 1989).
+ghost use Rattle.std.specs.Prelude.{◌≡◌, ◌<◌, ◌≤◌, ◌^◌, ℕ, All, IfOk, IfSome, OnOk, length, vec_len};
 ghost use Rattle.cut_residual.specs.OutArcs.{IsOutOf, out_at};
 ghost use Rattle.cut_trial.specs.Trials.{label_at, HasOtherFlow, LeadsDown};
 
+use crate::by_label::ByLabel;
 use crate::distances::distances_to;
 use cut_residual::{CurrentArcs, OutArc, ResidualGraph, order_of};
 use std::alloc::{AllocError, Global};
 use std::marker::Model;
+
+/// How many are taken in turn in a round, for each node. Networks that weren't made against this need seven at most.
+const TURNS: usize = 16;
 
 /// A graph with its flow, and for each node its excess, its label and its current arc; those that wait have excess.
 #[derive(Drop)]
@@ -221,21 +226,87 @@ impl Trial {
         Ok(true)
     }
 
-    /// Discharges those that wait, in turn, until none do or as many were raised as there are nodes.
-    fn discharge_all(&mut self, end: u32) -> Result<(), AllocError>
+    /// Discharges a node, unless it is the end, and counts it where it was raised.
+    fn take(&mut self, node: u32, end: u32, raised: &mut u32) -> Result<(), AllocError>
+        requires { node < self.old.nodes }
+        ensures { OnOk result (HasOtherFlow self.old self.new) }
+    {
+        if node != end && self.discharge(node)? {
+            *raised = raised.saturating_add(1);
+        }
+        Ok(())
+    }
+
+    /// Discharges those that wait, in turn, until none do, as many were raised as there are nodes, or so many were taken. Answers how many
+    /// were taken.
+    fn discharge_in_turn(
+        &mut self,
+        end: u32,
+        most: usize,
+        raised: &mut u32,
+    ) -> Result<usize, AllocError>
+        ensures { OnOk result (HasOtherFlow self.old self.new) }
+    {
+        for place in 0..most {
+            if place >= self.waiting.len() || *raised >= self.graph.nodes() {
+                return Ok(place);
+            }
+            let node = self.waiting[place];
+            self.take(node, end, raised)?;
+        }
+        Ok(most)
+    }
+
+    /// Moves those that wait, from this place on, to those that wait by their labels.
+    fn put_by_label(&mut self, by_label: &mut ByLabel, start: usize)
+        ensures graph { self.new ≡ self.old }
+        ensures nodes { vec_len by_label.new.nexts ≡ vec_len by_label.old.nexts }
+    {
+        for place in start..self.waiting.len() {
+            let node = self.waiting[place];
+            by_label.add(node, self.labels[node as usize]);
+        }
+        self.waiting.clear();
+    }
+
+    /// Discharges those that wait, that with the highest label first, until none do or as many were raised as there are nodes.
+    fn discharge_highest(
+        &mut self,
+        end: u32,
+        by_label: &mut ByLabel,
+        raised: &mut u32,
+    ) -> Result<(), AllocError>
+        requires { vec_len by_label.old.nexts ≡ self.old.nodes }
+        ensures { OnOk result (HasOtherFlow self.old self.new) }
+    {
+        for _ in 0..u64::MAX {
+            if *raised >= self.graph.nodes() {
+                return Ok(());
+            }
+            let Some(node) = by_label.take_highest() else {
+                return Ok(());
+            };
+            self.take(node, end, raised)?;
+            self.put_by_label(by_label, 0);
+        }
+        Ok(())
+    }
+
+    /// Discharges those that wait until none do or as many were raised as there are nodes: so many in turn for each node, and then by their
+    /// labels. The next round begins in turn again, for by labels one node after the other may be found to lead nowhere, each by a round.
+    fn discharge_all(&mut self, alloc: Global, end: u32) -> Result<(), AllocError>
         ensures { OnOk result (HasOtherFlow self.old self.new) }
     {
         let mut raised = 0u32;
-        for place in 0..usize::MAX {
-            if place >= self.waiting.len() || raised >= self.graph.nodes() {
-                return Ok(());
-            }
-            let node = self.waiting[place];
-            if node != end && self.discharge(node)? {
-                raised = raised.saturating_add(1);
-            }
+        let nodes = self.graph.nodes();
+        let most = (nodes as usize).saturating_mul(TURNS);
+        let taken = self.discharge_in_turn(end, most, &mut raised)?;
+        if taken < most {
+            return Ok(());
         }
-        Ok(())
+        let mut by_label = ByLabel::new(alloc, nodes)?;
+        self.put_by_label(&mut by_label, taken);
+        self.discharge_highest(end, &mut by_label, &mut raised)
     }
 
     /// Labels all nodes by their distances to the end, lets those wait from which something may still get there, and answers whether there is one.
@@ -309,7 +380,7 @@ impl Trial {
             if !self.label_all(alloc, end)? {
                 return Ok(());
             }
-            self.discharge_all(end)?;
+            self.discharge_all(alloc, end)?;
         }
         Ok(())
     }
