@@ -650,6 +650,35 @@ def gates(long, units, count):
     return {"t/net": b"".join(lines)}
 
 
+def linked(names, weight):
+    """Import lines from each of these modules to the next."""
+    return [b"import %s %s %d\n" % (*ends, weight) for ends in zip(names, names[1:])]
+
+
+def trickle(each):
+    """A network in which so many modules are raised by one label in each round, and eleven of them send a unit to each module of a long way."""
+    most, hubs = 10**10, [b"a0", b"h0", b"h1"]
+    core, way = [b"x%05d" % it for it in range(each)], [*(b"p%05d" % it for it in reversed(range(each))), b"zz9"]
+    lines = linked(hubs, most) + linked(core, most) + linked(way, most)
+    lines += [b"import %s %s %d\n" % (hub, it, most) for hub in hubs[1:] for it in core]
+    lines += [b"import %s b %d\n" % (it, most) for it in core]
+    return {"t/net": b"".join(lines + [b"import %s %s 1\n" % (it, to) for it in [b"b", *core[:10]] for to in way[:-1]])}
+
+
+def dying(pairs, units, delay):
+    """A network in which units come one by one first, so that labels are gone by, and then so many pairs of modules get more than may leave them."""
+    ways, each = range(7), 9
+    way = [b"m%05d" % it for it in range(units + 1)]
+    lines = [b"import a0 m00000 %d\n" % (4 * units)] + [b"import %s %s %d\n" % (*ends, units + 1 - it) for it, ends in enumerate(zip(way, way[1:]))]
+    lines += [b"import m%05d y00000 1\n" % it for it in range(units)] + [b"import m%05d y%05d 1\n" % (units, units)]
+    lines += linked([*(b"y%05d" % it for it in range(units + 1)), b"zz9"], units + 1)
+    lines += linked([b"a0", *(b"d%05d" % it for it in range(delay + 1))], each * pairs)
+    for it in range(pairs):
+        lines += [b"import d%05d u%05d %d\nimport u%05d v%05d 99\nimport v%05d zz9 1\n" % (delay, it, each, it, it, it)]
+        lines += [b"import v%05d w%d 1\n" % (it, to) for to in ways]
+    return {"t/net": b"".join(lines + linked([*(b"w%d" % it for it in reversed(ways)), b"zz9"], pairs))}
+
+
 def crossing(count):
     """Two modules, the first of which uses the second by so many aliases and in as many statements."""
     return {
@@ -811,9 +840,11 @@ GROWN = [
         {
             "seven modules that 4,000 import, and that import 4,000": (lambda k: hubs(many(2_000) * k, 1),),
             "seven modules that 8,000 import": (lambda k: hubs(many(4_000) * k, 0),),
-            "two chains of 4,000, of which one leads back": (lambda k: chains(many(2_000) * k), 3.9),
-            "units one behind the other through two chains of 2,000": (lambda k: streams(many(1_000) * k), 4.1),
-            "200 units one behind the other down a way of 200, to and fro, for each of 32 gates": (lambda k: gates(many(100) * k, many(100) * k, many(16) * k), 7.6),
+            "two chains of 4,000, of which one leads back": (lambda k: chains(many(2_000) * k), 3.6),
+            "units one behind the other through two chains of 2,000": (lambda k: streams(many(1_000) * k), 3.1),
+            "1,000 modules that are raised by one label in each of 500 rounds": (lambda k: trickle(many(500) * k),),
+            "1,400 pairs of modules that lead nowhere, behind units one by one": (lambda k: dying(many(700) * k, many(200) * k, many(300) * k), 2.5),
+            "200 units one behind the other down a way of 200, to and fro, for each of 32 gates": (lambda k: gates(many(100) * k, many(100) * k, many(16) * k), 3.4),
         },
     ),
     (
