@@ -739,8 +739,11 @@ def asked(behind):
     return {"index": document(definition(b"") + behind)}
 
 
+# The rows of `docs/COMMANDS.md` that name inputs whose instructions grow by more than `GREW`.
+CHAIN, LONG, NETWORKS = "modules in a chain", "names of a fourth of the bytes", "networks over which units go to and fro"
+
 # The command, its status, and for each input what is written, of which there is once or twice as much, and the most times that
-# the instructions may grow, where that isn't `GREW`.
+# the instructions may grow, where that isn't `GREW`, with the row that names it where that is more.
 GROWN = [
     (
         ["unresolved", "t"],
@@ -771,13 +774,13 @@ GROWN = [
             "one name in 20,000 procedures": (lambda k: same_locals(many(20_000) * k),),
             "names of 200 letters": (lambda k: declared(long_names(many(5_000) * k)),),
             "modules that declare a few names": (lambda k: small_modules(many(2_048) * k, lambda it: ()),),
-            "modules that declare a few names, each of which imports the one before it": (lambda k: small_modules(many(2_048) * k, lambda it: (it - 1,) if it else ()), 3.4),
-            "modules whose names fall together, each of which imports the one before it": (lambda k: chain_of(together(k, "each", part=1_024)), 3.8),
-            "modules whose names fall, each of which imports the one before it": (lambda k: chain_of([b"M%d" % (9_999 - it) for it in range(many(2_048) * k)]), 3.8),
+            "modules that declare a few names, each of which imports the one before it": (lambda k: small_modules(many(2_048) * k, lambda it: (it - 1,) if it else ()), 3.4, CHAIN),
+            "modules whose names fall together, each of which imports the one before it": (lambda k: chain_of(together(k, "each", part=1_024)), 3.8, CHAIN),
+            "modules whose names fall, each of which imports the one before it": (lambda k: chain_of([b"M%d" % (9_999 - it) for it in range(many(2_048) * k)]), 3.8, CHAIN),
             "uses of 200 modules behind 2,000 bases of one": (lambda k: bases_of_one(many(100) * k, many(1_000) * k),),
             "nine uses of each of 200 modules behind 2,000 bases of one": (lambda k: bases_of_one(many(100) * k, many(1_000) * k, 9),),
-            "records through 512 modules, each with the last as its base": (lambda k: bases_through_modules(many(256) * k, b"RECORD (M%d.R) END"), 2.7),
-            "names of one record through 512 modules": (lambda k: bases_through_modules(many(256) * k, b"M%d.R"), 2.7),
+            "records through 512 modules, each with the last as its base": (lambda k: bases_through_modules(many(256) * k, b"RECORD (M%d.R) END"), 2.7, CHAIN),
+            "names of one record through 512 modules": (lambda k: bases_through_modules(many(256) * k, b"M%d.R"), 2.7, CHAIN),
             "uses of 30 modules behind 2,000 bases of one": (lambda k: bases_of_one(15 * k, many(1_000) * k),),
             "names of types behind twelve of three pointers in each of 32 modules": (lambda k: named_in_each(16 * k, many(200)),),
             "types that name one behind thirteen of long names, in 32 modules": (lambda k: beside_small(behind_long_names(many(64_000) * k)),),
@@ -788,8 +791,8 @@ GROWN = [
             "records without a base in 64 modules, and a chain of seventeen bases": (lambda k: beside_a_chain(64, many(250) * k),),
             "190 parentheses in one another, again and again": (lambda k: one(b"MODULE M; BEGIN " + b"; ".join(many(400) * k * [190 * b"h(" + b"x" + 190 * b")"]) + b" END M."),),
             "a name of 50,000 letters behind 2,000 bases": (lambda k: long_behind_bases(many(100_000) * k),),
-            "fields of a type of another module with a name of 10,000 letters": (lambda k: fields_of_a_long_type(many(40_000) * k), 3.9),
-            "fields of a type of a module with a name of 40,000 letters": (lambda k: fields_through_a_long_module(many(160_000) * k), 3.9),
+            "fields of a type of another module with a name of 10,000 letters": (lambda k: fields_of_a_long_type(many(40_000) * k), 3.9, LONG),
+            "fields of a type of a module with a name of 40,000 letters": (lambda k: fields_through_a_long_module(many(160_000) * k), 3.9, LONG),
         },
     ),
     (
@@ -812,9 +815,9 @@ GROWN = [
             "names of 200 letters of a module of the tree": (lambda k: exporting(long_names(many(2_500) * k)),),
             "names of a module of the tree that fall together": (lambda k: exporting(together(k)),),
             "modules of a few names": (lambda k: small_modules(many(2_048) * k, lambda it: ()),),
-            "modules of a few names, each of which imports the one before it": (lambda k: small_modules(many(2_048) * k, lambda it: (it - 1,) if it else ()), 3.1),
+            "modules of a few names, each of which imports the one before it": (lambda k: small_modules(many(2_048) * k, lambda it: (it - 1,) if it else ()), 3.1, CHAIN),
             "nine uses of each of 200 modules behind 2,000 bases of one, indexed": (lambda k: bases_of_one(many(100) * k, many(1_000) * k, 9),),
-            "records through 512 modules, each with the last as its base, indexed": (lambda k: bases_through_modules(many(256) * k, b"RECORD (M%d.R) END"), 2.7),
+            "records through 512 modules, each with the last as its base, indexed": (lambda k: bases_through_modules(many(256) * k, b"RECORD (M%d.R) END"), 2.7, CHAIN),
         },
     ),
     (
@@ -840,11 +843,11 @@ GROWN = [
         {
             "seven modules that 4,000 import, and that import 4,000": (lambda k: hubs(many(2_000) * k, 1),),
             "seven modules that 8,000 import": (lambda k: hubs(many(4_000) * k, 0),),
-            "two chains of 4,000, of which one leads back": (lambda k: chains(many(2_000) * k), 3.6),
-            "units one behind the other through two chains of 2,000": (lambda k: streams(many(1_000) * k), 3.1),
+            "two chains of 4,000, of which one leads back": (lambda k: chains(many(2_000) * k), 3.6, NETWORKS),
+            "units one behind the other through two chains of 2,000": (lambda k: streams(many(1_000) * k), 3.1, NETWORKS),
             "1,000 modules that are raised by one label in each of 500 rounds": (lambda k: trickle(many(500) * k),),
-            "1,400 pairs of modules that lead nowhere, behind units one by one": (lambda k: dying(many(700) * k, many(200) * k, many(300) * k), 2.5),
-            "200 units one behind the other down a way of 200, to and fro, for each of 32 gates": (lambda k: gates(many(100) * k, many(100) * k, many(16) * k), 3.4),
+            "1,400 pairs of modules that lead nowhere, behind units one by one": (lambda k: dying(many(700) * k, many(200) * k, many(300) * k), 2.5, NETWORKS),
+            "200 units one behind the other down a way of 200, to and fro, for each of 32 gates": (lambda k: gates(many(100) * k, many(100) * k, many(16) * k), 3.4, NETWORKS),
         },
     ),
     (
@@ -989,14 +992,16 @@ def grown(program, folder):
         return 0
     wrong = 0
     head("Command", "Input", "Bytes", "Instructions at twice the bytes", "at most")
+    named_rows = open(f"{HERE}/../docs/COMMANDS.md", encoding="utf-8").read()
     for words, wanted, inputs in GROWN:
         for name, (files, *bound_of) in inputs.items():
-            most = bound_of[0] if bound_of else GREW
+            most, *named = bound_of or [GREW]
             size, ratio, others = growth(program, words, folder, wanted, files)
             # a part is too small for the bounds, and for what is refused as too many
             faults = ["another status"] if others and PART == 1 else []
             faults += ["too many instructions"] if ratio > most and PART == 1 else []
-            wrong += row(f"`{words[0]}`", faults, name, f"{size:,}", f"{ratio:.2f}", str(most))
+            faults += ["docs/COMMANDS.md doesn't name it"] if most > GREW and not any(f"| {it}" in named_rows for it in named) else []
+            wrong += row(f"`{words[0]}`", faults, name, f"{size:,}", f"{ratio:.2f}", ": ".join([str(most), *named]))
     return wrong
 
 
