@@ -249,7 +249,7 @@ HARMFUL = [
     (
         "p/M.Mod",
         ["index", "p", "out", "--workers", "1", "--package", 2_000 * "p"],
-        {"uses of a name in a package of 2,000 letters": (800, lambda k: module(8_000 * k * b"x := x;"))},
+        {"uses of a name in a package of 2,000 letters, which are put": (800, lambda k: module(8_000 * k * b"x := x;"))},
     ),
     (
         "net",
@@ -656,7 +656,7 @@ def linked(names, weight):
 
 
 def trickle(each):
-    """A network in which so many modules are raised by one label in each round, and eleven of them send a unit to each module of a long way."""
+    """A network on whose weights, as they stand, a model raises so many modules by one label in each round: eleven of them send a unit to each module of a long way."""
     most, hubs = 10**10, [b"a0", b"h0", b"h1"]
     core, way = [b"x%05d" % it for it in range(each)], [*(b"p%05d" % it for it in reversed(range(each))), b"zz9"]
     lines = linked(hubs, most) + linked(core, most) + linked(way, most)
@@ -666,7 +666,7 @@ def trickle(each):
 
 
 def dying(pairs, units, delay):
-    """A network in which units come one by one first, so that labels are gone by, and then so many pairs of modules get more than may leave them."""
+    """A network in which units come one by one first, and then so many pairs of modules get more than may leave them, which a model that stays with labels finds one by one."""
     ways, each = range(7), 9
     way = [b"m%05d" % it for it in range(units + 1)]
     lines = [b"import a0 m00000 %d\n" % (4 * units)] + [b"import %s %s %d\n" % (*ends, units + 1 - it) for it, ends in enumerate(zip(way, way[1:]))]
@@ -845,7 +845,7 @@ GROWN = [
             "seven modules that 8,000 import": (lambda k: hubs(many(4_000) * k, 0),),
             "two chains of 4,000, of which one leads back": (lambda k: chains(many(2_000) * k), 3.6, NETWORKS),
             "units one behind the other through two chains of 2,000": (lambda k: streams(many(1_000) * k), 3.1, NETWORKS),
-            "1,000 modules that are raised by one label in each of 500 rounds": (lambda k: trickle(many(500) * k),),
+            "1,000 modules, eleven of which send a unit to each module of a long way": (lambda k: trickle(many(500) * k),),
             "1,400 pairs of modules that lead nowhere, behind units one by one": (lambda k: dying(many(700) * k, many(200) * k, many(300) * k), 2.5, NETWORKS),
             "200 units one behind the other down a way of 200, to and fro, for each of 32 gates": (lambda k: gates(many(100) * k, many(100) * k, many(16) * k), 3.4, NETWORKS),
         },
