@@ -740,7 +740,7 @@ def asked(behind):
 
 
 # The rows of `docs/COMMANDS.md` that name inputs whose instructions grow by more than `GREW`.
-CHAIN, LONG, NETWORKS = "modules in a chain", "names of a fourth of the bytes", "networks over which units go to and fro"
+CHAIN, LONG, NETWORKS = "modules in a chain of imports", "names of a fourth of the bytes", "networks over which flow goes forth and back"
 
 # The command, its status, and for each input what is written, of which there is once or twice as much, and the most times that
 # the instructions may grow, where that isn't `GREW`, with the row that names it where that is more.
