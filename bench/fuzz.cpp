@@ -223,8 +223,8 @@ struct Examples {
 
 Examples examples_of(const Text &at) {
     Examples found;
-    for (const char *name : {"six.net", "editor.net"}) found.nets.push_back(read_file(at + "/" + name));
-    for (const char *name : {"six.cut", "editor.cut"}) found.reports.push_back(read_file(at + "/" + name));
+    for (const char *name : {"six.net", "large.net"}) found.nets.push_back(read_file(at + "/" + name));
+    for (const char *name : {"six.cut", "large.cut"}) found.reports.push_back(read_file(at + "/" + name));
     found.nets.push_back("import A U 5\nimport U D 1\nimport A V 0\nimport V U 3\n");
     found.nets.push_back("import A B 9223372036854775808\nimport B C 9223372036854775807\n");
     found.reports.push_back("cut A D\nblocked A B D\nend\n");

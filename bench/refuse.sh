@@ -83,14 +83,14 @@ trial() {
 }
 
 trial 0 check-net six.net six.cut
-trial 0 check-net editor.net editor.cut
+trial 0 check-net large.net large.cut
 trial 5 check-net six.net over.cut
 for words in "six.net short.cut" "cycle.net six.cut" "twice.net six.cut" "overflow.net six.cut"; do
   trial 1 check-net $words
 done
 trial 3 check-net six.net absent.cut
 trial 2 check-net six.net
-for words in "six.net A B" "editor.net Editor Net" "editor.net Net Editor" "zero.net A C" "layered.net $ends"; do
+for words in "six.net A B" "large.net Editor Net" "large.net Net Editor" "zero.net A C" "layered.net $ends"; do
   trial 0 cut-net $words
 done
 for words in "six.net A A" "six.net A Absent" "six.net Absent A" "cycle.net A B" "twice.net A B" "overflow.net A B"; do
@@ -124,9 +124,9 @@ for words in "four A Z" "wrong A D" "twice A D"; do
 done
 trial 3 cut absent A D
 trial 0 dot-net six.net six.cut
-trial 0 dot-net editor.net editor.cut
+trial 0 dot-net large.net large.cut
 trial 0 dot four four.cut
-trial 0 dot-net --flow editor.net editor.cut
+trial 0 dot-net --flow large.net large.cut
 trial 0 dot-net --flow --prices=pins.prices six.net blocked.cut
 trial 0 dot --flow four four.cut
 trial 0 crossings four B D
@@ -145,7 +145,7 @@ trial 5 faults wrong
 trial 0 why four A D
 trial 0 why four D A
 trial 1 why four A Absent
-trial 0 why-net editor.net Editor Net
+trial 0 why-net large.net Editor Net
 trial 1 why-net cycle.net A B
 trial 1 dot-net six.net short.cut
 trial 1 dot-net cycle.net six.cut
