@@ -1,10 +1,10 @@
 #!/usr/bin/env bash
-# Refuses each allocation by malloc or realloc of a run, one in each of as many runs. Each has to end with its right answer,
-# or with Memory, status 4 and at most a front of the right answer on standard output, and no third. Of a cut's right answer the
-# flow may be another one of that value, since it hangs on the workers' turns; check-net and check have to say yes to it. What a run
-# writes into the file out.scip counts as standard output.
+# Lets each allocation by malloc or realloc of a run fail, one in each of as many runs. Each run has to end with its right output, or with
+# Memory, status 4 and at most a prefix of the right output. The flow of a cut may be another one of the same value, since it depends on
+# the workers' steps; check-net and check have to say yes to it. What a run writes into the file out.scip counts as standard output. A run
+# that replaces out.scip as a whole has to leave it right or as it was, with nothing beside it.
 # Build the program first: .ci/build. Then: bench/refuse.sh [PATH OF THE PROGRAM [STEP]]
-# STEP is how far one allocation that is refused is behind the last one, 1 without it.
+# STEP is the distance between two failing allocations, 1 without it.
 set -eu
 here=$(cd "$(dirname "$0")" && pwd)
 oscip=$(realpath "${1:-$here/../crates/oscip/out/oscip}")
@@ -34,13 +34,19 @@ printf 'cut A B\nblocked A M B\nend\n' > blocked.cut
 printf 'forbid A D\nset S B\nset S C\nfolder T b\nforbid S D\nforbid T D\nallow B D\n' > four.rules
 printf 'allow A B\nallow A B\n' > twice.rules
 
-mkdir -p four/b wrong twice
+mkdir -p four/b wrong twice ring broken
 printf 'MODULE A; IMPORT B, C; BEGIN B.p; C.q; C.q END A.' > four/A.Mod
 printf 'MODULE B; IMPORT D; PROCEDURE p*; BEGIN D.x; D.x; D.x END p; END B.' > four/b/B.mod
 printf 'MODULE C; IMPORT E := D; PROCEDURE q*; BEGIN E.x END q; END C.' > four/C.Mod
 printf 'MODULE D; PROCEDURE x*; END x; END D.' > four/D.Mod
 printf 'MODULE A; IMPORT A; BEGIN A.x END B.' > wrong/A.Mod
 printf 'MODULE A; VAR r: RECORD a, a: SET END; END A.' > twice/A.Mod
+printf 'MODULE A; IMPORT B; END A.' > ring/A.Mod
+printf 'MODULE B; IMPORT A; END B.' > ring/B.Mod
+printf 'MODULE C; END D.' > ring/C.Mod
+cp -r four/* broken
+printf '?' > broken/E.Mod
+printf 'MODULE F; VAR x, x: SET; END F.' > broken/F.Mod
 printf 'cut A D\nweight 2\nremove A B 1\nremove C D 1\nflow A B 1\nflow A C 1\nflow B D 1\nflow C D 1\nend\n' > four.cut
 
 # Whether the run ended for want of memory.
@@ -80,6 +86,39 @@ trial() {
   done
   [ $refusals -gt 0 ] || { echo "$*: nothing ends in Memory"; exit 1; }
   echo "$*: $refusals refusals end in Memory, $same change nothing ($(cat said right | head -n 1), status $right)"
+}
+
+# A run that replaces out.scip as a whole, after its status if no allocation fails. If it runs out of memory, the lines before Memory are
+# those of files that it leaves out, and the index may be there already only if such lines were still to be written.
+whole() {
+  local wanted=$1 number=1 refusals=0 same=0 right status
+  shift
+  printf 'as it was' > out.scip
+  "$oscip" "$@" out.scip > right 2> said && right=0 || right=$?
+  cp out.scip right.scip
+  [ $right = $wanted ] || { echo "$*: status $right, $(head -n 1 said)"; exit 1; }
+  while :; do
+    rm -f refused
+    printf 'as it was' > out.scip
+    REFUSE_AT=$number REFUSE_NOTE=refused LD_PRELOAD="$work/refuse.so" "$oscip" "$@" out.scip > got 2> told && status=0 || status=$?
+    [ -e refused ] || break
+    if [ $status = 4 ] && [ "$(tail -n 1 told)" = 'oscip: Memory' ] && ! sed '$d' told | grep -qvxFf said && is_whole; then
+      refusals=$((refusals + 1))
+    elif [ $status = $right ] && cmp -s out.scip right.scip && cmp -s told said && [ ! -e out.scip.oscip-partial ]; then
+      same=$((same + 1))
+    else
+      echo "$*, allocation $number: status $status, $(head -n 1 told)"
+      exit 1
+    fi
+    number=$((number + step))
+  done
+  [ $refusals -gt 0 ] || { echo "$*: nothing ends in Memory"; exit 1; }
+  echo "$*: $refusals refusals end in Memory, $same change nothing ($(cat said right | head -n 1), status $right)"
+}
+
+# Whether out.scip is as it was, or right where lines of left-out files were written, and nothing is beside it.
+is_whole() {
+  [ ! -e out.scip.oscip-partial ] && { printf 'as it was' | cmp -s - out.scip || { [ -s said ] && cmp -s out.scip right.scip; }; }
 }
 
 trial 0 check-net six.net six.cut
@@ -155,6 +194,11 @@ trial 2 dot-net six.net
 trial 0 index four --hex
 trial 0 index four out.scip
 trial 0 index --workers 1 editor --hex
+whole 0 index --atomic four
+whole 5 index --skip-faults broken
+whole 1 index --atomic wrong
+whole 1 index --skip-faults ring
+trial 5 index --skip-faults --hex broken
 trial 0 unresolved four
 trial 0 unresolved editor
 trial 1 index twice --hex
