@@ -1,10 +1,18 @@
 # Completes the words of oscip in bash: its commands, their options, and files.
 _oscip() {
   local word=${COMP_WORDS[COMP_CWORD]} options=""
+  local commands="cut check crossings net why rules cut-net check-net why-net dot dot-net def refs symbol symbols index unresolved faults"
   if ((COMP_CWORD == 1)); then
-    mapfile -t COMPREPLY < <(compgen -W "cut check crossings net why rules cut-net check-net why-net dot dot-net def refs symbol symbols index unresolved faults help --help --version" -- "$word")
+    mapfile -t COMPREPLY < <(compgen -W "$commands help --help --version" -- "$word")
     return
   fi
+  case ${COMP_WORDS[COMP_CWORD - 1]} in
+    --workers | --package | --root | --symbol) return ;;
+    help)
+      ((COMP_CWORD == 2)) && mapfile -t COMPREPLY < <(compgen -W "$commands" -- "$word")
+      return
+      ;;
+  esac
   case ${COMP_WORDS[1]} in
     cut) options="--workers --prices" ;;
     check) options="--prices" ;;
@@ -21,7 +29,7 @@ _oscip() {
     refs) options="--symbol" ;;
     symbol) options="" ;;
     symbols) options="" ;;
-    index) options="--hex --package --root --workers --skip-faults" ;;
+    index) options="--hex --package --root --workers --atomic --skip-faults" ;;
     unresolved) options="" ;;
     faults) options="" ;;
   esac
