@@ -21,7 +21,7 @@ _oscip() {
     refs) options="--symbol" ;;
     symbol) options="" ;;
     symbols) options="" ;;
-    index) options="--hex --package --root --workers --skip-faults" ;;
+    index) options="--hex --package --root --workers --atomic --skip-faults" ;;
     unresolved) options="" ;;
     faults) options="" ;;
   esac
