@@ -28,8 +28,8 @@ pub struct AcceptedIndex {
 }
 
 /// Makes the index that a job asks for, but of the files alone that have no fault of their own, and puts it as `answer_index` does.
-/// The modules of the other files are external ones then. Returns the faults of these files, also if the imports of the indexed ones
-/// are refused or the sink fails. Its only error is that memory ran out before it was known which files have faults.
+/// The modules of the other files are external ones then. Returns the faults of the other files, also if the imports of the indexed
+/// ones are rejected or the sink fails. Its only error is that memory ran out before the files were parted.
 pub fn answer_index_of_accepted<R: Threads + Wait + Sync, G: BoardGate + Sync, S: Sink>(
     rt: &R,
     alloc: Global,

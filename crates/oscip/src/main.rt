@@ -91,7 +91,7 @@ fn end_of_index<R: AllocGlobal + Eprint>(rt: &R, index: AcceptedIndex) -> Result
     Err(RunFault::Memory)
 }
 
-/// Makes an index, of all files or of those that have no fault of their own, and puts it into the sink.
+/// Makes an index, of all files or of those that have no fault of their own, and writes it to the sink.
 fn make_index<R: AllocGlobal + Threads + Wait + Sync, S: Sink>(
     rt: &R,
     indexing: &Indexing,
@@ -156,7 +156,7 @@ fn is_other<R: Files>(rt: &R, path: &str) -> bool {
 
 /// Writes an index beside the file of this path, whose place it takes once it is whole. What was written is removed if the run fails,
 /// and what isn't a file isn't replaced. Faults are reported once the new file is closed: if standard error isn't open, the file may
-/// have its number, and the lines would stand in the index.
+/// have its number, and the index would have the lines.
 fn replace_index<R: Files + AllocGlobal + Eprint + Threads + Wait + Sync>(
     rt: &R,
     indexing: &Indexing,

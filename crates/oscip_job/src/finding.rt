@@ -17,7 +17,7 @@ use std::alloc::{AllocError, Global};
 const ONE_OUTPUT: &str =
     "error: either OUT or --hex has to be given, and not both\n\nFor more information, try '--help'.\n";
 
-/// Why a command line is refused that gives `--atomic` and `--hex`.
+/// Why a command line with `--atomic` and `--hex` is rejected.
 const NO_FILE: &str =
     "error: --atomic can't be given with --hex, by which no file is written\n\nFor more information, try '--help'.\n";
 

@@ -95,7 +95,7 @@ fn all_faults_are_told(rt: HostRuntime) -> Result<(), Fail> {
 /// The words of jobs that index, and what is put of the accepted file.
 const INDEXES: &[(&str, &[u8])] = &[("one.scip", ONE_INDEX), ("--hex", ONE_HEX)];
 
-/// The faults of the files that were left out, each on a line, and then that of the run on the others.
+/// The faults of the files that were left out, each on a line, followed by that of the run on the others.
 fn faults_told(alloc: Global, index: &AcceptedIndex) -> Result<String, AllocError> {
     let mut told = String::new(alloc);
     for fault in &index.faults {
@@ -144,7 +144,7 @@ fn puts_index<R: Abort + Threads + Wait + AllocGlobal + Sync>(
     Ok(())
 }
 
-/// What is told of the files with faults, and of a sink that fails behind them.
+/// The faults of the files, followed by that of a sink that fails.
 const SOME_AND_DEVICE: &[u8] =
     b"A.Mod:0:0: BadByte\nB.Mod:0:15: BadByte\nN.Mod:0:17: Syntax\ndeep/E.Mod:0:17: Twice x\n3 oscip: cannot write\n";
 
