@@ -1,7 +1,10 @@
 //! Laws of indexing runs: what is put of a tree is put in one way.
 //! Each function is a law: its body is empty, and its contract is proved.
 ghost use Rattle.std.specs.Prelude.{◌≡◌, ℕ, List, Ok, Option, Some};
+ghost use Rattle.index_run.specs.AcceptedRuns.{IsAcceptedRun};
 ghost use Rattle.index_run.specs.IndexRuns.{IsHexRun, IsIndexRun, IsUnresolvedRun};
+ghost use Rattle.index_run.specs.declared.accepted.AcceptedIndex.{AcceptedIndex};
+ghost use Rattle.oscip_job.specs.declared.job.Indexing.{Indexing};
 ghost use Rattle.oscip_tree.specs.declared.source.Source.{Source};
 
 /// Two runs on one tree that end well leave a sink of known bytes with the same bytes. The runs that `index_to`, `index_hex_to`
@@ -13,4 +16,12 @@ pub fn same_bytes()
         IsHexRun sources package_name root (Some before) new (Ok tt) → IsHexRun sources package_name root (Some before) other (Ok tt) → new ≡ other }
     ensures unresolved { (sources : List Source) (before : List ℕ) (new other : Option (List ℕ)) →
         IsUnresolvedRun sources (Some before) new (Ok tt) → IsUnresolvedRun sources (Some before) other (Ok tt) → new ≡ other }
+{}
+
+/// Two runs of a job on one tree that leave out the files with faults of their own, and end well, leave a sink of known bytes with the
+/// same bytes, for every two numbers of workers.
+pub fn same_accepted_bytes()
+    ensures { (sources : List Source) (it : Indexing) (workers : ℕ) (before : List ℕ) (new other : Option (List ℕ)) (first second : AcceptedIndex) →
+        first.ended ≡ Ok tt → second.ended ≡ Ok tt →
+        IsAcceptedRun sources it (Some before) new first → IsAcceptedRun sources (record it { workers = workers }) (Some before) other second → new ≡ other }
 {}

@@ -11,7 +11,7 @@ mod putting;
 mod reading;
 mod records;
 
-pub use accepted::answer_index_of_accepted;
+pub use accepted::{AcceptedIndex, answer_index_of_accepted};
 pub use hexadecimal::hex_line;
 pub use indexing::{OpenBoard, answer_index, index_hex_to, index_to, unresolved_to};
 pub use putting::put_index;

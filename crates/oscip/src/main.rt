@@ -9,7 +9,8 @@ ghost use Rattle.oscip_job.specs.Jobs.{HasPackage, HasWorkers, IsPackage, MayWor
 
 use byte_sink::{Sink, ToWrite};
 use index_run::{
-    OpenBoard, answer_index, answer_index_of_accepted, run_unresolved, sources_to_index,
+    AcceptedIndex, OpenBoard, answer_index, answer_index_of_accepted, run_unresolved,
+    sources_to_index,
 };
 use oscip_job::{Indexing, Job, JobFault, Output, job_of};
 use oscip_run::{
@@ -17,7 +18,7 @@ use oscip_run::{
     run_question,
 };
 use oscip_tree::{Source, TreeFault};
-use std::alloc::Global;
+use std::alloc::{AllocError, Global};
 use std::fs::{File, OpenFile};
 use std::io::ErrorKind;
 use std::process::ExitCode;
@@ -55,44 +56,86 @@ fn index_to_file<R: Files + AllocGlobal + Threads + Wait + Sync>(
     }
 }
 
-/// Tells each fault of the files that are left out, in one line on standard error. Whether there is none.
-fn tell_left_out<R: AllocGlobal + Eprint>(
-    rt: &R,
-    faults: Vec<TreeFault>,
-) -> Result<bool, RunFault> {
-    let is_none = faults.is_empty();
-    for fault in faults {
-        let line = fault_line(rt.alloc(), &RunFault::from(fault))?;
-        let _ = eprint!(rt; "{line}");
-    }
-    Ok(is_none)
+/// Writes the line of a fault to standard error.
+fn report_fault<R: AllocGlobal + Eprint>(rt: &R, fault: &RunFault) -> Result<(), AllocError> {
+    let line = fault_line(rt.alloc(), fault)?;
+    let _ = eprint!(rt; "{line}");
+    Ok(())
 }
 
-/// Writes the index of the files that have no fault of their own to a new file, whose path this is, and gives it to the disk.
-/// The faults of the others.
+/// Writes the lines of these faults to standard error. If memory for one runs out, the others are still written.
+fn report_faults<R: AllocGlobal + Eprint>(
+    rt: &R,
+    faults: Vec<TreeFault>,
+) -> Result<(), AllocError> {
+    let mut reported = Ok(());
+    for fault in faults {
+        if report_fault(rt, &RunFault::from(fault)).is_err() {
+            reported = Err(AllocError);
+        }
+    }
+    reported
+}
+
+/// Reports the faults of the files that were left out. Whether there is none, if the run on the others ended well. If memory for a line
+/// runs out, a fault of that run is still reported, and the run ends with Memory.
+fn end_of_index<R: AllocGlobal + Eprint>(rt: &R, index: AcceptedIndex) -> Result<bool, RunFault> {
+    let AcceptedIndex { faults, ended } = index;
+    let is_none = faults.is_empty();
+    if report_faults(rt, faults).is_ok() {
+        return ended.map(|()| is_none);
+    }
+    if let Err(fault) = &ended {
+        let _ = report_fault(rt, fault);
+    }
+    Err(RunFault::Memory)
+}
+
+/// Makes an index, of all files or of those that have no fault of their own, and writes it to the sink.
+fn make_index<R: AllocGlobal + Threads + Wait + Sync, S: Sink>(
+    rt: &R,
+    indexing: &Indexing,
+    sources: Vec<Source>,
+    sink: &mut S,
+) -> Result<AcceptedIndex, AllocError>
+    requires in_order { ArePathsInOrder sources.items }
+    requires package { IsPackage (string_bytes indexing.now.package) }
+    requires workers { MayWork indexing.now.workers }
+{
+    let alloc = rt.alloc();
+    if indexing.skips_faults {
+        return answer_index_of_accepted(rt, alloc, indexing, sources, &OpenBoard, sink);
+    }
+    let ended = answer_index(rt, alloc, indexing, sources.as_slice(), &OpenBoard, sink);
+    Ok(AcceptedIndex {
+        faults: Vec::new(alloc),
+        ended,
+    })
+}
+
+/// Writes an index to a new file, whose path this is, and gives it to the disk.
 fn index_to_new<R: Files + AllocGlobal + Threads + Wait + Sync>(
     rt: &R,
     indexing: &Indexing,
     sources: Vec<Source>,
     mut file: R::File,
     path: &str,
-) -> Result<Vec<TreeFault>, RunFault>
+) -> Result<AcceptedIndex, AllocError>
     requires in_order { ArePathsInOrder sources.items }
     requires package { IsPackage (string_bytes indexing.now.package) }
     requires workers { MayWork indexing.now.workers }
 {
-    let alloc = rt.alloc();
     let mut sink = ToWrite::new(&mut file);
-    let faults = match answer_index_of_accepted(
-        rt, alloc, indexing, sources, &OpenBoard, &mut sink,
-    ) {
-        Err(RunFault::Device) => return Err(cannot_write(alloc, path)),
-        ended => ended?,
+    let AcceptedIndex { faults, ended } = make_index(rt, indexing, sources, &mut sink)?;
+    let ended = match ended {
+        Err(RunFault::Device) => Err(cannot_write(rt.alloc(), path)),
+        Err(fault) => Err(fault),
+        Ok(()) => match file.sync_all() {
+            Ok(()) => Ok(()),
+            Err(_) => Err(cannot_write(rt.alloc(), path)),
+        },
     };
-    match file.sync_all() {
-        Ok(()) => Ok(faults),
-        Err(_) => Err(cannot_write(alloc, path)),
-    }
+    Ok(AcceptedIndex { faults, ended })
 }
 
 /// Puts the file of the first path in the place of that of the second.
@@ -111,9 +154,9 @@ fn is_other<R: Files>(rt: &R, path: &str) -> bool {
     }
 }
 
-/// Writes the index of the files that have no fault of their own beside the file of this path, whose place it takes once it is
-/// whole. What was written is removed where anything is refused, and what isn't a file isn't replaced. The others are told of once
-/// it is closed: where standard error isn't open, the new file may have its number, and the lines would stand in the index.
+/// Writes an index beside the file of this path, whose place it takes once it is whole. What was written is removed if the run fails,
+/// and what isn't a file isn't replaced. Faults are reported once the new file is closed: if standard error isn't open, the file may
+/// have its number, and the index would have the lines.
 fn replace_index<R: Files + AllocGlobal + Eprint + Threads + Wait + Sync>(
     rt: &R,
     indexing: &Indexing,
@@ -132,21 +175,26 @@ fn replace_index<R: Files + AllocGlobal + Eprint + Threads + Wait + Sync>(
     let Ok(file) = File::create_new(rt, new) else {
         return Err(cannot_write(rt.alloc(), new));
     };
-    let ended = match index_to_new(rt, indexing, sources, file, new) {
-        Ok(faults) => put_in_place(rt, new, path).map(|()| faults),
-        Err(fault) => Err(fault),
-    };
-    match ended {
-        Ok(faults) => tell_left_out(rt, faults),
-        Err(fault) => {
+    match index_to_new(rt, indexing, sources, file, new) {
+        Ok(AcceptedIndex { faults, ended }) => {
+            let ended = match ended {
+                Ok(()) => put_in_place(rt, new, path),
+                Err(fault) => Err(fault),
+            };
+            if ended.is_err() {
+                let _ = fs::remove_file(rt, new);
+            }
+            end_of_index(rt, AcceptedIndex { faults, ended })
+        }
+        Err(_) => {
             let _ = fs::remove_file(rt, new);
-            Err(fault)
+            Err(RunFault::Memory)
         }
     }
 }
 
-/// Makes the index of the files that have no fault of their own, and tells of the others. Whether there is none.
-fn index_accepted<R: Files + AllocGlobal + Eprint + Threads + Wait + Sync, S: Sink>(
+/// Makes an index that replaces its file as a whole, or from which files are left out. Whether none was left out.
+fn index_as_a_whole<R: Files + AllocGlobal + Eprint + Threads + Wait + Sync, S: Sink>(
     rt: &R,
     indexing: &Indexing,
     sources: Vec<Source>,
@@ -159,9 +207,8 @@ fn index_accepted<R: Files + AllocGlobal + Eprint + Threads + Wait + Sync, S: Si
     match &indexing.output {
         Output::File(path) => replace_index(rt, indexing, sources, path.as_str()),
         Output::Hex => {
-            let alloc = rt.alloc();
-            let faults = answer_index_of_accepted(rt, alloc, indexing, sources, &OpenBoard, sink)?;
-            tell_left_out(rt, faults)
+            let index = make_index(rt, indexing, sources, sink)?;
+            end_of_index(rt, index)
         }
     }
 }
@@ -177,8 +224,8 @@ fn run_index<R: Files + AllocGlobal + Eprint + Threads + Wait + Sync, F: Reader,
     requires workers { MayWork indexing.now.workers }
 {
     let sources = sources_to_index(reader, indexing)?;
-    if indexing.skips_faults {
-        return index_accepted(rt, indexing, sources, sink);
+    if indexing.is_atomic {
+        return index_as_a_whole(rt, indexing, sources, sink);
     }
     let sources = sources.as_slice();
     match &indexing.output {

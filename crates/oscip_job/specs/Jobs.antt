@@ -1,5 +1,5 @@
 -- The command line as clap reads it, and the job that its words give.
-use Rattle.std.specs.Prelude.{◌≡◌, ◌≢◌, ◌↔◌, ◌++◌, ◌<◌, ◌≤◌, ◌^◌, ℕ, Bool, List, [], ◌∷◌, Option, Some, None, codes, nat_eq, option_map, pos, slice_get, String, true, false}
+use Rattle.std.specs.Prelude.{◌≡◌, ◌≢◌, ◌↔◌, ◌⊎◌, ◌++◌, ◌<◌, ◌≤◌, ◌^◌, ℕ, Bool, List, [], ◌∷◌, Option, Some, None, codes, nat_eq, option_map, pos, slice_get, String, true, false}
 use Rattle.std.specs.declared.alloc.Global.{Global}
 use Rattle.std.specs.List.{starts_with}
 use Rattle.std.specs.Str.Parse.{digits_value, without_leading_plus, IsNumeral}
@@ -157,11 +157,12 @@ with_output app = with_rule (with_rule app (new_rule (codes "OUT"))) (flag_rule 
 abbrev pub text_rule : Text → Rule
 text_rule id = record (new_rule id) { long = Some id; value_names = 1; defaults = [] ∷ [] }
 
--- [--package TEXT] [--root TEXT] [--workers N] [--skip-faults]
+-- [--package TEXT] [--root TEXT] [--workers N] [--atomic] [--skip-faults]
 abbrev pub with_options : App → App
-with_options app = with_rule (with_workers (with_rule (with_rule app (text_rule (codes "package"))) (text_rule (codes "root")))) (flag_rule (codes "skip-faults"))
+with_options app =
+    with_rule (with_rule (with_workers (with_rule (with_rule app (text_rule (codes "package"))) (text_rule (codes "root")))) (flag_rule (codes "atomic"))) (flag_rule (codes "skip-faults"))
 
--- index [--hex] [--package TEXT] [--root TEXT] [--workers N] [--skip-faults] DIR [OUT]
+-- index [--hex] [--package TEXT] [--root TEXT] [--workers N] [--atomic] [--skip-faults] DIR [OUT]
 abbrev pub index_app : App
 index_app = with_options (with_output (with_rule (new_app (codes "index")) (required_rule (codes "DIR"))))
 
@@ -256,17 +257,21 @@ HasIndexQuestion rows (Symbols path) = MayFind rows (codes "PATH") path
 abbrev pub IsGiven : List Row → Text → Type 0
 IsGiven rows id = Finds rows id (codes "true")
 
--- the one place that the words name: standard output, by --hex, or a file, by OUT
+-- the one place that the words name: standard output, by --hex and without --atomic, or a file, by OUT
 abbrev pub HasOutput : List Row → Output → Type 0
-HasOutput rows outputs.Hex = IsGiven rows (codes "hex") × LacksValue rows (codes "OUT")
+HasOutput rows outputs.Hex = IsGiven rows (codes "hex") × LacksValue rows (codes "OUT") × (IsGiven rows (codes "atomic") → ⊥)
 HasOutput rows (outputs.File path) = (IsGiven rows (codes "hex") → ⊥) × Finds rows (codes "OUT") (string_bytes path)
+
+-- --atomic was given, or --skip-faults, which implies it
+abbrev pub AsksForAtomic : List Row → Type 0
+AsksForAtomic rows = IsGiven rows (codes "atomic") ⊎ IsGiven rows (codes "skip-faults")
 
 -- the index holds the values that were found for its arguments
 abbrev pub HasIndexing : List Row → Indexing → Type 0
 HasIndexing rows it =
     Finds rows (codes "DIR") (string_bytes it.folder) × HasOutput rows it.output × Finds rows (codes "package") (string_bytes it.package)
     × Finds rows (codes "root") (string_bytes it.root) × FindsNumber rows (codes "workers") it.workers
-    × (it.skips_faults ≡ true ↔ IsGiven rows (codes "skip-faults"))
+    × (it.skips_faults ≡ true ↔ IsGiven rows (codes "skip-faults")) × (it.is_atomic ≡ true ↔ AsksForAtomic rows)
 
 -- the names of two modules, which these arguments give
 abbrev pub HasTwoNames : List Row → Text → Text → TwoNames → Type 0
@@ -414,6 +419,24 @@ HasPath (Ask index question) = HasIndexPath question
 HasPath (Index indexing) = Unit {0}
 HasPath (Unresolved folder) = Unit {0}
 
+-- the text of a symbol that a question names isn't empty
+abbrev pub HasSymbolText : AskedSymbol → Type 0
+HasSymbolText (At position) = Unit {0}
+HasSymbolText (Named symbol path) = string_bytes symbol ≢ []
+
+abbrev pub HasIndexText : IndexQuestion → Type 0
+HasIndexText (PlacesOf places symbol) = HasSymbolText symbol
+HasIndexText (SymbolAt position) = Unit {0}
+HasIndexText (Symbols path) = Unit {0}
+
+-- so that of the job, where it names one
+abbrev pub HasText : Job → Type 0
+HasText (Tree folder question) = Unit {0}
+HasText (Network network question) = Unit {0}
+HasText (Ask index question) = HasIndexText question
+HasText (Index indexing) = Unit {0}
+HasText (Unresolved folder) = Unit {0}
+
 -- a package that can stand in a symbol: it isn't a full stop, and no space stands in front
 abbrev pub IsPackage : Text → Type 0
 IsPackage text = (text ≢ codes ".") × (slice_get text 0 ≢ Some 32)
@@ -426,9 +449,9 @@ HasPackage (Ask index question) = Unit {0}
 HasPackage (Index indexing) = IsPackage (string_bytes indexing.package)
 HasPackage (Unresolved folder) = Unit {0}
 
--- the job is that of the command that clap found, and its numbers, its package and its path are as they may be
+-- the job is that of the command that clap found, and its numbers, its package, its path and its symbol are as they may be
 abbrev pub IsJobOf : Option (Text × List Row) → Job → Type 0
-IsJobOf found job = Holds found job × HasWorkers job × HasPosition job × HasPackage job × HasPath job
+IsJobOf found job = Holds found job × HasWorkers job × HasPosition job × HasPackage job × HasPath job × HasText job
 
 -- ---- what is made on the way
 
@@ -441,4 +464,4 @@ IsTreeQuestionOf name rows question = (name ≡ tree_question_name question) × 
 
 abbrev pub IsIndexQuestionOf : Text → List Row → IndexQuestion → Type 0
 IsIndexQuestionOf name rows question =
-    (name ≡ index_question_name question) × HasIndexQuestion rows question × HasIndexPosition question × HasIndexPath question
+    (name ≡ index_question_name question) × HasIndexQuestion rows question × HasIndexPosition question × HasIndexPath question × HasIndexText question

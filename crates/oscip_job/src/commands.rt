@@ -5,9 +5,9 @@ ghost use Rattle.oscip_job.specs.Jobs.{asking_app, crossings_app, faults_app, fl
 ghost use Rattle.oscip_job.specs.Making.{Reads};
 
 use crate::helps::{
-    CHECK_END, CHECK_NET_END, CROSSINGS_END, CUT_END, CUT_NET_END, DEF_END, DEF_USAGE, DOT_END,
-    DOT_NET_END, FAULTS_END, FOLDER_HELP, INDEX_END, INDEX_USAGE, NET_END, NETWORK_HELP, OUT_HELP,
-    PATH_HELP, PRICES_HELP, PROGRAM_END, REFS_END, REFS_USAGE, RULES_END, RULES_HELP,
+    ATOMIC_HELP, CHECK_END, CHECK_NET_END, CROSSINGS_END, CUT_END, CUT_NET_END, DEF_END, DEF_USAGE,
+    DOT_END, DOT_NET_END, FAULTS_END, FOLDER_HELP, INDEX_END, INDEX_USAGE, NET_END, NETWORK_HELP,
+    OUT_HELP, PATH_HELP, PRICES_HELP, PROGRAM_END, REFS_END, REFS_USAGE, RULES_END, RULES_HELP,
     SKIP_FAULTS_HELP, SYMBOL_END, SYMBOL_HELP, SYMBOLS_END, UNRESOLVED_END, VERSION, WHY_END,
     WHY_NET_END,
 };
@@ -411,6 +411,7 @@ fn with_options<'a>(alloc: Global, command: Made<'a>) -> Made<'a>
         "The root of the project that the index names, as a URI",
     );
     let command = with_workers(alloc, command);
+    let command = with_flag(alloc, command, "atomic", ATOMIC_HELP);
     with_flag(alloc, command, "skip-faults", SKIP_FAULTS_HELP)
 }
 

@@ -2,7 +2,7 @@
 ghost use Rattle.std.specs.Prelude.{◌≡◌, ◌++◌, ◌≤◌, ◌↔◌, ℕ, IfOk, IfSome, List, codes, map, true};
 ghost use Rattle.std.specs.String.{string_bytes};
 ghost use Rattle.clap.specs.Words.{found_of, kind_of, rows_of, subcommand_of, subcommand_rows_of};
-ghost use Rattle.oscip_job.specs.Jobs.{oscip, Finds, FindsNumber, HasAskedSymbol, HasCutting, HasDrawing, HasIndexing, HasOutput, HasPackage, HasPath, HasPlace, HasPosition, HasReported, HasSymbolPath, HasSymbolPosition, HasTwoNames, HasWorkers, Holds, IsGiven, IsIndexQuestionOf, IsJobOf, IsNetQuestionOf, IsPackage, IsTreeQuestionOf, IsWithin, MayFind, MayWork, NamesNumbers, NamesPosition, NamesWithin, NamesWorkers};
+ghost use Rattle.oscip_job.specs.Jobs.{oscip, AsksForAtomic, Finds, FindsNumber, HasAskedSymbol, HasCutting, HasDrawing, HasIndexing, HasOutput, HasPackage, HasPath, HasPlace, HasPosition, HasReported, HasSymbolPath, HasSymbolPosition, HasSymbolText, HasText, HasTwoNames, HasWorkers, Holds, IsGiven, IsIndexQuestionOf, IsJobOf, IsNetQuestionOf, IsPackage, IsTreeQuestionOf, IsWithin, LacksValue, MayFind, MayWork, NamesNumbers, NamesPosition, NamesWithin, NamesWorkers};
 
 use crate::commands::command;
 use crate::job::{
@@ -16,6 +16,10 @@ use std::alloc::{AllocError, Global};
 /// Why a command line is refused that gives neither a file nor `--hex`, or both.
 const ONE_OUTPUT: &str =
     "error: either OUT or --hex has to be given, and not both\n\nFor more information, try '--help'.\n";
+
+/// Why a command line with `--atomic` and `--hex` is rejected.
+const NO_FILE: &str =
+    "error: --atomic can't be given with --hex, by which no file is written\n\nFor more information, try '--help'.\n";
 
 /// Why a command line is refused whose package can't stand in a symbol.
 const WRONG_PACKAGE: &str =
@@ -44,6 +48,8 @@ enum Refusal {
     Document,
     /// The words give neither a file nor `--hex`, or both.
     Output,
+    /// The words give `--atomic` and `--hex`.
+    Atomic,
     /// The package can't stand in a symbol.
     Package,
     /// A growth of memory was refused.
@@ -71,6 +77,7 @@ fn fault_of(alloc: Global, refusal: Refusal) -> JobFault {
         Refusal::Empty => refused(alloc, NO_SYMBOL),
         Refusal::Document => refused(alloc, NO_DOCUMENT),
         Refusal::Output => refused(alloc, ONE_OUTPUT),
+        Refusal::Atomic => refused(alloc, NO_FILE),
         Refusal::Package => refused(alloc, WRONG_PACKAGE),
         Refusal::Memory => JobFault::Memory,
     }
@@ -262,6 +269,7 @@ fn named_symbol(alloc: Global, found: &ArgMatches<'_>, symbol: &str) -> Result<A
     ensures values { IfOk result (HasAskedSymbol (rows_of (found_of found.now))) }
     ensures position { IfOk result HasSymbolPosition }
     ensures path { IfOk result HasSymbolPath }
+    ensures text { IfOk result HasSymbolText }
 {
     if symbol.is_empty() {
         return Err(Refusal::Empty);
@@ -283,6 +291,7 @@ fn asked_symbol(alloc: Global, found: &ArgMatches<'_>) -> Result<AskedSymbol, Re
     ensures values { IfOk result (HasAskedSymbol (rows_of (found_of found.now))) }
     ensures position { IfOk result HasSymbolPosition }
     ensures path { IfOk result HasSymbolPath }
+    ensures text { IfOk result HasSymbolText }
 {
     match found.get_str("symbol") {
         None => Ok(AskedSymbol::At(position_of(alloc, found)?)),
@@ -327,13 +336,25 @@ fn asking_job(
     Ok(Job::Ask { index, question })
 }
 
+/// Standard output, in the place of a file that could be replaced as a whole.
+fn hex_output(found: &ArgMatches<'_>) -> Result<Output, Refusal>
+    requires hex { IsGiven (rows_of (found_of found.now)) (codes "hex") }
+    requires out { LacksValue (rows_of (found_of found.now)) (codes "OUT") }
+    ensures { IfOk result (HasOutput (rows_of (found_of found.now))) }
+{
+    if is_given(found, "atomic") {
+        return Err(Refusal::Atomic);
+    }
+    Ok(Output::Hex)
+}
+
 /// Where the index goes, of which the words have to name exactly one.
 fn output_of(alloc: Global, found: &ArgMatches<'_>) -> Result<Output, Refusal>
     ensures { IfOk result (HasOutput (rows_of (found_of found.now))) }
 {
     let hex = is_given(found, "hex");
     match found.get_str("OUT") {
-        None if hex => Ok(Output::Hex),
+        None if hex => hex_output(found),
         Some(path) if !hex => Ok(Output::File(String::from_str(alloc, path)?)),
         _ => Err(Refusal::Output),
     }
@@ -360,6 +381,13 @@ fn package_of(alloc: Global, found: &ArgMatches<'_>) -> Result<String, Refusal>
     }
 }
 
+/// Whether the file of the index is to be replaced as a whole.
+fn is_atomic(found: &ArgMatches<'_>) -> bool
+    ensures { result ≡ true ↔ AsksForAtomic (rows_of (found_of found.now)) }
+{
+    is_given(found, "atomic") || is_given(found, "skip-faults")
+}
+
 /// What index the words ask for.
 fn indexing_of(alloc: Global, found: &ArgMatches<'_>) -> Result<Indexing, Refusal>
     requires { NamesWorkers (rows_of (found_of found.now)) }
@@ -372,6 +400,7 @@ fn indexing_of(alloc: Global, found: &ArgMatches<'_>) -> Result<Indexing, Refusa
     let root = value_of(alloc, found, "root")?;
     let package = package_of(alloc, found)?;
     let output = output_of(alloc, found)?;
+    let is_atomic = is_atomic(found);
     let skips_faults = is_given(found, "skip-faults");
     Ok(Indexing {
         folder,
@@ -379,6 +408,7 @@ fn indexing_of(alloc: Global, found: &ArgMatches<'_>) -> Result<Indexing, Refusa
         package,
         root,
         workers,
+        is_atomic,
         skips_faults,
     })
 }
@@ -477,6 +507,8 @@ pub fn job_of(alloc: Global, words: &[String]) -> Result<Job, JobFault>
     ensures package { IfOk result HasPackage }
     // A symbol that it names, and that begins with `local `, comes with the path of its document.
     ensures path { IfOk result HasPath }
+    // The text of a symbol that it names isn't empty.
+    ensures text { IfOk result HasText }
 {
     let command = command(alloc)?;
     match Box::into_inner(command).try_get_matches_from(words) {

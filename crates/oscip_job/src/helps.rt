@@ -20,10 +20,16 @@ pub(crate) const RULES_HELP: &str =
 pub(crate) const OUT_HELP: &str = "The file that the index is written to, in the SCIP format;{n}\
     it is emptied only once DIR has been read, so it may be one of DIR's files";
 
+/// What help says of the option that replaces the file of an index as a whole.
+pub(crate) const ATOMIC_HELP: &str =
+    "Replace OUT as a whole: the index is written to OUT.oscip-partial,{n}\
+    which then takes OUT's place; if the run fails, OUT is as it was;{n}\
+    not with --hex";
+
 /// What help says of an index of what has no faults.
 pub(crate) const SKIP_FAULTS_HELP: &str =
-    "Leave out the files that have a fault of their own, and tell these;{n}\
-    the index is written to OUT.new, and takes OUT's place once it is whole";
+    "Leave out the files that have a fault of their own, and report these;{n}\
+    OUT is replaced as with --atomic";
 
 /// What help says of a document of an index.
 pub(crate) const PATH_HELP: &str = "The path of a document, as the index has it";
@@ -109,7 +115,7 @@ pub(crate) const DOT_NET_END: &str =
     4 memory ran out";
 
 /// What stands at the end of the help of the command that makes an index.
-pub(crate) const INDEX_END: &str = "Example: oscip index examples/editor editor.scip{n}{n}\
+pub(crate) const INDEX_END: &str = "Example: oscip index --atomic examples/editor editor.scip{n}{n}\
     Status: 0 the index is written, 5 files were left out, 1 a module is refused,{n}\
     2 the command line is refused, 3 a file can't be read or written or standard output takes nothing,{n}\
     4 memory ran out";

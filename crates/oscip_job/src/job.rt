@@ -69,6 +69,8 @@ pub struct Indexing {
     pub root: String,
     /// How many workers make it, from 1 to 64.
     pub workers: u32,
+    /// Whether the file is replaced as a whole, by an index that is whole. It is so if files are left out.
+    pub is_atomic: bool,
     /// Whether files that have faults of their own are left out.
     pub skips_faults: bool,
 }

@@ -6,7 +6,7 @@ ghost use Rattle.std.specs.String.{string_bytes};
 
 use crate::faults::fault_told;
 use crate::inputs::{FOUR, ONE_HEX, ONE_INDEX, sources};
-use index_run::{OpenBoard, answer_index_of_accepted};
+use index_run::{AcceptedIndex, OpenBoard, answer_index_of_accepted};
 use oscip_job::{Indexing, Job, job_of};
 use oscip_run::{RunFault, faults_tree};
 use oscip_tree::{Source, TreeFault, in_order, tree_fault_text};
@@ -95,20 +95,15 @@ fn all_faults_are_told(rt: HostRuntime) -> Result<(), Fail> {
 /// The words of jobs that index, and what is put of the accepted file.
 const INDEXES: &[(&str, &[u8])] = &[("one.scip", ONE_INDEX), ("--hex", ONE_HEX)];
 
-/// The faults, each on a line, or that of the run.
-fn faults_told(
-    alloc: Global,
-    ended: &Result<Vec<TreeFault>, RunFault>,
-) -> Result<String, AllocError> {
+/// The faults of the files that were left out, each on a line, followed by that of the run on the others.
+fn faults_told(alloc: Global, index: &AcceptedIndex) -> Result<String, AllocError> {
     let mut told = String::new(alloc);
-    match ended {
-        Ok(faults) => {
-            for fault in faults {
-                told.push_str(tree_fault_text(alloc, fault)?.as_str())?;
-                told.push('\n')?;
-            }
-        }
-        Err(fault) => told.push_str(fault_told(alloc, fault)?.as_str())?,
+    for fault in &index.faults {
+        told.push_str(tree_fault_text(alloc, fault)?.as_str())?;
+        told.push('\n')?;
+    }
+    if let Err(fault) = &index.ended {
+        told.push_str(fault_told(alloc, fault)?.as_str())?;
     }
     Ok(told)
 }
@@ -143,11 +138,15 @@ fn puts_index<R: Abort + Threads + Wait + AllocGlobal + Sync>(
     assert!(rt; in_order(sources.as_slice()));
     let alloc = rt.alloc();
     let mut sink = ByOne::new(alloc, puts);
-    let ended = answer_index_of_accepted(rt, alloc, indexing, sources, &OpenBoard, &mut sink);
-    assert_eq!(rt; faults_told(alloc, &ended)?.as_bytes(), want);
+    let index = answer_index_of_accepted(rt, alloc, indexing, sources, &OpenBoard, &mut sink)?;
+    assert_eq!(rt; faults_told(alloc, &index)?.as_bytes(), want);
     assert_eq!(rt; sink.taken.as_slice(), text);
     Ok(())
 }
+
+/// The faults of the files, followed by that of a sink that fails.
+const SOME_AND_DEVICE: &[u8] =
+    b"A.Mod:0:0: BadByte\nB.Mod:0:15: BadByte\nN.Mod:0:17: Syntax\ndeep/E.Mod:0:17: Twice x\n3 oscip: cannot write\n";
 
 #[test]
 fn files_with_faults_are_left_out(rt: HostRuntime) -> Result<(), Fail> {
@@ -157,9 +156,33 @@ fn files_with_faults_are_left_out(rt: HostRuntime) -> Result<(), Fail> {
         puts_index(&rt, &indexing, files, u64::MAX, text, SOME_FAULTS)?;
         for puts in 0..text.len() {
             let files = sources(rt.alloc(), SOME)?;
-            let fault = b"3 oscip: cannot write\n";
-            puts_index(&rt, &indexing, files, puts as u64, &text[..puts], fault)?;
+            puts_index(
+                &rt,
+                &indexing,
+                files,
+                puts as u64,
+                &text[..puts],
+                SOME_AND_DEVICE,
+            )?;
         }
+    }
+    Ok(())
+}
+
+/// Two modules that import each other, and a file with a fault of its own.
+const CYCLE: &[(&str, &str)] = &[
+    ("A.Mod", "MODULE A; IMPORT B; END A."),
+    ("B.Mod", "MODULE B; IMPORT A; END B."),
+    ("C.Mod", "MODULE C; END D."),
+];
+
+#[test]
+fn faults_are_told_of_a_refused_tree(rt: HostRuntime) -> Result<(), Fail> {
+    for (word, _) in INDEXES {
+        let indexing = indexing(rt.alloc(), word)?;
+        let files = sources(rt.alloc(), CYCLE)?;
+        let want = b"C.Mod:0:14: EndName\n1 oscip: Cycle A B\n";
+        puts_index(&rt, &indexing, files, u64::MAX, b"", want)?;
     }
     Ok(())
 }

@@ -22,3 +22,9 @@ returns-in-Ok-clause-position c = IfOk-weaker c.job_from.result _ _ (λ job is. 
 
 pub returns-in-Ok-clause-package : goal.returns-in-Ok-clause-package
 returns-in-Ok-clause-package c = IfOk-weaker c.job_from.result _ _ (λ job is. is.3) c.job_from.ensures
+
+pub returns-in-Ok-clause-path : goal.returns-in-Ok-clause-path
+returns-in-Ok-clause-path c = IfOk-weaker c.job_from.result _ _ (λ job is. is.4) c.job_from.ensures
+
+pub returns-in-Ok-clause-text : goal.returns-in-Ok-clause-text
+returns-in-Ok-clause-text c = IfOk-weaker c.job_from.result _ _ (λ job is. is.5) c.job_from.ensures

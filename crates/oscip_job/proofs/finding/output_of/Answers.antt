@@ -1,13 +1,13 @@
 use Rattle.std.proofs.Common.{None, codes, rules}
-use Rattle.clap.specs.Words.{found_of, rows_of}
-use Rattle.oscip_job.specs.Jobs.{IsGiven}
+use Rattle.clap.specs.Words.{found_of}
 use Rattle.oscip_job.proofs.Found.{first_found, value}
 use Rattle.oscip_job.proofs.finding.output_of.Goals as goal
 
-pub returns-in-None : goal.returns-in-None
-returns-in-None c =
-    let hex : IsGiven (rows_of (found_of c.args.found.now)) (codes "hex") = c.is_given-hex.ensures.0 c.if-hex.true in
-    (hex, first_found (found_of c.args.found.now) (codes "OUT") None c.in-None.ensures)
+pub hex_output-requires-clause-hex : goal.hex_output-requires-clause-hex
+hex_output-requires-clause-hex c = c.is_given-hex.ensures.0 c.if-hex.true
+
+pub hex_output-requires-clause-out : goal.hex_output-requires-clause-out
+hex_output-requires-clause-out c = first_found (found_of c.args.found.now) (codes "OUT") None c.in-None.ensures
 
 pub returns-in_ok-from_str-in-Some : goal.returns-in_ok-from_str-in-Some
 returns-in_ok-from_str-in-Some c =
