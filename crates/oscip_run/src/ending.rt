@@ -33,7 +33,7 @@ pub fn status_of_words(fault: &JobFault) -> u8
     }
 }
 
-/// Reports on standard error that memory ran out, which takes no memory. The status of that end.
+/// Reports on standard error that memory ran out, without an allocation. Returns the status.
 fn end_by_memory<E: Sink>(stderr: &mut Stream<E>) -> u8
     ensures { EndsByFault E.taken Memory stderr.old stderr.new result }
 {
@@ -41,7 +41,7 @@ fn end_by_memory<E: Sink>(stderr: &mut Stream<E>) -> u8
     status_of(&RunFault::Memory)
 }
 
-/// Reports a fault by its line on standard error, or that memory ran out for its line. The status of what is reported.
+/// Reports a fault by its line on standard error, or that memory ran out for the line. Returns the status of what it reports.
 fn end_by_fault<E: Sink>(
     fault: &RunFault,
     line: Result<String, AllocError>,
@@ -60,14 +60,14 @@ fn end_by_fault<E: Sink>(
     }
 }
 
-/// Reports the fault of a run, if it has one, in one line on standard error, and returns the status of that end: that of
-/// `status_of_run`, or 4 if memory ran out for the line. A failure of standard error changes no status.
+/// Reports the fault of a run, if it has one, in one line on standard error. Returns the status: that of `status_of_run`, or 4 if
+/// memory ran out for the line. A failure of standard error changes no status.
 pub fn end_of<E: Sink>(
     alloc: Global,
     ended: &Result<bool, RunFault>,
     stderr: &mut Stream<E>,
 ) -> ExitCode
-    // The status, and the line with it.
+    // The status, and the line that is written with it.
     ensures { EndsRun E.taken ended.now stderr.old stderr.new (exit_status result) }
 {
     match ended {
@@ -76,15 +76,15 @@ pub fn end_of<E: Sink>(
     }
 }
 
-/// Reports on standard error why there is no job, or writes the help that was asked for to standard output, and returns the status of
-/// that end: that of `status_of_words`, or if not all of the help was written that of `end_of` after `Device`.
+/// Reports on standard error why there is no job, or writes the help that was asked for to standard output. Returns the status: that of
+/// `status_of_words`, or if not all of the help was written, that of `end_of` for `Device`.
 pub fn end_without_job<O: Sink, E: Sink>(
     alloc: Global,
     fault: &JobFault,
     stdout: &mut Stream<O>,
     stderr: &mut Stream<E>,
 ) -> ExitCode
-    // The status, and the text with it.
+    // The status, and the text that is written with it.
     ensures { EndsWords O.taken E.taken fault.now (stdout.old, stdout.new) (stderr.old, stderr.new) (exit_status result) }
 {
     match fault {

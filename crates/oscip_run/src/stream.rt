@@ -21,7 +21,7 @@ impl<S: Sink> Stream<S> {
         Stream { sink, failures: 0 }
     }
 
-    /// Writes a text. If the sink refuses, it has taken a prefix of the text, and the failure is counted.
+    /// Writes a text. Returns the fault of the sink if it didn't take all of the text; it has taken a prefix, and the failure is counted.
     pub fn write(&mut self, text: &str) -> Result<(), SinkFault>
         ensures { MatchResult result (λ _. WritesAll S.taken self.old self.new text.now) (λ _. WritesPrefix S.taken self.old self.new text.now) }
     {
