@@ -99,6 +99,12 @@ row 3 '' "oscip: cannot read looped$(steps /up 33)\n" cut looped A B
 ln -s . looped/back
 row 3 '' "oscip: cannot read looped$(steps /back 33)\n" cut looped A B
 
+# A path that is too long for the system, before the limit of levels.
+name=$(steps l 200)
+file lengthy/A.Mod A
+ln -s . "lengthy/$name"
+row 3 '' "oscip: cannot read lengthy$(steps "/$name" 21)\n" cut lengthy A B
+
 # What isn't there, or is no folder.
 row 3 '' 'oscip: cannot read missing\n' cut missing A C
 row 3 '' 'oscip: cannot read missing\n' check missing chain.cut
@@ -215,10 +221,17 @@ row 3 '' 'oscip: cannot read barred/deep/B.Mod\n' cut barred A B
 chmod a+x barred/deep
 : > barred/deep/notes
 chmod a-x barred/deep
-row 3 '' 'oscip: cannot read barred/deep/notes\n' cut barred A B
+row 3 '' 'oscip: cannot read barred/deep/B.Mod\n' cut barred A B
 chmod a+rx barred/deep
 chmod a+r barred/deep/B.Mod
 chmod a-r barred/deep/notes
+row 0 "$chain" '' cut barred A C
+# What is no module, and can't be looked at.
+mkdir barred/closed
+: > barred/closed/notes
+ln -s closed/notes barred/link
+ln -s "$(steps n 300)" barred/long
+chmod a-x barred/closed
 row 0 "$chain" '' cut barred A C
 
 echo "$passed passed, $failed failed"

@@ -14,7 +14,7 @@ use index_run::{
 };
 use oscip_job::{Indexing, Job, JobFault, Output, job_of};
 use oscip_run::{
-    Reader, RunFault, SystemFiles, ask_tree, end_of, end_without_job, fault_line, run_net,
+    Reader, RunFault, Stream, SystemFiles, ask_tree, end_of, end_without_job, fault_line, run_net,
     run_question,
 };
 use oscip_tree::{Source, TreeFault};
@@ -264,24 +264,35 @@ fn run_job<R: Files + AllocGlobal + Print + Eprint + Threads + Wait + Sync + Clo
     }
 }
 
-/// Runs the job, tells of its fault, and gives the status of its end.
-fn end_of_job<R: Files + AllocGlobal + Print + Eprint + Threads + Wait + Sync + Clone + Drop>(
-    rt: &R,
-    job: &Job,
-) -> ExitCode
+/// Runs the job, reports its fault, and returns the status.
+fn end_of_job<
+    R: Files + AllocGlobal + Print + Eprint + Threads + Wait + Sync + Clone + Drop,
+    E: Sink,
+>(rt: &R, job: &Job, stderr: &mut Stream<E>) -> ExitCode
     requires workers { HasWorkers job.now }
     requires package { HasPackage job.now }
 {
-    end_of(rt, &run_job(rt, job))
+    end_of(rt.alloc(), &run_job(rt, job), stderr)
 }
 
-fn run<R: Files + AllocGlobal + Print + Eprint + Threads + Wait + Sync + Clone + Drop>(
+/// Reports why there is no job, or writes the help, and returns the status.
+fn end_of_words<R: AllocGlobal + Print, E: Sink>(
+    rt: &R,
+    fault: &JobFault,
+    stderr: &mut Stream<E>,
+) -> ExitCode {
+    let mut stdout = Stream::new(ToWrite::new(io::writer(rt)));
+    end_without_job(rt.alloc(), fault, &mut stdout, stderr)
+}
+
+fn run<R: Files + AllocGlobal + Print + Eprint + Threads + Wait + Sync + Clone + Drop, E: Sink>(
     rt: &R,
     words: &[String],
+    stderr: &mut Stream<E>,
 ) -> ExitCode {
     match job_of(rt.alloc(), words) {
-        Ok(job) => end_of_job(rt, &job),
-        Err(fault) => end_without_job(rt, &fault),
+        Ok(job) => end_of_job(rt, &job, stderr),
+        Err(fault) => end_of_words(rt, &fault, stderr),
     }
 }
 
@@ -300,11 +311,12 @@ fn words_of<R: Env + AllocGlobal>(rt: &R) -> io::Result<Vec<String>> {
 }
 
 fn main(rt: HostRuntime) -> ExitCode {
+    let mut stderr = Stream::new(ToWrite::new(rt.stderr()));
     match words_of(&rt) {
-        Ok(words) => run(&rt, words.as_slice()),
+        Ok(words) => run(&rt, words.as_slice(), &mut stderr),
         Err(error) if error.kind() == ErrorKind::OutOfMemory => {
-            end_of(&rt, &Err(RunFault::Memory))
+            end_of(rt.alloc(), &Err(RunFault::Memory), &mut stderr)
         }
-        Err(_) => end_without_job(&rt, &not_words(rt.alloc())),
+        Err(_) => end_of_words(&rt, &not_words(rt.alloc()), &mut stderr),
     }
 }

@@ -14,3 +14,4 @@ pub mod CrossingRuns
 pub mod FaultRuns
 pub mod RuleRuns
 pub mod TreeQuestionRuns
+pub mod Streams

@@ -1,10 +1,14 @@
-//! How the program ends: what it tells, and its status.
-ghost use Rattle.std.specs.Prelude.{◌≡◌};
+//! How the program ends: what it writes to its streams, and its status.
+ghost use Rattle.std.specs.Prelude.{◌≡◌, IfErr, IfOk};
 ghost use Rattle.std.specs.Process.{exit_status};
-ghost use Rattle.oscip_run.specs.Endings.{run_status, words_status, EndsRun, EndsWords};
+ghost use Rattle.std.specs.String.{string_bytes};
+ghost use Rattle.oscip_run.specs.Endings.{fault_line, run_status, words_status, EndsByFault, EndsRun, EndsWords};
+ghost use Rattle.oscip_run.specs.declared.fault.RunFault.TheVariants.{Memory};
 
-use crate::{RunFault, fault_line, status_of};
+use crate::{RunFault, Stream, fault_line, status_of};
+use byte_sink::Sink;
 use oscip_job::JobFault;
+use std::alloc::{AllocError, Global};
 use std::process::ExitCode;
 
 /// The status that a run ends with: 0 where it answers, 5 where a check says no, and else that of its fault.
@@ -29,56 +33,69 @@ pub fn status_of_words(fault: &JobFault) -> u8
     }
 }
 
-/// Tells of the fault in one line on standard error, or of want of memory where there is none for its line. Whether the line is its own.
-fn is_told<R: AllocGlobal + Eprint>(rt: &R, fault: &RunFault) -> bool {
-    match fault_line(rt.alloc(), fault) {
+/// Reports on standard error that memory ran out, without an allocation. Returns the status.
+fn end_by_memory<E: Sink>(stderr: &mut Stream<E>) -> u8
+    ensures { EndsByFault E.taken Memory stderr.old stderr.new result }
+{
+    let _ = stderr.write("oscip: Memory\n");
+    status_of(&RunFault::Memory)
+}
+
+/// Reports a fault by its line on standard error, or that memory ran out for the line. Returns the status of what it reports.
+fn end_by_fault<E: Sink>(
+    fault: &RunFault,
+    line: Result<String, AllocError>,
+    stderr: &mut Stream<E>,
+) -> u8
+    requires { IfOk line (λ text. string_bytes text ≡ fault_line fault.now) }
+    ensures fault { IfOk line (λ _. EndsByFault E.taken fault.now stderr.old stderr.new result) }
+    ensures memory { IfErr line (λ _. EndsByFault E.taken Memory stderr.old stderr.new result) }
+{
+    match line {
         Ok(line) => {
-            let _ = eprint!(rt; "{line}");
-            true
+            let _ = stderr.write(line.as_str());
+            status_of(fault)
         }
-        Err(_) => {
-            let _ = eprintln!(rt; "oscip: Memory");
-            false
-        }
+        Err(_) => end_by_memory(stderr),
     }
 }
 
-/// Tells of the fault, if there is one, in one line on standard error, and gives the status of the end: 4 where no memory is left for
-/// the line, else as `status_of_run`.
-pub fn end_of<R: AllocGlobal + Eprint>(rt: &R, ended: &Result<bool, RunFault>) -> ExitCode
-    ensures { EndsRun ended.now (exit_status result) }
+/// Reports the fault of a run, if it has one, in one line on standard error. Returns the status: that of `status_of_run`, or 4 if
+/// memory ran out for the line. A failure of standard error changes no status.
+pub fn end_of<E: Sink>(
+    alloc: Global,
+    ended: &Result<bool, RunFault>,
+    stderr: &mut Stream<E>,
+) -> ExitCode
+    // The status, and the line that is written with it.
+    ensures { EndsRun E.taken ended.now stderr.old stderr.new (exit_status result) }
 {
     match ended {
         Ok(_) => ExitCode::from(status_of_run(ended)),
-        Err(fault) => {
-            if is_told(rt, fault) {
-                ExitCode::from(status_of_run(ended))
-            } else {
-                ExitCode::from(status_of(&RunFault::Memory))
-            }
-        }
+        Err(fault) => ExitCode::from(end_by_fault(fault, fault_line(alloc, fault), stderr)),
     }
 }
 
-/// Tells on standard error why there is no job, or puts the help that was asked for to standard output, and gives the status of that
-/// end: as `status_of_words`, but where help can't be put as `end_of` ends behind `Device`.
-pub fn end_without_job<R: AllocGlobal + Print + Eprint>(rt: &R, fault: &JobFault) -> ExitCode
-    ensures { EndsWords fault.now (exit_status result) }
+/// Reports on standard error why there is no job, or writes the help that was asked for to standard output. Returns the status: that of
+/// `status_of_words`, or if not all of the help was written, that of `end_of` for `Device`.
+pub fn end_without_job<O: Sink, E: Sink>(
+    alloc: Global,
+    fault: &JobFault,
+    stdout: &mut Stream<O>,
+    stderr: &mut Stream<E>,
+) -> ExitCode
+    // The status, and the text that is written with it.
+    ensures { EndsWords O.taken E.taken fault.now (stdout.old, stdout.new) (stderr.old, stderr.new) (exit_status result) }
 {
     match fault {
         JobFault::Line { text } => {
-            let _ = eprint!(rt; "{text}");
+            let _ = stderr.write(text.as_str());
             ExitCode::from(status_of_words(fault))
         }
-        JobFault::Help { text } => {
-            if print!(rt; "{text}").is_err() {
-                return end_of(rt, &Err(RunFault::Device));
-            }
-            ExitCode::from(status_of_words(fault))
-        }
-        JobFault::Memory => {
-            let _ = eprintln!(rt; "oscip: Memory");
-            ExitCode::from(status_of_words(fault))
-        }
+        JobFault::Help { text } => match stdout.write(text.as_str()) {
+            Ok(()) => ExitCode::from(status_of_words(fault)),
+            Err(_) => end_of(alloc, &Err(RunFault::Device), stderr),
+        },
+        JobFault::Memory => ExitCode::from(end_by_memory(stderr)),
     }
 }

@@ -8,10 +8,10 @@ use crate::RunFault;
 use crate::files::{ReadFault, cannot_read, file_fault, read_front};
 use oscip_tree::{Source, in_order};
 use std::alloc::{AllocError, Global};
+use std::fs;
 use std::fs::ReadDir;
 use std::io::ErrorKind;
 use std::rt::Files;
-use std::{fs, io};
 
 /// The most folders that a folder may lie in, below the one that is walked.
 const LEVELS: u32 = 32;
@@ -52,20 +52,23 @@ fn is_module(path: &str) -> bool {
     path.ends_with(".Mod") || path.ends_with(".mod")
 }
 
-/// Whether the path leads to nothing, as that of a link to a name that isn't there.
-fn leads_nowhere(error: &io::Error) -> bool {
-    matches!(
-        error.kind(),
-        ErrorKind::NotFound | ErrorKind::NotADirectory | ErrorKind::FilesystemLoop
-    )
+/// Whether the path is too long for the system, which then doesn't look at a link there either.
+fn is_too_long<R: Files>(rt: &R, path: &str) -> bool {
+    match fs::symlink_metadata(rt, path) {
+        Ok(_) => false,
+        Err(error) => error.kind() == ErrorKind::InvalidFilename,
+    }
 }
 
-/// Whether a folder is at the path. A module that can't be looked at is told of where it is read.
+/// Whether the system reports a folder at the path. If it reports nothing, as of a link to nothing, a name that is no module is passed
+/// over, and a module is refused when it is read. A path that is too long is refused, since a folder there may be readable.
 fn is_folder<R: Files + AllocGlobal>(rt: &R, path: &str) -> Result<bool, ReadFault> {
     match fs::metadata(rt, path) {
         Ok(metadata) => Ok(metadata.is_dir()),
-        Err(error) if is_module(path) || leads_nowhere(&error) => Ok(false),
-        Err(error) => Err(file_fault(rt.alloc(), path, &error)),
+        Err(_) if is_module(path) => Ok(false),
+        Err(error) if error.kind() == ErrorKind::OutOfMemory => Err(ReadFault::Memory),
+        Err(_) if is_too_long(rt, path) => Err(cannot_read(rt.alloc(), path)),
+        Err(_) => Ok(false),
     }
 }
 
@@ -271,10 +274,11 @@ fn sources_below<R: Files + AllocGlobal + Clone + Drop>(
 }
 
 /// The files below a folder whose names end in `.Mod` or `.mod`, in the order of their paths. Links are followed, and
-/// a folder is walked whatever its name. All names are walked first, and then the files are read by path, each to one
-/// byte beyond the limit of a module. Refuses with `CannotRead` a folder or file that can't be read, a folder below more
-/// than 32 others, a name that isn't UTF-8, by its folder, a module that is no regular file, and more than 1,048,576 names,
-/// counted along links, by the folder that is walked; and with `Memory`.
+/// a folder is walked whatever its name. A name that is no module, and of which the system doesn't report what it is, is passed
+/// over. All names are walked first, and then the files are read by path, each to one byte beyond the limit of a module.
+/// Refuses with `CannotRead` a folder or file that can't be read, a folder below more than 32 others, a name that isn't UTF-8, by its
+/// folder, a path that is too long for the system, a module that is no regular file, and more than 1,048,576 names, counted along
+/// links, by the folder that is walked; and with `Memory`.
 pub fn sources_of<R: Files + AllocGlobal + Clone + Drop>(
     rt: &R,
     folder: &str,

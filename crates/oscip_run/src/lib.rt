@@ -19,6 +19,7 @@ mod reader;
 mod reading;
 mod ruling;
 mod run;
+mod stream;
 
 pub use asking::answer_question;
 pub use crossing::crossings_tree;
@@ -34,3 +35,4 @@ pub use reader::{Reader, SystemFiles};
 pub use reading::{ask_tree, run_crossings, run_net, run_net_text, run_question, run_tree};
 pub use ruling::{rules_tree, run_rules};
 pub use run::{answer, answer_tree};
+pub use stream::Stream;

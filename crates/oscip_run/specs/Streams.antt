@@ -1,0 +1,18 @@
+-- What is written to standard output and standard error.
+use Rattle.std.specs.Prelude.{◌≡◌, ◌⊎◌, ℕ, List, Option}
+use Rattle.std.specs.Io.KnownBytes.{Appends}
+use Rattle.byte_sink.specs.Sinks.{one_more, AppendsFront}
+use Rattle.oscip_run.specs.declared.stream.Stream.{Stream}
+
+-- Below are a stream before and after a text is written to it, and what its sink has taken.
+
+-- all of the text is written
+abbrev pub WritesAll : {S : Type 0} → (S → Option (List ℕ)) → Stream S → Stream S → List ℕ → Type 0
+WritesAll taken old new text = Appends (taken old.sink) (taken new.sink) text × (new.failures ≡ old.failures)
+
+-- a prefix of it is written, and a failure is counted
+abbrev pub WritesPrefix : {S : Type 0} → (S → Option (List ℕ)) → Stream S → Stream S → List ℕ → Type 0
+WritesPrefix taken old new text = AppendsFront (taken old.sink) (taken new.sink) text × (new.failures ≡ one_more old.failures)
+
+abbrev pub Writes : {S : Type 0} → (S → Option (List ℕ)) → Stream S → Stream S → List ℕ → Type 0
+Writes taken old new text = WritesAll taken old new text ⊎ WritesPrefix taken old new text
