@@ -154,18 +154,19 @@ const char *const FAULT = "oscip: (" FILE_FAULT
     "|" IMPORTS_FAULT "|WeightOverflow|PriceOverflow|NoEnd|NoDocument|SameModule|NoSuchModule [^]*"
     "|(Truncated|LongVarint|Group|ZeroField|BadText) \\d+)\n";
 const char *const FAULTS = "((" FILE_FAULT ")\n)+|(" IMPORTS_FAULT ")\n";
+const char *const INDEX_FAULT = "(oscip: (" FILE_FAULT ")\n)*oscip: (" FILE_FAULT "|" IMPORTS_FAULT ")\n";
 const char *const LEFT_OUT = "(oscip: (" FILE_FAULT ")\n)+";
 const char *const REPORT = "cut \\w+ \\w+\n(weight \\d+\n(remove \\w+ \\w+ \\d+\n)*(flow \\w+ \\w+ [1-9]\\d*\n)*|blocked( \\w+)+\n)end\n";
 const char *const PLACES = "([^]*:\\d+:\\d+-\\d+:\\d+\n)*";
 const char *const NETWORK = "(module \\w+\n)*(import \\w+ \\w+ \\d+\n)*";
-const char *const CHAIN = "(import \\w+ \\w+ \\d+\n)*";
+const char *const PATH_LINES = "(import \\w+ \\w+ \\d+\n)+";
 const char *const DEFINED = "([^\n]*:\\d+:\\d+-\\d+:\\d+ [^\n]+\n)*";
 const char *const BROKEN = "(no [1-9]\\d*( \\w+){2,}\n)+";
 
 // What standard output has to be after status 0.
 const std::map<Text, const char *> ANSWERS = {
     {"cut", REPORT}, {"cut-net", REPORT}, {"check", "yes\n"}, {"check-net", "yes\n"}, {"dot", "digraph [^]*\\}\n"}, {"dot-net", "digraph [^]*\\}\n"},
-    {"def", PLACES}, {"refs", PLACES}, {"crossings", PLACES}, {"net", NETWORK}, {"why", CHAIN}, {"why-net", CHAIN},
+    {"def", PLACES}, {"refs", PLACES}, {"crossings", PLACES}, {"net", NETWORK}, {"why", PATH_LINES}, {"why-net", PATH_LINES},
     {"rules", "yes\n"}, {"faults", "yes\n"}, {"symbol", "([^\n]+\n)?"}, {"symbols", DEFINED}, {"unresolved", "([^]*:\\d+:\\d+ \\w+\n)*"}, {"index", "([0-9a-f]*\n)?"}};
 
 bool is_like(const Text &text, const char *pattern) {
@@ -183,12 +184,13 @@ bool is_documented(const Words &words, const Ended &ended) {
         auto answer = ANSWERS.find(words.empty() ? "" : words[0]);
         return told.empty() && (answer == ANSWERS.end() || is_like(put, answer->second) || put.find("Usage") != Text::npos);
     }
-    case 1: return put.empty() && is_like(told, FAULT);
+    case 1: return put.empty() && is_like(told, words[0] == "index" ? INDEX_FAULT : FAULT);
     case 2: return put.empty() && told.rfind("error: ", 0) == 0;
     case 3: return is_like(told, words[0] == "index" ? "(oscip: (" FILE_FAULT ")\n)*oscip: cannot (read|write)( [^]*)?\n" : "oscip: cannot (read|write)( [^]*)?\n");
     case 5:
         if (words[0] == "index") return is_like(told, LEFT_OUT) && is_like(put, "([0-9a-f]*\n)?");
         if (!told.empty()) return false;
+        if (words[0] == "why" || words[0] == "why-net") return put.empty();
         if (words[0] == "faults") return is_like(put, FAULTS);
         if (words[0] == "rules") return is_like(put, BROKEN);
         return is_like(put, "no (StillChain|WrongWeight|WrongValue|(OverWeight|NoSuchImport|NotPinned) \\w+ \\w+|NotKept \\w+)\n");

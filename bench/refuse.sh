@@ -182,7 +182,7 @@ trial 3 rules four absent.rules
 trial 0 faults editor
 trial 5 faults wrong
 trial 0 why four A D
-trial 0 why four D A
+trial 5 why four D A
 trial 1 why four A Absent
 trial 0 why-net large.net Editor Net
 trial 1 why-net cycle.net A B

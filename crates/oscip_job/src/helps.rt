@@ -85,14 +85,14 @@ pub(crate) const NET_END: &str = "Example: oscip net examples/editor{n}{n}\
     Status: 0 the network is printed, 1 a module is refused, 2 the command line is refused,{n}\
     3 a file can't be read or standard output takes nothing, 4 memory ran out";
 
-/// What stands at the end of the help of a command that tells why a module reaches another.
+/// The end of the help of a command that prints why a module reaches another one.
 pub(crate) const WHY_END: &str = "Example: oscip why examples/editor Edit Net{n}{n}\
-    Status: 0 the chain is printed, or there is none, 1 a module or a name is refused,{n}\
+    Status: 0 the path is printed, 5 there is none, 1 a module or a name is refused,{n}\
     2 the command line is refused, 3 a file can't be read or standard output takes nothing,{n}\
     4 memory ran out";
 
 pub(crate) const WHY_NET_END: &str = "Example: oscip why-net examples/six.net A B{n}{n}\
-    Status: 0 the chain is printed, or there is none, 1 the network or a name is refused,{n}\
+    Status: 0 the path is printed, 5 there is none, 1 the network or a name is refused,{n}\
     2 the command line is refused, 3 a file can't be read or standard output takes nothing,{n}\
     4 memory ran out";
 

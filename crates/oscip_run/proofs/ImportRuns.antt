@@ -1,5 +1,5 @@
 -- From what the lower crates promise to what the runs that tell imports are.
-use Rattle.std.proofs.Common.{◌≡◌, ◌≢◌, ◌∙◌, ℕ, List, [], ◌∷◌, ◌++◌, map, Option, Some, None, Result, Ok, Err, refl, subst, sym, inl, inr}
+use Rattle.std.proofs.Common.{◌≡◌, ◌≢◌, ◌∙◌, ℕ, Bool, true, false, List, [], ◌∷◌, ◌++◌, map, Option, Some, None, Result, Ok, Err, refl, subst, sym, inl, inr}
 use Rattle.std.proofs.lemmas.List.{append-nil}
 use Rattle.std.specs.Io.KnownBytes.{Appends}
 use Rattle.byte_sink.specs.Sinks.{AppendsFront}
@@ -85,7 +85,7 @@ has_lines n a b (m ∷ k ∷ more) apart is = rows_stand (import_line n.names (i
 
 -- the lines of the least chain
 pub why_text : (first second : List ℕ) (n : Network) (a b : ℕ) (chain : List ℕ) → index_of n first ≡ Some a → index_of n second ≡ Some b → a ≢ b →
-    IsLeastChain (Imports n.imports Any) a b chain → IsWhyText (IsThis n) first second (chain_text n chain)
+    IsLeastChain (Imports n.imports Any) a b chain → IsWhyText (IsThis n) first second true (chain_text n chain)
 why_text first second n a b chain first_is second_is apart least = record {
   net = n;
   reads = refl;
@@ -94,12 +94,12 @@ why_text first second n a b chain first_is second_is apart least = record {
   b = b;
   second_is = second_is;
   apart = apart;
-  tells = inl (chain, least, refl, has_lines n a b chain apart least.is_chain);
+  exact = (chain, least, refl, has_lines n a b chain apart least.is_chain);
 }
 
 -- and none, where no chain leads there
 pub no_chain : (first second : List ℕ) (n : Network) (a b : ℕ) → index_of n first ≡ Some a → index_of n second ≡ Some b → a ≢ b → (Chain n.imports Any a b → ⊥) →
-    IsWhyText (IsThis n) first second []
+    IsWhyText (IsThis n) first second false []
 no_chain first second n a b first_is second_is apart none = record {
   net = n;
   reads = refl;
@@ -108,12 +108,12 @@ no_chain first second n a b first_is second_is apart none = record {
   b = b;
   second_is = second_is;
   apart = apart;
-  tells = inr (none, refl);
+  exact = (none, refl);
 }
 
 -- those on a network are those on the input that has it
-text_of : (IsOf : Network → Type 0) (n : Network) → IsOf n → (first second text : List ℕ) → IsWhyText (IsThis n) first second text → IsWhyText IsOf first second text
-text_of IsOf n is first second text h = record {
+text_of : (IsOf : Network → Type 0) (n : Network) → IsOf n → (first second : List ℕ) (found : Bool) (text : List ℕ) → IsWhyText (IsThis n) first second found text → IsWhyText IsOf first second found text
+text_of IsOf n is first second found text h = record {
   net = h.net;
   reads = subst IsOf (sym h.reads) is;
   a = h.a;
@@ -121,7 +121,7 @@ text_of IsOf n is first second text h = record {
   b = h.b;
   second_is = h.second_is;
   apart = h.apart;
-  tells = h.tells;
+  exact = h.exact;
 }
 
 refusal_of : (IsOf : Network → Type 0) (IsRefused : RunFault → Type 0) (n : Network) → IsOf n → (first second : List ℕ) (fault : RunFault) →
@@ -139,8 +139,9 @@ refusal_of IsOf IsRefused n is first second run.Device h = absurd h
 refusal_of IsOf IsRefused n is first second run.Memory h = absurd h
 
 -- and so is a run
-pub run_of : (IsOf : Network → Type 0) (IsRefused : RunFault → Type 0) (n : Network) → IsOf n → (first second : List ℕ) (old new : Option (List ℕ)) (result : Result (Unit {0}) RunFault) →
+pub run_of : (IsOf : Network → Type 0) (IsRefused : RunFault → Type 0) (n : Network) → IsOf n → (first second : List ℕ) (old new : Option (List ℕ)) (result : Result Bool RunFault) →
     IsWhyRun (IsThis n) IsNeverRefused first second old new result → IsWhyRun IsOf IsRefused first second old new result
-run_of IsOf IsRefused n is first second =
-    weaker (IsWhyText (IsThis n) first second) (IsWhyText IsOf first second) (IsWhyRefused (IsThis n) IsNeverRefused first second) (IsWhyRefused IsOf IsRefused first second)
-    (text_of IsOf n is first second) (refusal_of IsOf IsRefused n is first second)
+run_of IsOf IsRefused n is first second old new (Ok found) h = (h.0, text_of IsOf n is first second found h.0 h.1, h.2)
+run_of IsOf IsRefused n is first second old new (Err fault) h =
+    weaker (IsWhyText (IsThis n) first second true) (IsWhyText IsOf first second true) (IsWhyRefused (IsThis n) IsNeverRefused first second) (IsWhyRefused IsOf IsRefused first second)
+    (text_of IsOf n is first second true) (refusal_of IsOf IsRefused n is first second) old new (Err fault) h

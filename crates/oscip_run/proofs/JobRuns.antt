@@ -1,9 +1,9 @@
 -- From the runs of engines to those of jobs.
-use Rattle.std.proofs.Common.{◌≡◌, ℕ, List, Option, Err, subst}
+use Rattle.std.proofs.Common.{◌≡◌, ℕ, Bool, List, Option, Result, Err, subst}
 use Rattle.cut_net.specs.Network.{Network}
 use Rattle.oscip_run.specs.CutRuns.{IsCutRun}
 use Rattle.oscip_run.specs.ImportRuns.{IsWhyRun}
-use Rattle.oscip_run.specs.JobRuns.{IsCutJobRun, IsWhyJobRun}
+use Rattle.oscip_run.specs.JobRuns.{IsCutJobRun}
 use Rattle.oscip_run.specs.declared.fault.RunFault.{RunFault}
 
 -- a search for a cut that found none, between names that are the job's
@@ -13,9 +13,9 @@ refused_cut IsOf IsRefused a b first second old new fault e f h =
     let of_second = subst (λ (x : List ℕ). IsCutRun IsOf IsRefused a x old new (Err fault)) f h in
     (subst (λ (x : List ℕ). IsCutRun IsOf IsRefused x second old new (Err fault)) e of_second, tt)
 
--- the same of a chain
-pub refused_why : (IsOf : Network → Type 0) (IsRefused : RunFault → Type 0) (a b first second : List ℕ) (old new : Option (List ℕ)) (fault : RunFault) → a ≡ first → b ≡ second →
-    IsWhyRun IsOf IsRefused a b old new (Err fault) → IsWhyJobRun IsOf IsRefused first second old new (Err fault)
-refused_why IsOf IsRefused a b first second old new fault e f h =
-    let of_second = subst (λ (x : List ℕ). IsWhyRun IsOf IsRefused a x old new (Err fault)) f h in
-    (subst (λ (x : List ℕ). IsWhyRun IsOf IsRefused x second old new (Err fault)) e of_second, tt)
+-- a run of `why`, between names that are the job's
+pub why_of : (IsOf : Network → Type 0) (IsRefused : RunFault → Type 0) (a b first second : List ℕ) (old new : Option (List ℕ)) (result : Result Bool RunFault) → a ≡ first → b ≡ second →
+    IsWhyRun IsOf IsRefused a b old new result → IsWhyRun IsOf IsRefused first second old new result
+why_of IsOf IsRefused a b first second old new result e f h =
+    let of_second = subst (λ (x : List ℕ). IsWhyRun IsOf IsRefused a x old new result) f h in
+    subst (λ (x : List ℕ). IsWhyRun IsOf IsRefused x second old new result) e of_second

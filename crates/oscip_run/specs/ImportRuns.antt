@@ -1,5 +1,5 @@
 -- What the runs that tell the imports of an input read and put: its network as a text, and the chain of imports between two modules.
-use Rattle.std.specs.Prelude.{◌≡◌, ◌≢◌, ◌⊎◌, ℕ, List, [], Option, Some, Result, Ok, Err}
+use Rattle.std.specs.Prelude.{◌≡◌, ◌≢◌, ◌⊎◌, ℕ, Bool, true, false, List, [], Option, Some, Result, Ok, Err}
 use Rattle.std.specs.Io.KnownBytes.{Appends, Keeps}
 use Rattle.byte_sink.specs.Sinks.{AppendsFront}
 use Rattle.digraph.specs.Levels.{IsLeastChain}
@@ -47,15 +47,14 @@ pub record IsNetText (IsOf : Network → Type 0) (text : List ℕ) : Type 0 wher
 abbrev pub IsNetTextRun : (Network → Type 0) → (RunFault → Type 0) → Option (List ℕ) → Option (List ℕ) → Result (Unit {0}) RunFault → Type 0
 IsNetTextRun IsOf = IsToldRun (IsNetText IsOf)
 
--- the text has a line for each import of the least chain of imports from a to b: of those with the fewest imports the one of the least names;
--- and it is empty exactly where none leads there
-abbrev pub IsChainText : Network → ℕ → ℕ → List ℕ → Type 0
-IsChainText net a b text =
-    ((chain : List ℕ) × IsLeastChain (Imports net.imports Any) a b chain × (text ≡ chain_text net chain) × (text ≢ []))
-    ⊎ ((Chain net.imports Any a b → ⊥) × (text ≡ []))
+-- if there is a path of imports from a to b, the text has a line for each import of the shortest one, of several the first by names;
+-- otherwise it is empty
+abbrev pub IsPathText : Network → ℕ → ℕ → Bool → List ℕ → Type 0
+IsPathText net a b true text = (path : List ℕ) × IsLeastChain (Imports net.imports Any) a b path × (text ≡ chain_text net path) × (text ≢ [])
+IsPathText net a b false text = (Chain net.imports Any a b → ⊥) × (text ≡ [])
 
--- so between the two modules of the input's network that have these names
-pub record IsWhyText (IsOf : Network → Type 0) (first second text : List ℕ) : Type 0 where
+-- the text between the two modules of the input's network that have these names, and whether there is a path
+pub record IsWhyText (IsOf : Network → Type 0) (first second : List ℕ) (found : Bool) (text : List ℕ) : Type 0 where
   pub net : Network
   pub reads : IsOf net
   pub a : ℕ
@@ -63,7 +62,7 @@ pub record IsWhyText (IsOf : Network → Type 0) (first second text : List ℕ) 
   pub b : ℕ
   pub second_is : index_of net second ≡ Some b
   pub apart : a ≢ b
-  pub tells : IsChainText net a b text
+  pub exact : IsPathText net a b found text
 
 -- the input is refused with this fault; or it isn't, and the names are
 abbrev pub IsWhyRefused : (Network → Type 0) → (RunFault → Type 0) → List ℕ → List ℕ → RunFault → Type 0
@@ -79,6 +78,7 @@ IsWhyRefused IsOf IsRefused first second (Query fault) = ⊥
 IsWhyRefused IsOf IsRefused first second Device = ⊥
 IsWhyRefused IsOf IsRefused first second Memory = ⊥
 
--- a run that tells the chain of imports between two names
-abbrev pub IsWhyRun : (Network → Type 0) → (RunFault → Type 0) → List ℕ → List ℕ → Option (List ℕ) → Option (List ℕ) → Result (Unit {0}) RunFault → Type 0
-IsWhyRun IsOf IsRefused first second = IsToldRun (IsWhyText IsOf first second) (IsWhyRefused IsOf IsRefused first second)
+-- a run that writes the shortest path of imports between two names; it returns whether there is one
+abbrev pub IsWhyRun : (Network → Type 0) → (RunFault → Type 0) → List ℕ → List ℕ → Option (List ℕ) → Option (List ℕ) → Result Bool RunFault → Type 0
+IsWhyRun IsOf IsRefused first second old new (Ok found) = PutsTold (IsWhyText IsOf first second found) old new
+IsWhyRun IsOf IsRefused first second old new (Err fault) = IsToldRun (IsWhyText IsOf first second true) (IsWhyRefused IsOf IsRefused first second) old new (Err fault)

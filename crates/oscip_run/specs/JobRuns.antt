@@ -26,16 +26,11 @@ abbrev pub IsDotJobRun : (Network → ℕ → ℕ → List Priced → List Price
 IsDotJobRun Shows IsOf IsRefused report old new result =
     IsDotRun Shows IsOf IsRefused report old new (without_answer result) × IfOk result (λ agrees. agrees ≡ true)
 
--- a run that tells the chain between two names; nor is one that is put, or none
-abbrev pub IsWhyJobRun : (Network → Type 0) → (RunFault → Type 0) → List ℕ → List ℕ → Option (List ℕ) → Option (List ℕ) → Result Bool RunFault → Type 0
-IsWhyJobRun IsOf IsRefused first second old new result =
-    IsWhyRun IsOf IsRefused first second old new (without_answer result) × IfOk result (λ agrees. agrees ≡ true)
-
 -- Below a network is that of the input with these prices, where they are given.
 
--- a run of the engine for what is asked of a network, with the question's own names, or with the report; a chain is told without prices
+-- a run of the engine for what is asked of a network, with the question's own names, or with the report; a path doesn't depend on prices
 abbrev pub IsJobRun : (Option (List ℕ) → Network → Type 0) → (Option (List ℕ) → RunFault → Type 0) → NetQuestion → List ℕ → Option (List ℕ) → Option (List ℕ) → Option (List ℕ) → Result Bool RunFault → Type 0
 IsJobRun IsOf IsRefused (Cut cutting) report prices old new result = IsCutJobRun (IsOf prices) (IsRefused prices) (string_bytes cutting.from) (string_bytes cutting.to) old new result
 IsJobRun IsOf IsRefused (Check reported) report prices old new result = IsCheckRun (IsOf prices) (IsRefused prices) report old new result
 IsJobRun IsOf IsRefused (Dot drawing) report prices old new result = IsDotJobRun (IsAskedPicture drawing.by_flow) (IsOf prices) (IsRefused prices) report old new result
-IsJobRun IsOf IsRefused (Why names) report prices old new result = IsWhyJobRun (IsOf None) (IsRefused None) (string_bytes names.from) (string_bytes names.to) old new result
+IsJobRun IsOf IsRefused (Why names) report prices old new result = IsWhyRun (IsOf None) (IsRefused None) (string_bytes names.from) (string_bytes names.to) old new result

@@ -68,8 +68,14 @@ fn modules_of(alloc: Global, net: &Net, a: &str, b: &str) -> Result<(u32, u32), 
     Ok((from, to))
 }
 
-/// Puts the lines of the least chain of imports of a network between the modules of two names, and nothing where none leads there.
-fn why_in<S: Sink>(alloc: Global, net: &Net, a: &str, b: &str, sink: &mut S) -> Result<(), RunFault>
+/// Writes the lines of the shortest path of imports of a network between the modules of two names. Returns whether there is a path.
+fn why_in<S: Sink>(
+    alloc: Global,
+    net: &Net,
+    a: &str,
+    b: &str,
+    sink: &mut S,
+) -> Result<bool, RunFault>
     requires { net.now.pins ≡ [] }
     ensures run { IsWhyRun (IsThis net.now) IsNeverRefused a.now b.now (S.taken sink.old) (S.taken sink.new) result }
     ensures failures { S.failures sink.new ≡ failures_by is_device result (S.failures sink.old) }
@@ -78,25 +84,25 @@ fn why_in<S: Sink>(alloc: Global, net: &Net, a: &str, b: &str, sink: &mut S) -> 
     let (from, to) = modules_of(alloc, net, a, b)?;
     let found = least_chain_of(alloc, net, from, to)?;
     let Some(chain) = found else {
-        return Ok(());
+        return Ok(false);
     };
     write_chain(alloc, net, chain.as_slice(), sink)?;
-    Ok(())
+    Ok(true)
 }
 
-/// Reads a network, and tells why the module of the first name reaches that of the second: puts a line `import M N w` for each import
-/// of the least chain from the one to the other, down the chain. Of the chains with the fewest imports it is the one of the least
-/// names; what weighs 0 counts as well. Nothing is put where none leads there, and only there.
-/// Refuses with `Net` where the network is refused, then with `Solve` for the first name that no module has or where both are one
-/// module's, and with `Device` or `Memory`.
+/// Reads a network, and writes why the module of the first name reaches that of the second: a line `import M N w` for each import of
+/// the shortest path (of several the first by names), from the first module on. Imports of weight 0 count as well. Returns whether there
+/// is a path; without one nothing is written.
+/// Fails with `Net` if the network is rejected, then with `Solve` for the first unknown name or if both are one module's, and with
+/// `Device` or `Memory`.
 pub fn why_net_bytes<S: Sink>(
     alloc: Global,
     network: &[u8],
     a: &str,
     b: &str,
     sink: &mut S,
-) -> Result<(), RunFault>
-    // What was read, and the lines that the sink took; after a refusal of the input it took nothing.
+) -> Result<bool, RunFault>
+    // What was read, the lines that the sink took, and whether there is a path; after an error of the input the sink took nothing.
     ensures run { IsWhyRun (IsNetOfText network.now) (IsRefusedText network.now) a.now b.now (S.taken sink.old) (S.taken sink.new) result }
     // Device is answered where the sink counted a failure, and nowhere else.
     ensures failures { S.failures sink.new ≡ failures_by is_device result (S.failures sink.old) }
@@ -105,9 +111,9 @@ pub fn why_net_bytes<S: Sink>(
     why_in(alloc, &net, a, b, sink)
 }
 
-/// Reads the files of a tree, and tells why a module of it reaches another, as `why_net_bytes` does.
-/// Refuses with `Tree` where the tree is refused, then with `Solve` for the first name that no module has or where both are one
-/// module's, and with `Device` or `Memory`.
+/// Reads the files of a tree, and writes why a module of it reaches another one, as `why_net_bytes` does.
+/// Fails with `Tree` if the tree is rejected, then with `Solve` for the first unknown name or if both are one module's, and with `Device`
+/// or `Memory`.
 pub fn why_tree<R: Threads + Sync, S: Sink>(
     rt: &R,
     alloc: Global,
@@ -115,10 +121,10 @@ pub fn why_tree<R: Threads + Sync, S: Sink>(
     a: &str,
     b: &str,
     sink: &mut S,
-) -> Result<(), RunFault>
-    // The files stand in the order of their paths.
+) -> Result<bool, RunFault>
+    // The files are sorted by path.
     requires { ArePathsInOrder sources.now }
-    // What was read, and the lines that the sink took; after a refusal of the input it took nothing.
+    // What was read, the lines that the sink took, and whether there is a path; after an error of the input the sink took nothing.
     ensures run { IsWhyRun (IsNetOfTree sources.now) (IsRefusedTree sources.now) a.now b.now (S.taken sink.old) (S.taken sink.new) result }
     // Device is answered where the sink counted a failure, and nowhere else.
     ensures failures { S.failures sink.new ≡ failures_by is_device result (S.failures sink.old) }

@@ -20,7 +20,7 @@ use std::sync::Wait;
 use std::thread::Threads;
 
 /// Runs the engine of a question on the bytes of its network and, where the question has them, of its report and its prices. A cut is
-/// searched for by the question's number of workers, with this gate. False is a check that says no. Refuses as the engine does.
+/// searched for by the question's number of workers, with this gate. False is a check that says no, or `why` without a path. Refuses as the engine does.
 pub fn answer<R: Threads + Wait + Sync, G: Gate + Sync, S: Sink>(
     rt: &R,
     alloc: Global,
@@ -51,14 +51,13 @@ pub fn answer<R: Threads + Wait + Sync, G: Gate + Sync, S: Sink>(
         }
         NetQuestion::Why(names) => {
             let (first, last) = (names.from.as_str(), names.to.as_str());
-            why_net_bytes(alloc, network, first, last, sink)?;
-            Ok(true)
+            why_net_bytes(alloc, network, first, last, sink)
         }
     }
 }
 
 /// Runs the engine of a question on the files of its tree and, where the question has them, on the bytes of its report and its prices. A
-/// cut is searched for by the question's number of workers, with this gate. False is a check that says no. Refuses as the engine does.
+/// cut is searched for by the question's number of workers, with this gate. False is a check that says no, or `why` without a path. Refuses as the engine does.
 pub fn answer_tree<R: Threads + Wait + Sync, G: Gate + Sync, S: Sink>(
     rt: &R,
     alloc: Global,
@@ -90,8 +89,7 @@ pub fn answer_tree<R: Threads + Wait + Sync, G: Gate + Sync, S: Sink>(
         }
         NetQuestion::Why(names) => {
             let (first, last) = (names.from.as_str(), names.to.as_str());
-            why_tree(rt, alloc, sources, first, last, sink)?;
-            Ok(true)
+            why_tree(rt, alloc, sources, first, last, sink)
         }
     }
 }

@@ -1,4 +1,4 @@
-use Rattle.std.proofs.Common.{List, ℕ, [], subst}
+use Rattle.std.proofs.Common.{List, ℕ, [], subst, true}
 use Rattle.std.proofs.lemmas.Result.{err_from_is_err_and}
 use Rattle.byte_sink.specs.Sinks.{AppendsFront}
 use Rattle.cut_report.specs.NetLines.{chain_text}
@@ -21,4 +21,4 @@ returns-in_err-write_chain-clause-run g c =
     let text = why_text c.args.a.now c.args.b.now c.args.net.now c.in_ok-from.from c.in_ok-from.to c.in-Some.chain.items names.0 names.1 names.2 least in
     let front = subst (λ (chain : List ℕ). AppendsFront (g.S.Sink.taken c.args.sink.now) (g.S.Sink.taken c.write_chain.new.sink) (chain_text c.args.net.now chain))
     c.as_slice.ensures.value c.in_err-write_chain.ensures.puts in
-    rw (p.1, p.2) (broken (IsWhyText (IsThis c.args.net.now) c.args.a.now c.args.b.now) (IsWhyRefused (IsThis c.args.net.now) IsNeverRefused c.args.a.now c.args.b.now) _ _ _ _ text front)
+    rw (p.1, p.2) (broken (IsWhyText (IsThis c.args.net.now) c.args.a.now c.args.b.now true) (IsWhyRefused (IsThis c.args.net.now) IsNeverRefused c.args.a.now c.args.b.now) _ _ _ _ text front)
