@@ -204,7 +204,7 @@ fn crossings_command<'a>(alloc: Global) -> Made<'a>
     let command = named(
         alloc,
         "crossings",
-        "Tell where an Oberon-07 module uses another: what to rewrite to remove that import",
+        "Print where an Oberon-07 module uses another: what to rewrite to remove that import",
         CROSSINGS_END,
     );
     let command = with_required(alloc, command, "DIR", FOLDER_HELP);
@@ -217,7 +217,7 @@ fn net_command<'a>(alloc: Global) -> Made<'a>
     let command = named(
         alloc,
         "net",
-        "Tell which Oberon-07 module imports which, and by how many uses, as a network",
+        "Print which Oberon-07 module imports which, and by how many uses, as a network",
         NET_END,
     );
     with_required(alloc, command, "DIR", FOLDER_HELP)
@@ -229,7 +229,7 @@ fn rules_command<'a>(alloc: Global) -> Made<'a>
     let command = named(
         alloc,
         "rules",
-        "Tell whether Oberon-07 modules keep rules of which may not reach which",
+        "Check Oberon-07 modules against rules of which may not reach which",
         RULES_END,
     );
     let command = with_required(alloc, command, "DIR", FOLDER_HELP);
@@ -252,8 +252,8 @@ fn chaining<'a>(
     with_modules(
         alloc,
         command,
-        "The name of the module that the chain begins with",
-        "The name of the module that the chain ends with",
+        "The name of the module that the path begins with",
+        "The name of the module that the path ends with",
     )
 }
 
@@ -345,7 +345,7 @@ fn symbol_command<'a>(alloc: Global) -> Made<'a>
     let command = on_index(
         alloc,
         "symbol",
-        "Tell the text of the symbol at a position, by an index in the SCIP format",
+        "Print the text of the symbol at a position, by an index in the SCIP format",
         SYMBOL_END,
     );
     with_position(alloc, command, true)
@@ -357,14 +357,14 @@ fn symbols_command<'a>(alloc: Global) -> Made<'a>
     let command = on_index(
         alloc,
         "symbols",
-        "Tell which symbols are defined where, by an index in the SCIP format",
+        "List which symbols are defined where, by an index in the SCIP format",
         SYMBOLS_END,
     );
     with_value(
         alloc,
         command,
         "PATH",
-        "The path of the only document to tell of, as the index has it: its local symbols too",
+        "The path of one document, as the index has it: only its definitions, also local ones",
     )
 }
 
@@ -402,7 +402,7 @@ fn with_options<'a>(alloc: Global, command: Made<'a>) -> Made<'a>
         alloc,
         command,
         "package",
-        "The package that symbols name: not `.`, and no space in front",
+        "The package in the symbols: not `.`, and no leading space",
     );
     let command = with_text(
         alloc,
@@ -436,7 +436,7 @@ fn unresolved_command<'a>(alloc: Global) -> Made<'a>
     let command = named(
         alloc,
         "unresolved",
-        "Tell which identifiers of Oberon-07 modules mean nothing that the modules declare",
+        "List identifiers of Oberon-07 modules that denote nothing that the modules declare",
         UNRESOLVED_END,
     );
     with_required(alloc, command, "DIR", FOLDER_HELP)
@@ -448,7 +448,7 @@ fn faults_command<'a>(alloc: Global) -> Made<'a>
     let command = named(
         alloc,
         "faults",
-        "Tell which files of a folder have faults, each its first one",
+        "List files of a folder that have faults, each with its first one",
         FAULTS_END,
     );
     with_required(alloc, command, "DIR", FOLDER_HELP)
@@ -501,7 +501,7 @@ fn with_imports<'a>(alloc: Global, program: Made<'a>) -> Made<'a>
     let why = chaining(
         alloc,
         "why",
-        "Tell why an Oberon-07 module reaches another: the shortest chain of imports",
+        "Print why an Oberon-07 module reaches another: the shortest path of imports",
         WHY_END,
         "DIR",
         FOLDER_HELP,
@@ -537,7 +537,7 @@ fn with_nets<'a>(alloc: Global, program: Made<'a>) -> Made<'a>
     let why = chaining(
         alloc,
         "why-net",
-        "Tell why a module of a network reaches another: the shortest chain of imports",
+        "Print why a module of a network reaches another: the shortest path of imports",
         WHY_NET_END,
         "FILE",
         NETWORK_HELP,
@@ -552,7 +552,7 @@ fn with_pictures<'a>(alloc: Global, program: Made<'a>) -> Made<'a>
     let tree = checking(
         alloc,
         "dot",
-        "Draw what a report says of Oberon-07 modules, in the language DOT of Graphviz",
+        "Draw a report on Oberon-07 modules, in the language DOT of Graphviz",
         DOT_END,
         "DIR",
         FOLDER_HELP,
@@ -563,7 +563,7 @@ fn with_pictures<'a>(alloc: Global, program: Made<'a>) -> Made<'a>
     let net = checking(
         alloc,
         "dot-net",
-        "Draw what a report says of a network, in the language DOT of Graphviz",
+        "Draw a report on a network, in the language DOT of Graphviz",
         DOT_NET_END,
         "FILE",
         NETWORK_HELP,
@@ -580,7 +580,7 @@ fn with_indexes<'a>(alloc: Global, program: Made<'a>) -> Made<'a>
     let def = asking(
         alloc,
         "def",
-        "Tell where the symbol at a position is defined, by an index in the SCIP format",
+        "Print where the symbol at a position is defined, by an index in the SCIP format",
         DEF_END,
         DEF_USAGE,
     );
@@ -588,7 +588,7 @@ fn with_indexes<'a>(alloc: Global, program: Made<'a>) -> Made<'a>
     let refs = asking(
         alloc,
         "refs",
-        "Tell where the symbol at a position is used and not defined, by such an index",
+        "Print where the symbol at a position is used and not defined, by such an index",
         REFS_END,
         REFS_USAGE,
     );
@@ -623,7 +623,7 @@ fn bare<'a>(alloc: Global) -> Made<'a>
 {
     let program = Command::new(alloc, "oscip")
         .about(
-            "Finds and checks cheapest decoupling cuts of Oberon-07 modules, indexes them in the SCIP format,{n}and answers questions to such indexes",
+            "Finds and checks cheapest decoupling cuts of Oberon-07 modules, indexes them in the SCIP format,{n}and queries such indexes",
         )
         .version(VERSION)
         .after_help(PROGRAM_END)

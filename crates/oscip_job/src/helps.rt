@@ -1,40 +1,40 @@
-//! What the helps of the program and of its commands say. Each line of them has at most 100 columns.
+//! The helps of the program and of its commands. Each of their lines has at most 100 columns.
 
-/// What help says of a folder of modules.
+/// The help of a folder of modules.
 pub(crate) const FOLDER_HELP: &str = "The folder of the modules:{n}\
     its files, and those of its folders, that end in `.Mod` or `.mod`";
 
-/// What help says of a network.
+/// The help of a network.
 pub(crate) const NETWORK_HELP: &str = "The network: lines `module M` and `import M N w`";
 
-/// What help says of a file of prices.
+/// The help of a file of prices.
 pub(crate) const PRICES_HELP: &str =
     "The file of prices: lines `price M N k`, by which M's import of N weighs k,{n}\
     and `pin M N`, by which it is not to be removed";
 
-/// What help says of a file of rules.
+/// The help of a file of rules.
 pub(crate) const RULES_HELP: &str =
     "The file of rules: lines `set S M`, `folder S PATH`, `forbid X Y` and `allow M N`";
 
-/// What help says of the file of an index that is made.
+/// The help of the file of an index that is made.
 pub(crate) const OUT_HELP: &str = "The file that the index is written to, in the SCIP format;{n}\
     it is emptied only once DIR has been read, so it may be one of DIR's files";
 
-/// What help says of the option that replaces the file of an index as a whole.
+/// The help of the option that replaces the file of an index as a whole.
 pub(crate) const ATOMIC_HELP: &str =
     "Replace OUT as a whole: the index is written to OUT.oscip-partial,{n}\
     which then takes OUT's place; if the run fails, OUT is as it was;{n}\
     not with --hex";
 
-/// What help says of an index of what has no faults.
+/// The help of an index of what has no faults.
 pub(crate) const SKIP_FAULTS_HELP: &str =
     "Leave out the files that have a fault of their own, and report these;{n}\
     OUT is replaced as with --atomic";
 
-/// What help says of a document of an index.
+/// The help of a document of an index.
 pub(crate) const PATH_HELP: &str = "The path of a document, as the index has it";
 
-/// What help says of the text of a symbol.
+/// The help of the text of a symbol.
 pub(crate) const SYMBOL_HELP: &str = "The text of the symbol, in place of a position;{n}\
     with one that begins with `local ` goes the PATH of its document";
 
@@ -47,104 +47,112 @@ pub(crate) const REFS_USAGE: &str =
 
 pub(crate) const INDEX_USAGE: &str = "oscip index [OPTIONS] <DIR> <OUT|--hex>";
 
-/// What `--version` tells behind the program's name.
+/// What `--version` prints after the program's name.
 pub(crate) const VERSION: &str = "0.1.0";
 
-/// What stands at the end of the program's help.
+/// The end of the program's help.
 pub(crate) const PROGRAM_END: &str = "Example: oscip cut examples/editor Edit Net{n}{n}\
-    `oscip COMMAND --help` has an example of each command and the statuses that it ends with.";
+    `oscip COMMAND --help` has an example of each command and its exit statuses.";
 
-/// What stands at the end of the help of a command that cuts.
+/// The end of the help of a command that cuts.
 pub(crate) const CUT_END: &str = "Example: oscip cut examples/editor Edit Net{n}{n}\
-    Status: 0 the report is printed, 1 a module, a price or a name is refused,{n}\
-    2 the command line is refused, 3 a file can't be read or standard output takes nothing,{n}\
-    4 memory ran out";
+    Status: 0 the report is printed, 1 a module, a price or a name is rejected,{n}\
+    2 the command line is invalid, 3 a file can't be read or standard output can't be written,{n}\
+    4 out of memory";
 
 pub(crate) const CUT_NET_END: &str = "Example: oscip cut-net examples/six.net A B{n}{n}\
-    Status: 0 the report is printed, 1 the network, a price or a name is refused,{n}\
-    2 the command line is refused, 3 a file can't be read or standard output takes nothing,{n}\
-    4 memory ran out";
+    Status: 0 the report is printed, 1 the network, a price or a name is rejected,{n}\
+    2 the command line is invalid, 3 a file can't be read or standard output can't be written,{n}\
+    4 out of memory";
 
-/// What stands at the end of the help of a command that checks.
+/// The end of the help of a command that checks.
 pub(crate) const CHECK_END: &str = "Example: oscip check examples/editor edit.cut{n}{n}\
-    Status: 0 yes, 5 no, 1 a module, a price or the report is refused, 2 the command line is refused,{n}\
-    3 a file can't be read or standard output takes nothing, 4 memory ran out";
+    Status: 0 yes, 5 no, 1 a module, a price or the report is rejected,{n}\
+    2 the command line is invalid, 3 a file can't be read or standard output can't be written,{n}\
+    4 out of memory";
 
 pub(crate) const CHECK_NET_END: &str =
     "Example: oscip check-net examples/six.net examples/six.cut{n}{n}\
-    Status: 0 yes, 5 no, 1 the network, a price or the report is refused, 2 the command line is refused,{n}\
-    3 a file can't be read or standard output takes nothing, 4 memory ran out";
+    Status: 0 yes, 5 no, 1 the network, a price or the report is rejected,{n}\
+    2 the command line is invalid, 3 a file can't be read or standard output can't be written,{n}\
+    4 out of memory";
 
-/// What stands at the end of the help of the command that tells where a module uses another.
+/// The end of the help of the command that prints where a module uses another.
 pub(crate) const CROSSINGS_END: &str = "Example: oscip crossings examples/editor Edit Sync{n}{n}\
-    Status: 0 the places are printed, 1 a module or a name is refused, 2 the command line is refused,{n}\
-    3 a file can't be read or standard output takes nothing, 4 memory ran out";
+    Status: 0 the locations are printed, 1 a module or a name is rejected,{n}\
+    2 the command line is invalid, 3 a file can't be read or standard output can't be written,{n}\
+    4 out of memory";
 
-/// What stands at the end of the help of the command that tells the network of modules.
+/// The end of the help of the command that prints the network of modules.
 pub(crate) const NET_END: &str = "Example: oscip net examples/editor{n}{n}\
-    Status: 0 the network is printed, 1 a module is refused, 2 the command line is refused,{n}\
-    3 a file can't be read or standard output takes nothing, 4 memory ran out";
+    Status: 0 the network is printed, 1 a module is rejected,{n}\
+    2 the command line is invalid, 3 a file can't be read or standard output can't be written,{n}\
+    4 out of memory";
 
 /// The end of the help of a command that prints why a module reaches another one.
 pub(crate) const WHY_END: &str = "Example: oscip why examples/editor Edit Net{n}{n}\
-    Status: 0 the path is printed, 5 there is none, 1 a module or a name is refused,{n}\
-    2 the command line is refused, 3 a file can't be read or standard output takes nothing,{n}\
-    4 memory ran out";
+    Status: 0 the path is printed, 5 there is none, 1 a module or a name is rejected,{n}\
+    2 the command line is invalid, 3 a file can't be read or standard output can't be written,{n}\
+    4 out of memory";
 
 pub(crate) const WHY_NET_END: &str = "Example: oscip why-net examples/six.net A B{n}{n}\
-    Status: 0 the path is printed, 5 there is none, 1 the network or a name is refused,{n}\
-    2 the command line is refused, 3 a file can't be read or standard output takes nothing,{n}\
-    4 memory ran out";
+    Status: 0 the path is printed, 5 there is none, 1 the network or a name is rejected,{n}\
+    2 the command line is invalid, 3 a file can't be read or standard output can't be written,{n}\
+    4 out of memory";
 
-/// What stands at the end of the help of the command that tells whether rules are kept.
+/// The end of the help of the command that checks rules.
 pub(crate) const RULES_END: &str =
     "Example: oscip rules examples/editor examples/editor.rules{n}{n}\
-    Status: 0 yes, 5 no, 1 a module or a rule is refused, 2 the command line is refused,{n}\
-    3 a file can't be read or standard output takes nothing, 4 memory ran out";
+    Status: 0 yes, 5 no, 1 a module or a rule is rejected,{n}\
+    2 the command line is invalid, 3 a file can't be read or standard output can't be written,{n}\
+    4 out of memory";
 
-/// What stands at the end of the help of a command that draws.
+/// The end of the help of a command that draws.
 pub(crate) const DOT_END: &str = "Example: oscip dot examples/editor edit.cut{n}{n}\
-    Status: 0 the graph is printed, 1 a module, a price or the report is refused,{n}\
-    2 the command line is refused, 3 a file can't be read or standard output takes nothing,{n}\
-    4 memory ran out";
+    Status: 0 the graph is printed, 1 a module, a price or the report is rejected,{n}\
+    2 the command line is invalid, 3 a file can't be read or standard output can't be written,{n}\
+    4 out of memory";
 
 pub(crate) const DOT_NET_END: &str =
     "Example: oscip dot-net examples/six.net examples/six.cut{n}{n}\
-    Status: 0 the graph is printed, 1 the network, a price or the report is refused,{n}\
-    2 the command line is refused, 3 a file can't be read or standard output takes nothing,{n}\
-    4 memory ran out";
+    Status: 0 the graph is printed, 1 the network, a price or the report is rejected,{n}\
+    2 the command line is invalid, 3 a file can't be read or standard output can't be written,{n}\
+    4 out of memory";
 
-/// What stands at the end of the help of the command that makes an index.
+/// The end of the help of the command that makes an index.
 pub(crate) const INDEX_END: &str = "Example: oscip index --atomic examples/editor editor.scip{n}{n}\
-    Status: 0 the index is written, 5 files were left out, 1 a module is refused,{n}\
-    2 the command line is refused, 3 a file can't be read or written or standard output takes nothing,{n}\
-    4 memory ran out";
+    Status: 0 the index is written, 5 files were left out, 1 a module is rejected,{n}\
+    2 the command line is invalid, 3 a file or standard output can't be read or written,{n}\
+    4 out of memory";
 
-/// What stands at the end of the help of a command that tells what is wrong with modules.
+/// The end of the help of a command that lists what is wrong with modules.
 pub(crate) const UNRESOLVED_END: &str = "Example: oscip unresolved examples/editor{n}{n}\
-    Status: 0 the identifiers are printed, 1 a module is refused, 2 the command line is refused,{n}\
-    3 a file can't be read or standard output takes nothing, 4 memory ran out";
+    Status: 0 the identifiers are printed, 1 a module is rejected,{n}\
+    2 the command line is invalid, 3 a file can't be read or standard output can't be written,{n}\
+    4 out of memory";
 
 pub(crate) const FAULTS_END: &str = "Example: oscip faults examples/editor{n}{n}\
-    Status: 0 yes, 5 the faults are printed, 2 the command line is refused,{n}\
-    3 a file can't be read or standard output takes nothing, 4 memory ran out";
+    Status: 0 yes, 5 the faults are printed, 2 the command line is invalid,{n}\
+    3 a file can't be read or standard output can't be written, 4 out of memory";
 
-/// What stands at the end of the help of a question to an index.
+/// The end of the help of a question to an index.
 pub(crate) const DEF_END: &str = "Example: oscip def examples/foreign.scip src/view.ts 2 19{n}{n}\
-    Status: 0 the places are printed, 1 the index or the path is refused, 2 the command line is refused,{n}\
-    3 a file can't be read or standard output takes nothing, 4 memory ran out";
+    Status: 0 the locations are printed, 1 the index or the path is rejected,{n}\
+    2 the command line is invalid, 3 a file can't be read or standard output can't be written,{n}\
+    4 out of memory";
 
 pub(crate) const REFS_END: &str = "Example: oscip refs examples/foreign.scip src/view.ts 2 19{n}{n}\
-    Status: 0 the places are printed, 1 the index or the path is refused, 2 the command line is refused,{n}\
-    3 a file can't be read or standard output takes nothing, 4 memory ran out";
+    Status: 0 the locations are printed, 1 the index or the path is rejected,{n}\
+    2 the command line is invalid, 3 a file can't be read or standard output can't be written,{n}\
+    4 out of memory";
 
 pub(crate) const SYMBOL_END: &str =
     "Example: oscip symbol examples/foreign.scip src/view.ts 2 19{n}{n}\
-    Status: 0 the text is printed, or there is no symbol, 1 the index or the path is refused,{n}\
-    2 the command line is refused, 3 a file can't be read or standard output takes nothing,{n}\
-    4 memory ran out";
+    Status: 0 the text is printed, or there is no symbol, 1 the index or the path is rejected,{n}\
+    2 the command line is invalid, 3 a file can't be read or standard output can't be written,{n}\
+    4 out of memory";
 
 pub(crate) const SYMBOLS_END: &str = "Example: oscip symbols examples/foreign.scip{n}{n}\
-    Status: 0 the symbols are printed, 1 the index or the path is refused,{n}\
-    2 the command line is refused, 3 a file can't be read or standard output takes nothing,{n}\
-    4 memory ran out";
+    Status: 0 the symbols are printed, 1 the index or the path is rejected,{n}\
+    2 the command line is invalid, 3 a file can't be read or standard output can't be written,{n}\
+    4 out of memory";
