@@ -1,0 +1,5 @@
+pub mod ContentFaults
+pub mod Entries
+pub mod Faults
+pub mod Replacements
+pub mod StepFaults
