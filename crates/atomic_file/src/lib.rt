@@ -6,6 +6,8 @@
 
 mod file_system;
 mod replace;
+mod std_files;
 
 pub use file_system::{Content, ContentFault, FileFault, FileKind, FileSystem};
 pub use replace::{ReplaceFault, replace_file};
+pub use std_files::{StdFile, StdFiles};
