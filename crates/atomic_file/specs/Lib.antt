@@ -1,4 +1,3 @@
-pub mod ContentFaults
 pub mod Entries
 pub mod Faults
 pub mod Replacements

@@ -1,6 +1,5 @@
 -- What the replacement of a file's content does to the paths of a file system.
-use Rattle.std.specs.Prelude.{ℕ, List, ◌++◌, Option, codes}
-use Rattle.std.specs.Io.KnownBytes.{Appends}
+use Rattle.std.specs.Prelude.{◌≡◌, ◌≢◌, ℕ, List, [], ◌++◌, Option, Some, codes}
 use Rattle.atomic_file.specs.Entries.{Entry, Missing, File, Link, Other, RenamedTo}
 
 -- the path of the file that a path stands for: where a link leads, or the path itself
@@ -22,12 +21,20 @@ IsFile Other = ⊥
 abbrev pub CanBeReplaced : (List ℕ → Entry) → List ℕ → Type 0
 CanBeReplaced entries path = elim (entries path) [ Missing ↦ Unit {0} | File bytes ↦ Unit {0} | Link target ↦ IsFile (entries target) | Other ↦ ⊥ ]
 
--- a sink took bytes that are the whole content
-abbrev pub Writes : (List ℕ → Type 0) → Option (List ℕ) → Option (List ℕ) → Type 0
-Writes IsWhole old new = (bytes : List ℕ) × IsWhole bytes × Appends old new bytes
+-- the writer returned so, of some file as it was before and after its call
+abbrev pub IsReturned : {F : Type 0} → (F → F → Type 0) → Type 0
+IsReturned {F} Returns = (before after : F) × Returns before after
 
--- these bytes are the whole content, and where it is known what paths name, the new file with them was renamed to this path
-pub record IsRenamed (IsKnown : Type 0) (old new : List ℕ → Entry) (partial target : List ℕ) (IsWhole : List ℕ → Type 0) : Type 0 where
-  pub bytes : List ℕ
-  pub is_whole : IsWhole bytes
-  pub renamed : IsKnown → RenamedTo old new partial target bytes
+-- the writer was called on an empty file and returned so, and these bytes are what the file then had
+pub record IsWritten {F : Type 0} (IsKnown : Type 0) (taken : F → Option (List ℕ)) (Returns : F → F → Type 0) (bytes : Option (List ℕ)) : Type 0 where
+  pub before : F
+  pub after : F
+  pub is_empty : IsKnown → taken before ≡ Some []
+  pub returned : Returns before after
+  pub bytes_are : taken after ≡ bytes
+
+-- the new file was renamed to the target, with the bytes that the writer left in it, which was empty
+pub record IsRenamed {F : Type 0} (IsKnown : Type 0) (old new : List ℕ → Entry) (partial target : List ℕ) (taken : F → Option (List ℕ)) (Returns : F → F → Type 0) : Type 0 where
+  pub bytes : Option (List ℕ)
+  pub is_written : IsWritten IsKnown taken Returns bytes
+  pub renamed : (known : List ℕ) → IsKnown → bytes ≡ Some known → RenamedTo old new partial target known

@@ -1,9 +1,7 @@
 //! What the replacement of a file needs of a file system and of the content's writer.
-ghost use Rattle.std.specs.Prelude.{◌≡◌, ℕ, List, [], Some, OnOk, IfErr, IfOk, IsTrue, OnErr};
+ghost use Rattle.std.specs.Prelude.{◌≡◌, ℕ, List, [], Some, OnOk, IfOk, IsTrue, OnErr};
 ghost use Rattle.std.specs.String.{string_bytes};
 ghost use Rattle.atomic_file.specs.Entries.{Entry, Link, IsFileOrMissing, KeepsAll, KeepsOthers, RenamedTo, kind_of};
-ghost use Rattle.atomic_file.specs.ContentFaults.{IsContentFaultOf};
-ghost use Rattle.atomic_file.specs.Replacements.{Writes};
 
 use byte_sink::Sink;
 use std::alloc::Global;
@@ -114,25 +112,4 @@ pub enum ContentFault<E> {
     Device,
     /// The content's own fault.
     Other(E),
-}
-
-/// What writes a file's content.
-pub trait Content {
-    /// Why there is no content.
-    type Fault: Drop;
-
-    /// Whether it may be written.
-    ghost can_write: { Self → Type 0 };
-
-    /// These bytes are the whole content.
-    ghost is_whole: { Self → List ℕ → Type 0 };
-
-    /// This fault is one of the content.
-    ghost has_fault: { Self → Self.Fault → Type 0 };
-
-    /// Writes the whole content to the sink.
-    fn write<S: Sink>(&mut self, sink: &mut S) -> Result<(), ContentFault<Self::Fault>>
-        requires can { can_write self.old }
-        ensures whole { OnOk result (Writes (is_whole self.old) (S.taken sink.old) (S.taken sink.new)) }
-        ensures fault { IfErr result (IsContentFaultOf (has_fault self.old)) };
 }

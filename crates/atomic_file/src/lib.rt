@@ -8,6 +8,6 @@ mod file_system;
 mod replace;
 mod std_files;
 
-pub use file_system::{Content, ContentFault, FileFault, FileKind, FileSystem};
+pub use file_system::{ContentFault, FileFault, FileKind, FileSystem};
 pub use replace::{ReplaceFault, replace_file};
 pub use std_files::{StdFile, StdFiles};

@@ -1,13 +1,14 @@
 //! The replacement of a file's content.
-ghost use Rattle.std.specs.Prelude.{◌≡◌, ◌≢◌, ℕ, List, Some, OnOk, OnErr, IfErr, IfOk, IfSome, IsErrAnd};
+ghost use Rattle.std.specs.Fn.{FnOnceReturnsAtMut};
+ghost use Rattle.std.specs.Prelude.{◌≡◌, ◌≢◌, Err, Ok, OnOk, OnErr, IfErr, IfOk, IfSome, IsErrAnd};
 ghost use Rattle.std.specs.String.{string_bytes};
 ghost use Rattle.atomic_file.specs.Entries.{IsFileOrMissing, KeepsAll, KeepsOthers};
+ghost use Rattle.atomic_file.specs.declared.file_system.ContentFault.TheVariants.{Other};
 ghost use Rattle.atomic_file.specs.Faults.{HasPath, IsFaultOf, IsMemory, IsOfTarget};
 ghost use Rattle.atomic_file.specs.StepFaults.{IsStepFaultOf};
-ghost use Rattle.atomic_file.specs.Replacements.{CanBeReplaced, IsRenamed, Writes, partial_path, target_of};
+ghost use Rattle.atomic_file.specs.Replacements.{CanBeReplaced, IsRenamed, IsReturned, IsWritten, partial_path, target_of};
 
-use crate::{Content, ContentFault, FileFault, FileKind, FileSystem};
-use byte_sink::Sink;
+use crate::{ContentFault, FileFault, FileKind, FileSystem};
 use std::alloc::Global;
 
 /// What the path of a new file has after that of the file which it is to replace.
@@ -131,40 +132,48 @@ fn open_new<F: FileSystem>(files: &mut F, paths: &Paths) -> Option<F::NewFile>
     }
 }
 
-/// Writes the whole content to the new file.
-fn write_content<S: Sink, C: Content>(
-    content: &mut C,
-    file: &mut S,
-) -> Result<(), StepFault<C::Fault>>
-    requires { C.can_write content.old }
-    ensures whole { OnOk result (Writes (C.is_whole content.old) (S.taken file.old) (S.taken file.new)) }
-    ensures fault { IfErr result (IsStepFaultOf (C.has_fault content.old)) }
+/// Calls what writes the content of a file.
+fn call<F, R, W: FnOnce(&mut F) -> R>(file: &mut F, write: W) -> R
+    requires { W.IsAlwaysCallable write }
+    ensures { FnOnceReturnsAtMut W.FnOnce write file.old result file.new }
 {
-    match content.write(file) {
+    write(file)
+}
+
+/// Writes the content of the new file.
+fn write_content<F, E: Drop, W: FnOnce(&mut F) -> Result<(), ContentFault<E>>>(
+    file: &mut F,
+    write: W,
+) -> Result<(), StepFault<E>>
+    requires { W.IsAlwaysCallable write }
+    ensures returned { OnOk result (FnOnceReturnsAtMut W.FnOnce write file.old (Ok tt) file.new) }
+    ensures fault { IfErr result (IsStepFaultOf (λ fault. IsReturned (λ before after. FnOnceReturnsAtMut W.FnOnce write before (Err (Other fault)) after))) }
+{
+    match call(file, write) {
         Ok(()) => Ok(()),
         Err(ContentFault::Device) => Err(StepFault::Partial),
         Err(ContentFault::Other(fault)) => Err(StepFault::Content(fault)),
     }
 }
 
-/// Writes the whole content to the new file, syncs it, and gives it the attributes of the target. The path of the new file names it
-/// before it is emptied, and at the end.
-fn write_new<F: FileSystem, C: Content>(
+/// Empties the new file, calls what writes its content, syncs it, and gives it the attributes of the target. The path of the new file
+/// names it before it is emptied, and at the end.
+fn write_new<F: FileSystem, E: Drop, W: FnOnce(&mut F::NewFile) -> Result<(), ContentFault<E>>>(
     files: &F,
     paths: &Paths,
     file: &mut F::NewFile,
-    content: &mut C,
-) -> Result<(), StepFault<C::Fault>>
-    requires can { C.can_write content.old }
+    write: W,
+) -> Result<(), StepFault<E>>
+    requires can { W.IsAlwaysCallable write }
     requires named { F.is_named files.now (string_bytes paths.now.partial) file.old }
     ensures synced { OnOk result (F.is_synced file.new) }
     ensures like { OnOk result (F.is_like files.now (string_bytes paths.now.target) file.new) }
     ensures named { OnOk result (F.is_named files.now (string_bytes paths.now.partial) file.new) }
-    ensures whole { OnOk result ((bytes : List ℕ) × C.is_whole content.old bytes × (F.is_known → F.NewFile.taken file.new ≡ Some bytes)) }
-    ensures fault { IfErr result (IsStepFaultOf (C.has_fault content.old)) }
+    ensures written { OnOk result (IsWritten F.is_known F.NewFile.taken (λ before after. FnOnceReturnsAtMut W.FnOnce write before (Ok tt) after) (F.NewFile.taken file.new)) }
+    ensures fault { IfErr result (IsStepFaultOf (λ fault. IsReturned (λ before after. FnOnceReturnsAtMut W.FnOnce write before (Err (Other fault)) after))) }
 {
     files.empty(paths.partial.as_str(), file, paths.is_file)?;
-    write_content(content, file)?;
+    write_content(file, write)?;
     files.sync(file)?;
     files.copy_attributes(paths.target.as_str(), file)?;
     if files.names(paths.partial.as_str(), file) {
@@ -185,46 +194,49 @@ fn remove_new<F: FileSystem>(files: &mut F, paths: &Paths, file: &F::NewFile)
 }
 
 /// Writes the whole content to the new file and renames it to the target. Removes it after a fault.
-fn write_and_rename<F: FileSystem, C: Content>(
-    files: &mut F,
-    paths: &Paths,
-    mut file: F::NewFile,
-    content: &mut C,
-) -> Result<(), StepFault<C::Fault>>
-    requires can { C.can_write content.old }
+fn write_and_rename<
+    F: FileSystem,
+    E: Drop,
+    W: FnOnce(&mut F::NewFile) -> Result<(), ContentFault<E>>,
+>(files: &mut F, paths: &Paths, mut file: F::NewFile, write: W) -> Result<(), StepFault<E>>
+    requires can { W.IsAlwaysCallable write }
     requires named { F.is_named files.old (string_bytes paths.now.partial) file }
     requires kind { F.is_known → IsFileOrMissing (F.entry_at files.old (string_bytes paths.now.target)) }
-    ensures renamed { OnOk result (IsRenamed F.is_known (F.entry_at files.old) (F.entry_at files.new) (string_bytes paths.now.partial) (string_bytes paths.now.target) (C.is_whole content.old)) }
+    ensures renamed { OnOk result (IsRenamed F.is_known (F.entry_at files.old) (F.entry_at files.new) (string_bytes paths.now.partial) (string_bytes paths.now.target) F.NewFile.taken (λ before after. FnOnceReturnsAtMut W.FnOnce write before (Ok tt) after)) }
     ensures others { OnErr result (F.is_known → KeepsOthers (F.entry_at files.old) (F.entry_at files.new) (string_bytes paths.now.partial)) }
-    ensures fault { IfErr result (IsStepFaultOf (C.has_fault content.old)) }
+    ensures fault { IfErr result (IsStepFaultOf (λ fault. IsReturned (λ before after. FnOnceReturnsAtMut W.FnOnce write before (Err (Other fault)) after))) }
 {
-    let ended = match write_new(files, paths, &mut file, content) {
-        Ok(()) => files
-            .rename(paths.partial.as_str(), &file, paths.target.as_str())
-            .map_err(|_| StepFault::Target),
-        Err(fault) => Err(fault),
-    };
-    if ended.is_err() {
-        remove_new(files, paths, &file);
+    match write_new(files, paths, &mut file, write) {
+        Ok(()) => {}
+        Err(fault) => {
+            remove_new(files, paths, &file);
+            return Err(fault);
+        }
     }
-    ended
+    match files.rename(paths.partial.as_str(), &file, paths.target.as_str()) {
+        Ok(()) => Ok(()),
+        Err(_) => {
+            remove_new(files, paths, &file);
+            Err(StepFault::Target)
+        }
+    }
 }
 
 /// Replaces the target's content.
-fn replace_target<F: FileSystem, C: Content>(
-    files: &mut F,
-    paths: &Paths,
-    content: &mut C,
-) -> Result<(), StepFault<C::Fault>>
-    requires can { C.can_write content.old }
+fn replace_target<
+    F: FileSystem,
+    E: Drop,
+    W: FnOnce(&mut F::NewFile) -> Result<(), ContentFault<E>>,
+>(files: &mut F, paths: &Paths, write: W) -> Result<(), StepFault<E>>
+    requires can { W.IsAlwaysCallable write }
     requires other { string_bytes paths.now.target ≢ string_bytes paths.now.partial }
     requires kind { F.is_known → IsFileOrMissing (F.entry_at files.old (string_bytes paths.now.target)) }
-    ensures renamed { OnOk result (IsRenamed F.is_known (F.entry_at files.old) (F.entry_at files.new) (string_bytes paths.now.partial) (string_bytes paths.now.target) (C.is_whole content.old)) }
+    ensures renamed { OnOk result (IsRenamed F.is_known (F.entry_at files.old) (F.entry_at files.new) (string_bytes paths.now.partial) (string_bytes paths.now.target) F.NewFile.taken (λ before after. FnOnceReturnsAtMut W.FnOnce write before (Ok tt) after)) }
     ensures others { OnErr result (F.is_known → KeepsOthers (F.entry_at files.old) (F.entry_at files.new) (string_bytes paths.now.partial)) }
-    ensures fault { IfErr result (IsStepFaultOf (C.has_fault content.old)) }
+    ensures fault { IfErr result (IsStepFaultOf (λ fault. IsReturned (λ before after. FnOnceReturnsAtMut W.FnOnce write before (Err (Other fault)) after))) }
 {
     match open_new(files, paths) {
-        Some(file) => write_and_rename(files, paths, file, content),
+        Some(file) => write_and_rename(files, paths, file, write),
         None => Err(StepFault::Partial),
     }
 }
@@ -232,16 +244,15 @@ fn replace_target<F: FileSystem, C: Content>(
 /// Replaces the content of the file with this path as a whole. If the path names a link, the file that it leads to is replaced, and
 /// the link stays. The new file is written beside it, with `.oscip-partial` after its path, and renamed once it was synced; after a
 /// fault it is removed. Returns `Target` with nothing made if the path names anything but a file, a link to one, or nothing.
-pub fn replace_file<F: FileSystem, C: Content>(
-    alloc: Global,
-    files: &mut F,
-    path: &str,
-    content: &mut C,
-) -> Result<(), ReplaceFault<C::Fault>>
-    requires { C.can_write content.old }
+pub fn replace_file<
+    F: FileSystem,
+    E: Drop,
+    W: FnOnce(&mut F::NewFile) -> Result<(), ContentFault<E>>,
+>(alloc: Global, files: &mut F, path: &str, write: W) -> Result<(), ReplaceFault<E>>
+    requires { W.IsAlwaysCallable write }
     // At Ok the file has the whole content, and nothing else changed but that no path names the new file.
     ensures replaced { OnOk result (IsRenamed F.is_known (F.entry_at files.old) (F.entry_at files.new)
-        (partial_path (target_of (F.entry_at files.old) path.now)) (target_of (F.entry_at files.old) path.now) (C.is_whole content.old)) }
+        (partial_path (target_of (F.entry_at files.old) path.now)) (target_of (F.entry_at files.old) path.now) F.NewFile.taken (λ before after. FnOnceReturnsAtMut W.FnOnce write before (Ok tt) after)) }
     // After a fault each path but that of the new file names what it named.
     ensures kept { OnErr result (F.is_known → KeepsOthers (F.entry_at files.old) (F.entry_at files.new)
         (partial_path (target_of (F.entry_at files.old) path.now))) }
@@ -250,7 +261,7 @@ pub fn replace_file<F: FileSystem, C: Content>(
     // If an allocation of its own failed, nothing changed.
     ensures memory { IfErr result (λ fault. IsMemory fault → F.is_known → KeepsAll (F.entry_at files.old) (F.entry_at files.new)) }
     // A fault of the content is one that the content has.
-    ensures content { IfErr result (IsFaultOf (C.has_fault content.old)) }
+    ensures content { IfErr result (IsFaultOf (λ fault. IsReturned (λ before after. FnOnceReturnsAtMut W.FnOnce write before (Err (Other fault)) after))) }
     // The path in a fault is that of the new file.
     ensures partial { IfErr result (λ fault. F.is_known → HasPath fault (partial_path (target_of (F.entry_at files.old) path.now))) }
 {
@@ -259,7 +270,7 @@ pub fn replace_file<F: FileSystem, C: Content>(
         Err(FileFault::Memory) => return Err(ReplaceFault::Memory),
         Err(FileFault::System) => return Err(ReplaceFault::Target),
     };
-    match replace_target(files, &paths, content) {
+    match replace_target(files, &paths, write) {
         Ok(()) => Ok(()),
         Err(StepFault::Target) => Err(ReplaceFault::Target),
         Err(StepFault::Partial) => Err(ReplaceFault::Partial {

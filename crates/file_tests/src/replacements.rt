@@ -1,38 +1,21 @@
 //! One step of a replacement is refused, and the next replacement succeeds.
 
-use crate::fake_files::{FakeFiles, OUT, PARTIAL, TARGET};
-use atomic_file::{Content, ContentFault, ReplaceFault, replace_file};
-use byte_sink::{Sink, SinkFault, put_all};
+use crate::fake_files::{FakeFile, FakeFiles, OUT, PARTIAL, TARGET};
+use atomic_file::{ContentFault, ReplaceFault, replace_file};
+use byte_sink::{SinkFault, put_all};
 use std::alloc::{AllocError, Global};
 use std::sync::atomic::{AtomicU64, Ordering};
 use std::test::Fail;
 
-/// A content, which may fail once it is written.
-#[derive(Drop)]
-struct Text {
-    fails: bool,
-}
-
 const WHOLE: &[u8] = b"new";
 
-impl Content for Text {
-    type Fault = SinkFault;
-
-    ghost use Rattle.std.specs.Prelude.{◌≡◌, codes};
-
-    ghost can_write = { λ _. Unit {0} };
-
-    ghost is_whole = { λ _ bytes. bytes ≡ codes "new" };
-
-    ghost has_fault = { λ _ _. Unit {0} };
-
-    fn write<S: Sink>(&mut self, sink: &mut S) -> Result<(), ContentFault<SinkFault>> {
-        match put_all(sink, b"new") {
-            Ok(()) if self.fails => Err(ContentFault::Other(SinkFault::Memory)),
-            Ok(()) => Ok(()),
-            Err(SinkFault::Device) => Err(ContentFault::Device),
-            Err(fault) => Err(ContentFault::Other(fault)),
-        }
+/// Writes a content, which may fail once it is written.
+fn write_whole(file: &mut FakeFile, fails: bool) -> Result<(), ContentFault<SinkFault>> {
+    match put_all(file, WHOLE) {
+        Ok(()) if fails => Err(ContentFault::Other(SinkFault::Memory)),
+        Ok(()) => Ok(()),
+        Err(SinkFault::Device) => Err(ContentFault::Device),
+        Err(fault) => Err(ContentFault::Other(fault)),
     }
 }
 
@@ -85,7 +68,13 @@ fn is_content(content: &Option<Vec<u8>>, wanted: Option<&[u8]>) -> bool {
 /// Replaces the file, by its path or by the link. How it ended.
 fn replace(files: &mut FakeFiles, fails: bool) -> &'static str {
     let path = if files.is_link { OUT } else { TARGET };
-    match replace_file(files.alloc, files, path, &mut Text { fails }) {
+    let alloc = files.alloc;
+    match replace_file(
+        alloc,
+        files,
+        path,
+        |file: &mut FakeFile| write_whole(file, fails),
+    ) {
         Ok(()) => "written",
         Err(ReplaceFault::Target) => "target",
         Err(ReplaceFault::Partial { path }) if path.as_str() == PARTIAL => "partial",

@@ -1,5 +1,5 @@
 //! The program: reads files, runs one engine on the real standard output, and ends with a status.
-//! Stands on `oscip_job` for the command line, on `oscip_run` for the files, the engines and the faults, and on `index_run` for the engines that index.
+//! Stands on `atomic_file` for a file that is replaced as a whole, on `oscip_job` for the command line, on `oscip_run` for the files, the engines and the faults, and on `index_run` for the engines that index.
 //! Its contract: it is safe; what is put, and the status, is what the calls of `oscip_run` and `index_run` promise.
 #![tactic(auto)]
 
@@ -7,6 +7,7 @@ ghost use Rattle.std.specs.String.{string_bytes};
 ghost use Rattle.oscip_tree.specs.Sources.{ArePathsInOrder};
 ghost use Rattle.oscip_job.specs.Jobs.{HasPackage, HasWorkers, IsPackage, MayWork};
 
+use atomic_file::{ContentFault, ReplaceFault, StdFile, StdFiles, replace_file};
 use byte_sink::{Sink, ToWrite};
 use index_run::{
     AcceptedIndex, OpenBoard, answer_index, answer_index_of_accepted, run_unresolved,
@@ -19,7 +20,7 @@ use oscip_run::{
 };
 use oscip_tree::{Source, TreeFault};
 use std::alloc::{AllocError, Global};
-use std::fs::{File, OpenFile};
+use std::fs::File;
 use std::io::ErrorKind;
 use std::process::ExitCode;
 use std::rt::{Env, Files};
@@ -113,88 +114,60 @@ fn make_index<R: AllocGlobal + Threads + Wait + Sync, S: Sink>(
     })
 }
 
-/// Writes an index to a new file, whose path this is, and gives it to the disk.
-fn index_to_new<R: Files + AllocGlobal + Threads + Wait + Sync>(
+/// Writes an index to the sink, and keeps the faults of the files that are left out.
+fn write_index<R: AllocGlobal + Threads + Wait + Sync, S: Sink>(
     rt: &R,
     indexing: &Indexing,
     sources: Vec<Source>,
-    mut file: R::File,
-    path: &str,
-) -> Result<AcceptedIndex, AllocError>
+    sink: &mut S,
+    faults: &mut Vec<TreeFault>,
+) -> Result<(), ContentFault<RunFault>>
     requires in_order { ArePathsInOrder sources.items }
     requires package { IsPackage (string_bytes indexing.now.package) }
     requires workers { MayWork indexing.now.workers }
 {
-    let mut sink = ToWrite::new(&mut file);
-    let AcceptedIndex { faults, ended } = make_index(rt, indexing, sources, &mut sink)?;
-    let ended = match ended {
-        Err(RunFault::Device) => Err(cannot_write(rt.alloc(), path)),
-        Err(fault) => Err(fault),
-        Ok(()) => match file.sync_all() {
-            Ok(()) => Ok(()),
-            Err(_) => Err(cannot_write(rt.alloc(), path)),
-        },
+    let Ok(index) = make_index(rt, indexing, sources, sink) else {
+        return Err(ContentFault::Other(RunFault::Memory));
     };
-    Ok(AcceptedIndex { faults, ended })
-}
-
-/// Puts the file of the first path in the place of that of the second.
-fn put_in_place<R: Files + AllocGlobal>(rt: &R, new: &str, path: &str) -> Result<(), RunFault> {
-    match fs::rename(rt, new, path) {
+    *faults = index.faults;
+    match index.ended {
         Ok(()) => Ok(()),
-        Err(_) => Err(cannot_write(rt.alloc(), path)),
+        Err(RunFault::Device) => Err(ContentFault::Device),
+        Err(fault) => Err(ContentFault::Other(fault)),
     }
 }
 
-/// Whether something stands at this path that isn't a file, as a folder or a device.
-fn is_other<R: Files>(rt: &R, path: &str) -> bool {
-    match fs::metadata(rt, path) {
-        Ok(metadata) => !metadata.is_file(),
-        Err(_) => false,
-    }
-}
-
-/// Writes an index beside the file of this path, whose place it takes once it is whole. What was written is removed if the run fails,
-/// and what isn't a file isn't replaced. Faults are reported once the new file is closed: if standard error isn't open, the file may
-/// have its number, and the index would have the lines.
-fn replace_index<R: Files + AllocGlobal + Eprint + Threads + Wait + Sync>(
+/// Replaces the content of the file of this path by an index.
+fn replace_index<R: Files<File = File> + AllocGlobal + Threads + Wait + Sync>(
     rt: &R,
     indexing: &Indexing,
     sources: Vec<Source>,
     path: &str,
-) -> Result<bool, RunFault>
+) -> AcceptedIndex
     requires in_order { ArePathsInOrder sources.items }
     requires package { IsPackage (string_bytes indexing.now.package) }
     requires workers { MayWork indexing.now.workers }
 {
-    if is_other(rt, path) {
-        return Err(cannot_write(rt.alloc(), path));
-    }
-    let new = format!(in rt.alloc(); "{path}.new")?;
-    let new = new.as_str();
-    let Ok(file) = File::create_new(rt, new) else {
-        return Err(cannot_write(rt.alloc(), new));
+    let alloc = rt.alloc();
+    let mut faults = Vec::new(alloc);
+    let write = |file: &mut StdFile| -> Result<(), ContentFault<RunFault>>
+        requires in_order { ArePathsInOrder sources.items }
+        requires package { IsPackage (string_bytes indexing.now.package) }
+        requires workers { MayWork indexing.now.workers }
+    { write_index(rt, indexing, sources, file, &mut faults) };
+    let ended = match replace_file(alloc, &mut StdFiles(rt), path, write) {
+        Ok(()) => Ok(()),
+        Err(ReplaceFault::Target) => Err(cannot_write(alloc, path)),
+        Err(ReplaceFault::Partial { path }) => Err(RunFault::CannotWrite { path }),
+        Err(ReplaceFault::Content(fault)) => Err(fault),
+        Err(ReplaceFault::Memory) => Err(RunFault::Memory),
     };
-    match index_to_new(rt, indexing, sources, file, new) {
-        Ok(AcceptedIndex { faults, ended }) => {
-            let ended = match ended {
-                Ok(()) => put_in_place(rt, new, path),
-                Err(fault) => Err(fault),
-            };
-            if ended.is_err() {
-                let _ = fs::remove_file(rt, new);
-            }
-            end_of_index(rt, AcceptedIndex { faults, ended })
-        }
-        Err(_) => {
-            let _ = fs::remove_file(rt, new);
-            Err(RunFault::Memory)
-        }
-    }
+    AcceptedIndex { faults, ended }
 }
 
-/// Makes an index that replaces its file as a whole, or from which files are left out. Whether none was left out.
-fn index_as_a_whole<R: Files + AllocGlobal + Eprint + Threads + Wait + Sync, S: Sink>(
+/// Makes an index that replaces its file as a whole, or from which files are left out. Whether none was left out. Faults are reported
+/// once the new file is closed: if standard error isn't open, the file may have its number, and the index would have the lines.
+fn index_as_a_whole<R: Files<File = File> + AllocGlobal + Eprint + Threads + Wait + Sync, S: Sink>(
     rt: &R,
     indexing: &Indexing,
     sources: Vec<Source>,
@@ -205,7 +178,10 @@ fn index_as_a_whole<R: Files + AllocGlobal + Eprint + Threads + Wait + Sync, S: 
     requires workers { MayWork indexing.now.workers }
 {
     match &indexing.output {
-        Output::File(path) => replace_index(rt, indexing, sources, path.as_str()),
+        Output::File(path) => {
+            let index = replace_index(rt, indexing, sources, path.as_str());
+            end_of_index(rt, index)
+        }
         Output::Hex => {
             let index = make_index(rt, indexing, sources, sink)?;
             end_of_index(rt, index)
@@ -214,12 +190,11 @@ fn index_as_a_whole<R: Files + AllocGlobal + Eprint + Threads + Wait + Sync, S: 
 }
 
 /// Makes an index, once all files of its folder are read. False is one from which files were left out.
-fn run_index<R: Files + AllocGlobal + Eprint + Threads + Wait + Sync, F: Reader, S: Sink>(
-    rt: &R,
-    reader: &F,
-    indexing: &Indexing,
-    sink: &mut S,
-) -> Result<bool, RunFault>
+fn run_index<
+    R: Files<File = File> + AllocGlobal + Eprint + Threads + Wait + Sync,
+    F: Reader,
+    S: Sink,
+>(rt: &R, reader: &F, indexing: &Indexing, sink: &mut S) -> Result<bool, RunFault>
     requires package { IsPackage (string_bytes indexing.now.package) }
     requires workers { MayWork indexing.now.workers }
 {
@@ -236,10 +211,9 @@ fn run_index<R: Files + AllocGlobal + Eprint + Threads + Wait + Sync, F: Reader,
 }
 
 /// Runs the job on the real files and the real standard output.
-fn run_job<R: Files + AllocGlobal + Print + Eprint + Threads + Wait + Sync + Clone + Drop>(
-    rt: &R,
-    job: &Job,
-) -> Result<bool, RunFault>
+fn run_job<
+    R: Files<File = File> + AllocGlobal + Print + Eprint + Threads + Wait + Sync + Clone + Drop,
+>(rt: &R, job: &Job) -> Result<bool, RunFault>
     requires workers { HasWorkers job.now }
     requires package { HasPackage job.now }
 {
@@ -265,17 +239,16 @@ fn run_job<R: Files + AllocGlobal + Print + Eprint + Threads + Wait + Sync + Clo
 }
 
 /// Runs the job, tells of its fault, and gives the status of its end.
-fn end_of_job<R: Files + AllocGlobal + Print + Eprint + Threads + Wait + Sync + Clone + Drop>(
-    rt: &R,
-    job: &Job,
-) -> ExitCode
+fn end_of_job<
+    R: Files<File = File> + AllocGlobal + Print + Eprint + Threads + Wait + Sync + Clone + Drop,
+>(rt: &R, job: &Job) -> ExitCode
     requires workers { HasWorkers job.now }
     requires package { HasPackage job.now }
 {
     end_of(rt, &run_job(rt, job))
 }
 
-fn run<R: Files + AllocGlobal + Print + Eprint + Threads + Wait + Sync + Clone + Drop>(
+fn run<R: Files<File = File> + AllocGlobal + Print + Eprint + Threads + Wait + Sync + Clone + Drop>(
     rt: &R,
     words: &[String],
 ) -> ExitCode {
