@@ -86,8 +86,11 @@ fn end_of_index<R: AllocGlobal + Eprint>(rt: &R, index: AcceptedIndex) -> Result
     if report_faults(rt, faults).is_ok() {
         return ended.map(|()| is_none);
     }
-    if let Err(fault) = &ended {
-        let _ = report_fault(rt, fault);
+    match ended {
+        Ok(()) | Err(RunFault::Memory) => {}
+        Err(fault) => {
+            let _ = report_fault(rt, &fault);
+        }
     }
     Err(RunFault::Memory)
 }
