@@ -1,12 +1,14 @@
 //! The program: reads files, runs one engine on the real standard output, and ends with a status.
-//! Stands on `oscip_job` for the command line, on `oscip_run` for the files, the engines and the faults, and on `index_run` for the engines that index.
-//! Its contract: it is safe; what is put, and the status, is what the calls of `oscip_run` and `index_run` promise.
+//! Depends on `oscip_job` for the command line, on `oscip_run` and `index_run` for the engines, the files and the ends of runs, and on
+//! `atomic_file` for an index that replaces its file as a whole.
+//! Its contract: it is safe. What it writes, and its status, is what the calls of these crates promise.
 #![tactic(auto)]
 
 ghost use Rattle.std.specs.String.{string_bytes};
 ghost use Rattle.oscip_tree.specs.Sources.{ArePathsInOrder};
 ghost use Rattle.oscip_job.specs.Jobs.{HasPackage, HasWorkers, IsPackage, MayWork};
 
+use atomic_file::{ContentFault, ReplaceFault, StdFile, StdFiles, replace_file};
 use byte_sink::{Sink, ToWrite};
 use index_run::{
     AcceptedIndex, OpenBoard, answer_index, answer_index_of_accepted, run_unresolved,
@@ -19,7 +21,7 @@ use oscip_run::{
 };
 use oscip_tree::{Source, TreeFault};
 use std::alloc::{AllocError, Global};
-use std::fs::{File, OpenFile};
+use std::fs::File;
 use std::io::ErrorKind;
 use std::process::ExitCode;
 use std::rt::{Env, Files};
@@ -27,7 +29,7 @@ use std::sync::Wait;
 use std::thread::Threads;
 use std::{env, fs, io};
 
-/// Why an index stands nowhere: a file of this path that can't be written, or `Memory`.
+/// The fault of a file with this path that can't be written, or `Memory`.
 fn cannot_write(alloc: Global, path: &str) -> RunFault {
     match String::from_str(alloc, path) {
         Ok(path) => RunFault::CannotWrite { path },
@@ -57,36 +59,48 @@ fn index_to_file<R: Files + AllocGlobal + Threads + Wait + Sync>(
 }
 
 /// Writes the line of a fault to standard error.
-fn report_fault<R: AllocGlobal + Eprint>(rt: &R, fault: &RunFault) -> Result<(), AllocError> {
-    let line = fault_line(rt.alloc(), fault)?;
-    let _ = eprint!(rt; "{line}");
+fn report_fault<E: Sink>(
+    alloc: Global,
+    fault: &RunFault,
+    stderr: &mut Stream<E>,
+) -> Result<(), AllocError> {
+    let line = fault_line(alloc, fault)?;
+    let _ = stderr.write(line.as_str());
     Ok(())
 }
 
 /// Writes the lines of these faults to standard error. If memory for one runs out, the others are still written.
-fn report_faults<R: AllocGlobal + Eprint>(
-    rt: &R,
+fn report_faults<E: Sink>(
+    alloc: Global,
     faults: Vec<TreeFault>,
+    stderr: &mut Stream<E>,
 ) -> Result<(), AllocError> {
     let mut reported = Ok(());
     for fault in faults {
-        if report_fault(rt, &RunFault::from(fault)).is_err() {
+        if report_fault(alloc, &RunFault::from(fault), stderr).is_err() {
             reported = Err(AllocError);
         }
     }
     reported
 }
 
-/// Reports the faults of the files that were left out. Whether there is none, if the run on the others ended well. If memory for a line
-/// runs out, a fault of that run is still reported, and the run ends with Memory.
-fn end_of_index<R: AllocGlobal + Eprint>(rt: &R, index: AcceptedIndex) -> Result<bool, RunFault> {
+/// Reports the faults of the files that were left out. Returns whether there is none, if the run on the others ended well. If memory for
+/// a line runs out, a fault of that run is still reported, and the run ends with Memory.
+fn end_of_index<E: Sink>(
+    alloc: Global,
+    index: AcceptedIndex,
+    stderr: &mut Stream<E>,
+) -> Result<bool, RunFault> {
     let AcceptedIndex { faults, ended } = index;
     let is_none = faults.is_empty();
-    if report_faults(rt, faults).is_ok() {
+    if report_faults(alloc, faults, stderr).is_ok() {
         return ended.map(|()| is_none);
     }
-    if let Err(fault) = &ended {
-        let _ = report_fault(rt, fault);
+    match ended {
+        Ok(()) | Err(RunFault::Memory) => {}
+        Err(fault) => {
+            let _ = report_fault(alloc, &fault, stderr);
+        }
     }
     Err(RunFault::Memory)
 }
@@ -113,119 +127,101 @@ fn make_index<R: AllocGlobal + Threads + Wait + Sync, S: Sink>(
     })
 }
 
-/// Writes an index to a new file, whose path this is, and gives it to the disk.
-fn index_to_new<R: Files + AllocGlobal + Threads + Wait + Sync>(
-    rt: &R,
-    indexing: &Indexing,
-    sources: Vec<Source>,
-    mut file: R::File,
-    path: &str,
-) -> Result<AcceptedIndex, AllocError>
-    requires in_order { ArePathsInOrder sources.items }
-    requires package { IsPackage (string_bytes indexing.now.package) }
-    requires workers { MayWork indexing.now.workers }
-{
-    let mut sink = ToWrite::new(&mut file);
-    let AcceptedIndex { faults, ended } = make_index(rt, indexing, sources, &mut sink)?;
-    let ended = match ended {
-        Err(RunFault::Device) => Err(cannot_write(rt.alloc(), path)),
-        Err(fault) => Err(fault),
-        Ok(()) => match file.sync_all() {
-            Ok(()) => Ok(()),
-            Err(_) => Err(cannot_write(rt.alloc(), path)),
-        },
-    };
-    Ok(AcceptedIndex { faults, ended })
-}
-
-/// Puts the file of the first path in the place of that of the second.
-fn put_in_place<R: Files + AllocGlobal>(rt: &R, new: &str, path: &str) -> Result<(), RunFault> {
-    match fs::rename(rt, new, path) {
-        Ok(()) => Ok(()),
-        Err(_) => Err(cannot_write(rt.alloc(), path)),
-    }
-}
-
-/// Whether something stands at this path that isn't a file, as a folder or a device.
-fn is_other<R: Files>(rt: &R, path: &str) -> bool {
-    match fs::metadata(rt, path) {
-        Ok(metadata) => !metadata.is_file(),
-        Err(_) => false,
-    }
-}
-
-/// Writes an index beside the file of this path, whose place it takes once it is whole. What was written is removed if the run fails,
-/// and what isn't a file isn't replaced. Faults are reported once the new file is closed: if standard error isn't open, the file may
-/// have its number, and the index would have the lines.
-fn replace_index<R: Files + AllocGlobal + Eprint + Threads + Wait + Sync>(
-    rt: &R,
-    indexing: &Indexing,
-    sources: Vec<Source>,
-    path: &str,
-) -> Result<bool, RunFault>
-    requires in_order { ArePathsInOrder sources.items }
-    requires package { IsPackage (string_bytes indexing.now.package) }
-    requires workers { MayWork indexing.now.workers }
-{
-    if is_other(rt, path) {
-        return Err(cannot_write(rt.alloc(), path));
-    }
-    let new = format!(in rt.alloc(); "{path}.new")?;
-    let new = new.as_str();
-    let Ok(file) = File::create_new(rt, new) else {
-        return Err(cannot_write(rt.alloc(), new));
-    };
-    match index_to_new(rt, indexing, sources, file, new) {
-        Ok(AcceptedIndex { faults, ended }) => {
-            let ended = match ended {
-                Ok(()) => put_in_place(rt, new, path),
-                Err(fault) => Err(fault),
-            };
-            if ended.is_err() {
-                let _ = fs::remove_file(rt, new);
-            }
-            end_of_index(rt, AcceptedIndex { faults, ended })
-        }
-        Err(_) => {
-            let _ = fs::remove_file(rt, new);
-            Err(RunFault::Memory)
-        }
-    }
-}
-
-/// Makes an index that replaces its file as a whole, or from which files are left out. Whether none was left out.
-fn index_as_a_whole<R: Files + AllocGlobal + Eprint + Threads + Wait + Sync, S: Sink>(
+/// Writes an index to the sink, and keeps the faults of the files that are left out.
+fn write_index<R: AllocGlobal + Threads + Wait + Sync, S: Sink>(
     rt: &R,
     indexing: &Indexing,
     sources: Vec<Source>,
     sink: &mut S,
+    faults: &mut Vec<TreeFault>,
+) -> Result<(), ContentFault<RunFault>>
+    requires in_order { ArePathsInOrder sources.items }
+    requires package { IsPackage (string_bytes indexing.now.package) }
+    requires workers { MayWork indexing.now.workers }
+{
+    let Ok(index) = make_index(rt, indexing, sources, sink) else {
+        return Err(ContentFault::Other(RunFault::Memory));
+    };
+    *faults = index.faults;
+    match index.ended {
+        Ok(()) => Ok(()),
+        Err(RunFault::Device) => Err(ContentFault::Device),
+        Err(fault) => Err(ContentFault::Other(fault)),
+    }
+}
+
+/// Replaces the content of the file of this path by an index.
+fn replace_index<R: Files<File = File> + AllocGlobal + Threads + Wait + Sync>(
+    rt: &R,
+    indexing: &Indexing,
+    sources: Vec<Source>,
+    path: &str,
+) -> AcceptedIndex
+    requires in_order { ArePathsInOrder sources.items }
+    requires package { IsPackage (string_bytes indexing.now.package) }
+    requires workers { MayWork indexing.now.workers }
+{
+    let alloc = rt.alloc();
+    let mut faults = Vec::new(alloc);
+    let write = |file: &mut StdFile| -> Result<(), ContentFault<RunFault>>
+        requires in_order { ArePathsInOrder sources.items }
+        requires package { IsPackage (string_bytes indexing.now.package) }
+        requires workers { MayWork indexing.now.workers }
+    { write_index(rt, indexing, sources, file, &mut faults) };
+    let ended = match replace_file(alloc, &mut StdFiles(rt), path, write) {
+        Ok(()) => Ok(()),
+        Err(ReplaceFault::Target) => Err(cannot_write(alloc, path)),
+        Err(ReplaceFault::Partial { path }) => Err(RunFault::CannotWrite { path }),
+        Err(ReplaceFault::Content(fault)) => Err(fault),
+        Err(ReplaceFault::Memory) => Err(RunFault::Memory),
+    };
+    AcceptedIndex { faults, ended }
+}
+
+/// Makes an index that replaces its file as a whole, or from which files are left out. Returns whether none was left out. Faults are
+/// reported once the new file is closed: if standard error isn't open, the file may have its number, and the index would get the lines.
+fn index_as_a_whole<R: Files<File = File> + AllocGlobal + Threads + Wait + Sync, S: Sink, E: Sink>(
+    rt: &R,
+    indexing: &Indexing,
+    sources: Vec<Source>,
+    sink: &mut S,
+    stderr: &mut Stream<E>,
 ) -> Result<bool, RunFault>
     requires in_order { ArePathsInOrder sources.items }
     requires package { IsPackage (string_bytes indexing.now.package) }
     requires workers { MayWork indexing.now.workers }
 {
     match &indexing.output {
-        Output::File(path) => replace_index(rt, indexing, sources, path.as_str()),
+        Output::File(path) => {
+            let index = replace_index(rt, indexing, sources, path.as_str());
+            end_of_index(rt.alloc(), index, stderr)
+        }
         Output::Hex => {
             let index = make_index(rt, indexing, sources, sink)?;
-            end_of_index(rt, index)
+            end_of_index(rt.alloc(), index, stderr)
         }
     }
 }
 
 /// Makes an index, once all files of its folder are read. False is one from which files were left out.
-fn run_index<R: Files + AllocGlobal + Eprint + Threads + Wait + Sync, F: Reader, S: Sink>(
+fn run_index<
+    R: Files<File = File> + AllocGlobal + Threads + Wait + Sync,
+    F: Reader,
+    S: Sink,
+    E: Sink,
+>(
     rt: &R,
     reader: &F,
     indexing: &Indexing,
     sink: &mut S,
+    stderr: &mut Stream<E>,
 ) -> Result<bool, RunFault>
     requires package { IsPackage (string_bytes indexing.now.package) }
     requires workers { MayWork indexing.now.workers }
 {
     let sources = sources_to_index(reader, indexing)?;
     if indexing.is_atomic {
-        return index_as_a_whole(rt, indexing, sources, sink);
+        return index_as_a_whole(rt, indexing, sources, sink, stderr);
     }
     let sources = sources.as_slice();
     match &indexing.output {
@@ -236,10 +232,10 @@ fn run_index<R: Files + AllocGlobal + Eprint + Threads + Wait + Sync, F: Reader,
 }
 
 /// Runs the job on the real files and the real standard output.
-fn run_job<R: Files + AllocGlobal + Print + Eprint + Threads + Wait + Sync + Clone + Drop>(
-    rt: &R,
-    job: &Job,
-) -> Result<bool, RunFault>
+fn run_job<
+    R: Files<File = File> + AllocGlobal + Print + Threads + Wait + Sync + Clone + Drop,
+    E: Sink,
+>(rt: &R, job: &Job, stderr: &mut Stream<E>) -> Result<bool, RunFault>
     requires workers { HasWorkers job.now }
     requires package { HasPackage job.now }
 {
@@ -257,7 +253,7 @@ fn run_job<R: Files + AllocGlobal + Print + Eprint + Threads + Wait + Sync + Clo
         Job::Ask { index, question } => {
             run_question(rt.alloc(), &reader, index.as_str(), question, &mut sink)
         }
-        Job::Index(indexing) => run_index(rt, &reader, indexing, &mut sink),
+        Job::Index(indexing) => run_index(rt, &reader, indexing, &mut sink, stderr),
         Job::Unresolved { folder } => {
             run_unresolved(rt, rt.alloc(), &reader, folder.as_str(), &mut sink)
         }
@@ -266,13 +262,14 @@ fn run_job<R: Files + AllocGlobal + Print + Eprint + Threads + Wait + Sync + Clo
 
 /// Runs the job, reports its fault, and returns the status.
 fn end_of_job<
-    R: Files + AllocGlobal + Print + Eprint + Threads + Wait + Sync + Clone + Drop,
+    R: Files<File = File> + AllocGlobal + Print + Threads + Wait + Sync + Clone + Drop,
     E: Sink,
 >(rt: &R, job: &Job, stderr: &mut Stream<E>) -> ExitCode
     requires workers { HasWorkers job.now }
     requires package { HasPackage job.now }
 {
-    end_of(rt.alloc(), &run_job(rt, job), stderr)
+    let ended = run_job(rt, job, stderr);
+    end_of(rt.alloc(), &ended, stderr)
 }
 
 /// Reports why there is no job, or writes the help, and returns the status.
@@ -285,7 +282,7 @@ fn end_of_words<R: AllocGlobal + Print, E: Sink>(
     end_without_job(rt.alloc(), fault, &mut stdout, stderr)
 }
 
-fn run<R: Files + AllocGlobal + Print + Eprint + Threads + Wait + Sync + Clone + Drop, E: Sink>(
+fn run<R: Files<File = File> + AllocGlobal + Print + Threads + Wait + Sync + Clone + Drop, E: Sink>(
     rt: &R,
     words: &[String],
     stderr: &mut Stream<E>,
@@ -296,7 +293,7 @@ fn run<R: Files + AllocGlobal + Print + Eprint + Threads + Wait + Sync + Clone +
     }
 }
 
-/// Why there is no job where a word of the command line isn't UTF-8.
+/// Why there is no job if a word of the command line isn't UTF-8.
 fn not_words(alloc: Global) -> JobFault {
     match String::from_str(alloc, "error: a word of the command line isn't UTF-8\n") {
         Ok(text) => JobFault::Line { text },

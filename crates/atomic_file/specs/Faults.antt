@@ -1,0 +1,33 @@
+-- What the faults of a replacement say.
+use Rattle.std.specs.Prelude.{◌≡◌, ℕ, List}
+use Rattle.std.specs.String.{string_bytes}
+use Rattle.atomic_file.specs.declared.replace.ReplaceFault.{ReplaceFault}
+use Rattle.atomic_file.specs.declared.replace.ReplaceFault.TheVariants.{Target, Partial, Content, Memory}
+
+-- the path that is to be replaced, or memory
+abbrev pub IsOfTarget : {E : Type 0} → ReplaceFault E → Type 0
+IsOfTarget Target = Unit {0}
+IsOfTarget (Partial path) = ⊥
+IsOfTarget (Content fault) = ⊥
+IsOfTarget Memory = Unit {0}
+
+-- a fault of the new file has this path
+abbrev pub HasPath : {E : Type 0} → ReplaceFault E → List ℕ → Type 0
+HasPath Target path = Unit {0}
+HasPath (Partial it) path = string_bytes it ≡ path
+HasPath (Content fault) path = Unit {0}
+HasPath Memory path = Unit {0}
+
+-- an allocation failed
+abbrev pub IsMemory : {E : Type 0} → ReplaceFault E → Type 0
+IsMemory Target = ⊥
+IsMemory (Partial path) = ⊥
+IsMemory (Content fault) = ⊥
+IsMemory Memory = Unit {0}
+
+-- a fault of the content is one that the content has
+abbrev pub IsFaultOf : {E : Type 0} → (E → Type 0) → ReplaceFault E → Type 0
+IsFaultOf HasFault Target = Unit {0}
+IsFaultOf HasFault (Partial path) = Unit {0}
+IsFaultOf HasFault (Content fault) = HasFault fault
+IsFaultOf HasFault Memory = Unit {0}

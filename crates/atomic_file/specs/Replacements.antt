@@ -1,0 +1,40 @@
+-- What the replacement of a file's content does to the paths of a file system.
+use Rattle.std.specs.Prelude.{◌≡◌, ◌≢◌, ℕ, List, [], ◌++◌, Option, Some, codes}
+use Rattle.atomic_file.specs.Entries.{Entry, Missing, File, Link, Other, RenamedTo}
+
+-- the path of the file that a path stands for: where a link leads, or the path itself
+abbrev pub target_of : (List ℕ → Entry) → List ℕ → List ℕ
+target_of entries path = elim (entries path) [ Missing ↦ path | File bytes ↦ path | Link target ↦ target | Other ↦ path ]
+
+-- the path of the new file that is to replace the file of this path
+abbrev pub partial_path : List ℕ → List ℕ
+partial_path target = target ++ codes ".oscip-partial"
+
+-- a link leads to a file
+abbrev pub IsFile : Entry → Type 0
+IsFile Missing = ⊥
+IsFile (File bytes) = Unit {0}
+IsFile (Link target) = ⊥
+IsFile Other = ⊥
+
+-- the path names nothing, a file, or a link to a file
+abbrev pub CanBeReplaced : (List ℕ → Entry) → List ℕ → Type 0
+CanBeReplaced entries path = elim (entries path) [ Missing ↦ Unit {0} | File bytes ↦ Unit {0} | Link target ↦ IsFile (entries target) | Other ↦ ⊥ ]
+
+-- the writer returned so, of some file as it was before and after its call
+abbrev pub IsReturned : {F : Type 0} → (F → F → Type 0) → Type 0
+IsReturned {F} Returns = (before after : F) × Returns before after
+
+-- the writer was called on an empty file and returned so, and these bytes are what the file then had
+pub record IsWritten {F : Type 0} (IsKnown : Type 0) (taken : F → Option (List ℕ)) (Returns : F → F → Type 0) (bytes : Option (List ℕ)) : Type 0 where
+  pub before : F
+  pub after : F
+  pub is_empty : IsKnown → taken before ≡ Some []
+  pub returned : Returns before after
+  pub bytes_are : taken after ≡ bytes
+
+-- the new file was renamed to the target, with the bytes that the writer left in it, which was empty
+pub record IsRenamed {F : Type 0} (IsKnown : Type 0) (old new : List ℕ → Entry) (partial target : List ℕ) (taken : F → Option (List ℕ)) (Returns : F → F → Type 0) : Type 0 where
+  pub bytes : Option (List ℕ)
+  pub is_written : IsWritten IsKnown taken Returns bytes
+  pub renamed : (known : List ℕ) → IsKnown → bytes ≡ Some known → RenamedTo old new partial target known

@@ -1,0 +1,170 @@
+//! One step of a replacement is refused, and the next replacement succeeds.
+
+use crate::fake_files::{FakeFile, FakeFiles, OUT, PARTIAL, TARGET};
+use atomic_file::{ContentFault, ReplaceFault, replace_file};
+use byte_sink::{SinkFault, put_all};
+use std::alloc::{AllocError, Global};
+use std::sync::atomic::{AtomicU64, Ordering};
+use std::test::Fail;
+
+const WHOLE: &[u8] = b"new";
+
+/// Writes a content, which may fail once it is written.
+fn write_whole(file: &mut FakeFile, fails: bool) -> Result<(), ContentFault<SinkFault>> {
+    match put_all(file, WHOLE) {
+        Ok(()) if fails => Err(ContentFault::Other(SinkFault::Memory)),
+        Ok(()) => Ok(()),
+        Err(SinkFault::Device) => Err(ContentFault::Device),
+        Err(fault) => Err(ContentFault::Other(fault)),
+    }
+}
+
+/// More steps and writes than there are.
+const NEVER: u64 = 100;
+
+/// What may be there: whether the path is a link, the content of the file, and that of a new file that a killed run left.
+const STATES: [(bool, Option<&[u8]>, Option<&[u8]>); 6] = [
+    (false, None, None),
+    (false, None, Some(b"left")),
+    (false, Some(b"old"), None),
+    (false, Some(b"old"), Some(b"left")),
+    (true, Some(b"old"), None),
+    (true, Some(b"old"), Some(b"left")),
+];
+
+fn copy_of(alloc: Global, bytes: Option<&[u8]>) -> Result<Option<Vec<u8>>, AllocError> {
+    match bytes {
+        Some(bytes) => Ok(Some(bytes.to_vec(alloc)?)),
+        None => Ok(None),
+    }
+}
+
+/// The files, of which nothing is refused.
+fn files_of(
+    alloc: Global,
+    (is_link, target, partial): (bool, Option<&[u8]>, Option<&[u8]>),
+) -> Result<FakeFiles, AllocError> {
+    Ok(FakeFiles {
+        alloc,
+        is_link,
+        is_folder: false,
+        target: copy_of(alloc, target)?,
+        partial: copy_of(alloc, partial)?,
+        writes: NEVER,
+        stolen: NEVER,
+        steps: AtomicU64::new(0),
+        refused: NEVER,
+    })
+}
+
+fn is_content(content: &Option<Vec<u8>>, wanted: Option<&[u8]>) -> bool {
+    match (content, wanted) {
+        (Some(content), Some(wanted)) => content.as_slice() == wanted,
+        (None, None) => true,
+        _ => false,
+    }
+}
+
+/// Replaces the file, by its path or by the link. How it ended.
+fn replace(files: &mut FakeFiles, fails: bool) -> &'static str {
+    let path = if files.is_link { OUT } else { TARGET };
+    let alloc = files.alloc;
+    match replace_file(
+        alloc,
+        files,
+        path,
+        |file: &mut FakeFile| write_whole(file, fails),
+    ) {
+        Ok(()) => "written",
+        Err(ReplaceFault::Target) => "target",
+        Err(ReplaceFault::Partial { path }) if path.as_str() == PARTIAL => "partial",
+        Err(ReplaceFault::Partial { .. }) => "another path",
+        Err(ReplaceFault::Content(_)) => "content",
+        Err(ReplaceFault::Memory) => "memory",
+    }
+}
+
+/// Whether the next run, of which nothing is refused, writes the whole content and leaves no new file.
+fn is_replaced_next(files: &mut FakeFiles) -> bool {
+    files.refused = NEVER;
+    files.writes = NEVER;
+    replace(files, false) == "written"
+        && is_content(&files.target, Some(WHOLE))
+        && files.partial.is_none()
+}
+
+/// Whether the file has the whole content after this end, and otherwise what it had, and the next run succeeds.
+fn is_whole_or_kept(files: &mut FakeFiles, old: Option<&[u8]>, ended: &str) -> bool {
+    let wanted = if ended == "written" { Some(WHOLE) } else { old };
+    is_content(&files.target, wanted) && is_replaced_next(files)
+}
+
+/// Each step is refused in turn. The run succeeds exactly if it didn't ask for the step.
+#[test]
+fn refused_steps(rt: HostRuntime) -> Result<(), Fail> {
+    for state in STATES {
+        for refused in 0..15 {
+            let mut files = files_of(rt.alloc(), state)?;
+            files.refused = refused;
+            let ended = replace(&mut files, false);
+            let is_refused = files.steps.load(Ordering::SeqCst) > refused;
+            assert!(rt;
+                (ended == "written") != is_refused,
+                "step {refused}: {ended}"
+            );
+            assert!(rt;
+                is_whole_or_kept(&mut files, state.1, ended),
+                "step {refused}: {ended}"
+            );
+        }
+    }
+    Ok(())
+}
+
+/// A content that fails, and a device that takes nothing, leave no new file.
+#[test]
+fn failed_contents(rt: HostRuntime) -> Result<(), Fail> {
+    for state in STATES {
+        for (fails, writes, wanted) in [(true, NEVER, "content"), (false, 0, "partial")] {
+            let mut files = files_of(rt.alloc(), state)?;
+            files.writes = writes;
+            let ended = replace(&mut files, fails);
+            assert!(rt; ended == wanted && files.partial.is_none(), "{ended}");
+            assert!(rt; is_whole_or_kept(&mut files, state.1, ended), "{ended}");
+        }
+    }
+    Ok(())
+}
+
+/// The new file of another process stays, and the file is as it was.
+#[test]
+fn stolen_path(rt: HostRuntime) -> Result<(), Fail> {
+    for state in STATES {
+        for stolen in 0..15 {
+            let mut files = files_of(rt.alloc(), state)?;
+            files.stolen = stolen;
+            let ended = replace(&mut files, false);
+            let is_kept = files.partial.is_some() && is_content(&files.target, state.1);
+            assert!(rt;
+                ended == "written" || ended == "partial" && is_kept,
+                "step {stolen}"
+            );
+        }
+    }
+    Ok(())
+}
+
+/// A folder, a link to one, and a link that leads nowhere: nothing is made.
+#[test]
+fn unreplaced(rt: HostRuntime) -> Result<(), Fail> {
+    for (is_link, is_folder) in [(false, true), (true, true), (true, false)] {
+        let mut files = files_of(rt.alloc(), (is_link, None, None))?;
+        files.is_folder = is_folder;
+        let ended = replace(&mut files, false);
+        assert!(rt;
+            ended == "target" && files.target.is_none() && files.partial.is_none(),
+            "{ended}"
+        );
+    }
+    Ok(())
+}
