@@ -12,7 +12,8 @@ use Rattle.cut_dot.specs.Ends.{is_chain_end}
 use Rattle.cut_dot.specs.Pictures.{drawn_imports, drawn_modules, is_drawn, is_reported, numbers, reported_imports, AreStillReached, IsFlowPicture, IsPicture}
 use Rattle.cut_dot.specs.Texts.{picture_text}
 
-same_members : {X : Type 0} (p q : X → Bool) → ((x : X) → p x ≡ q x) → (xs : List X) → filter p xs ≡ filter q xs
+-- two tests that agree pass the same members
+pub same_members : {X : Type 0} (p q : X → Bool) → ((x : X) → p x ≡ q x) → (xs : List X) → filter p xs ≡ filter q xs
 same_members p q same [] = refl
 same_members p q same (x ∷ xs) = elim (cases_Bool (q x)) [
   | inl t ↦ rw (same x, t) (ap (λ ys. x ∷ ys) (same_members p q same xs))

@@ -4,3 +4,4 @@ pub mod Alone
 pub mod Escapes
 pub mod Drawn
 pub mod Ends
+pub mod PathSteps

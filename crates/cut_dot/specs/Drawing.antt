@@ -6,7 +6,8 @@ use Rattle.byte_sink.specs.declared.sink.SinkFault.{SinkFault}
 use Rattle.byte_sink.specs.declared.sink.SinkFault.TheVariants.{Memory, Device}
 use Rattle.cut_net.specs.declared.priced.Priced.{Priced}
 use Rattle.cut_net.specs.Network.{Network}
-use Rattle.cut_dot.specs.Pictures.{IsFlowPicture, IsPicture}
+use Rattle.cut_net.specs.Said.{Said}
+use Rattle.cut_dot.specs.Pictures.{IsPicture, IsPictureByFlow}
 
 -- the sink has the whole of such a picture
 abbrev pub PutsPicture : (List ℕ → Type 0) → Option (List ℕ) → Option (List ℕ) → Type 0
@@ -27,5 +28,5 @@ abbrev pub IsDrawing : Network → ℕ → ℕ → List Priced → List Priced �
 IsDrawing net a b printed flow old new result = IsDrawingOf (IsPicture net a b printed flow) old new result
 
 -- a drawing of the picture by flow
-abbrev pub IsFlowDrawing : Network → ℕ → ℕ → List Priced → List Priced → Option (List ℕ) → Option (List ℕ) → Result (Unit {0}) SinkFault → Type 0
-IsFlowDrawing net a b printed flow old new result = IsDrawingOf (IsFlowPicture net a b printed flow) old new result
+abbrev pub IsFlowDrawing : Network → ℕ → ℕ → Said → Option (List ℕ) → Option (List ℕ) → Result (Unit {0}) SinkFault → Type 0
+IsFlowDrawing net a b said old new result = IsDrawingOf (IsPictureByFlow net a b said) old new result

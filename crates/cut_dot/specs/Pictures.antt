@@ -1,12 +1,14 @@
 -- The picture of what is said of two modules of a network: of imports to be removed, and of a flow.
-use Rattle.std.specs.Prelude.{◌≡◌, ◌⊎◌, ℕ, Bool, not, ◌||◌, nat_lt, List, [], length, filter, Contains}
-use Rattle.std.specs.List.{range_with_len}
+use Rattle.std.specs.Prelude.{◌≡◌, ◌⊎◌, ℕ, Bool, not, ◌||◌, ◌&&◌, ◌==◌, nat_lt, List, [], ◌∷◌, length, filter, Contains}
+use Rattle.std.specs.List.{list_any, range_with_len}
+use Rattle.digraph.specs.declared.edge.Edge.{Edge}
 use Rattle.cut_net.specs.declared.priced.Priced.{Priced}
 use Rattle.cut_net.specs.declared.answer.Answer.{Answer}
 use Rattle.cut_net.specs.declared.answer.Answer.TheVariants as answers
 use Rattle.cut_net.specs.Network.{Network}
 use Rattle.cut_net.specs.Cuts.{AreThose, Chain, Outside}
 use Rattle.cut_net.specs.Lines.{flow_by, removed_by}
+use Rattle.cut_net.specs.Said.{Said, CutOf, BlockedBy}
 use Rattle.cut_part.specs.Inside.{inside, IsBetween}
 use Rattle.cut_dot.specs.Ends.{is_chain_end}
 use Rattle.cut_dot.specs.Texts.{picture_text}
@@ -68,13 +70,46 @@ reported_imports net printed flow = filter (is_reported printed flow) net.import
 abbrev pub IsAtEnd : List Priced → ℕ → Type 0
 IsAtEnd imports m = (i : Priced) × Contains imports i × ((i.from ≡ m) ⊎ (i.to ≡ m))
 
--- the text is the picture by flow: the imports that are removed or have flow, each once, the modules at their ends with a and b, and their marks
-pub record IsFlowPicture (net : Network) (a b : ℕ) (printed flow : List Priced) (text : List ℕ) : Type 0 where
+-- the text is the picture of these imports of the network, each once: with the modules at their ends, a and b, and their marks
+pub record IsPictureOfImports (net : Network) (a b : ℕ) (printed flow imports : List Priced) (text : List ℕ) : Type 0 where
   -- the modules at the ends of these imports
   pub at_end : ℕ → Bool
-  pub are_at_ends : AreThose at_end (IsAtEnd (reported_imports net printed flow))
+  pub are_at_ends : AreThose at_end (IsAtEnd imports)
   -- those that a still reaches
   pub reached : ℕ → Bool
   pub are_reached : AreStillReached net a printed reached
   -- the lines of these modules and imports
-  pub text_is : text ≡ picture_text net a b printed flow reached (drawn_modules net a b at_end) (reported_imports net printed flow)
+  pub text_is : text ≡ picture_text net a b printed flow reached (drawn_modules net a b at_end) imports
+
+-- the text is the picture by flow: the imports that are removed or have flow
+abbrev pub IsFlowPicture : Network → ℕ → ℕ → List Priced → List Priced → List ℕ → Type 0
+IsFlowPicture net a b printed flow text = IsPictureOfImports net a b printed flow (reported_imports net printed flow) text
+
+-- ---- a path
+
+-- from each module of the path to the next
+abbrev pub steps : List ℕ → List Edge
+steps [] = []
+steps (m ∷ []) = []
+steps (m ∷ n ∷ more) = record { from = m; to = n } ∷ steps (n ∷ more)
+
+-- the import leads as the edge does
+abbrev pub has_ends : Priced → Edge → Bool
+has_ends i step = (i.from == step.from) && (i.to == step.to)
+
+-- the import leads from a module of the path to the next
+abbrev pub is_step : List ℕ → Priced → Bool
+is_step path i = list_any (has_ends i) (steps path)
+
+-- the imports of the network that are steps of the path, in order
+abbrev pub path_imports : Network → List ℕ → List Priced
+path_imports net path = filter (is_step path) net.imports
+
+-- the text is the picture of a path: nothing is removed, and nothing flows
+abbrev pub IsPathPicture : Network → ℕ → ℕ → List ℕ → List ℕ → Type 0
+IsPathPicture net a b path text = IsPictureOfImports net a b [] [] (path_imports net path) text
+
+-- the text is the picture by flow of what is said: of a cut, or of the path of pins that blocks any
+abbrev pub IsPictureByFlow : Network → ℕ → ℕ → Said → List ℕ → Type 0
+IsPictureByFlow net a b (CutOf total printed flow) text = IsFlowPicture net a b printed flow text
+IsPictureByFlow net a b (BlockedBy path) text = IsPathPicture net a b path text

@@ -1,15 +1,18 @@
 //! Putting a picture.
 ghost use Rattle.std.specs.Prelude.{◌≡◌, ◌<◌, [], length};
 ghost use Rattle.byte_sink.specs.Sinks.{failures_after};
+ghost use Rattle.cut_net.specs.Answers.{said_by};
 ghost use Rattle.cut_net.specs.Lines.{IsAscending};
-ghost use Rattle.cut_dot.specs.Drawing.{IsDrawing, IsFlowDrawing};
-ghost use Rattle.cut_dot.specs.Pictures.{flow_said, removed_said};
+ghost use Rattle.cut_net.specs.WellFormed.{AreBetween};
+ghost use Rattle.cut_dot.specs.Drawing.{IsDrawing, IsDrawingOf, IsFlowDrawing};
+ghost use Rattle.cut_dot.specs.Pictures.{flow_said, removed_said, IsFlowPicture, IsPathPicture, IsPictureOfImports};
 
+use crate::path::imports_along;
 use crate::reached::reached_from;
 use crate::reported::{marked_ends, reported_among};
 use crate::text::put_text;
 use byte_sink::{Sink, SinkFault};
-use cut_net::{Answer, Cut, Net};
+use cut_net::{Answer, Cut, Net, Priced};
 use cut_part::between;
 use std::alloc::Global;
 
@@ -48,20 +51,43 @@ fn draw_cut<S: Sink>(
     )
 }
 
-/// Puts the picture of a cut by its flow.
+/// Writes the picture of these imports of the network: with the modules at their ends, A and B.
+fn draw_imports<S: Sink>(
+    alloc: Global,
+    net: &Net,
+    ends: (u32, u32),
+    cut: &Cut,
+    imports: &[Priced],
+    sink: &mut S,
+) -> Result<(), SinkFault>
+    requires from { ends.0 < length net.now.names }
+    requires imports { AreBetween imports.now (length net.now.names) }
+    requires removed { IsAscending cut.now.imports.items }
+    requires flow { IsAscending cut.now.flow.items }
+    ensures run { IsDrawingOf (IsPictureOfImports net.now ends.0 ends.1 cut.now.imports.items cut.now.flow.items imports.now) (S.taken sink.old) (S.taken sink.new) result }
+    ensures failures { S.failures sink.new ≡ failures_after result (S.failures sink.old) }
+{
+    let Ok(marks) = marked_ends(alloc, imports, net.nodes()) else {
+        return Err(SinkFault::Memory);
+    };
+    let Ok(reached) = reached_from(alloc, net, cut.imports.as_slice(), ends.0) else {
+        return Err(SinkFault::Memory);
+    };
+    put_text(alloc, net, ends, cut, imports, &marks, &reached, sink)
+}
+
+/// Writes the picture of a cut by its flow.
 fn draw_flow_of_cut<S: Sink>(
     alloc: Global,
     net: &Net,
-    from: u32,
-    to: u32,
+    ends: (u32, u32),
     cut: &Cut,
     sink: &mut S,
 ) -> Result<(), SinkFault>
-    requires from { from < length net.now.names }
-    requires to { to < length net.now.names }
+    requires from { ends.0 < length net.now.names }
     requires removed { IsAscending cut.now.imports.items }
     requires flow { IsAscending cut.now.flow.items }
-    ensures run { IsFlowDrawing net.now from to cut.now.imports.items cut.now.flow.items (S.taken sink.old) (S.taken sink.new) result }
+    ensures run { IsDrawingOf (IsFlowPicture net.now ends.0 ends.1 cut.now.imports.items cut.now.flow.items) (S.taken sink.old) (S.taken sink.new) result }
     ensures failures { S.failures sink.new ≡ failures_after result (S.failures sink.old) }
 {
     net.keeps();
@@ -69,22 +95,7 @@ fn draw_flow_of_cut<S: Sink>(
     let Ok(imports) = reported_among(alloc, net.imports(), removed, cut.flow.as_slice()) else {
         return Err(SinkFault::Memory);
     };
-    let Ok(marks) = marked_ends(alloc, &imports, net.nodes()) else {
-        return Err(SinkFault::Memory);
-    };
-    let Ok(reached) = reached_from(alloc, net, removed, from) else {
-        return Err(SinkFault::Memory);
-    };
-    put_text(
-        alloc,
-        net,
-        (from, to),
-        cut,
-        &imports,
-        &marks,
-        &reached,
-        sink,
-    )
+    draw_imports(alloc, net, ends, cut, &imports, sink)
 }
 
 /// What is said where no cut can be made: nothing is removed, and nothing flows.
@@ -97,6 +108,25 @@ fn nothing(alloc: Global) -> Cut
         weight: 0,
         flow: Vec::new(alloc),
     }
+}
+
+/// Writes the picture of a path of pins.
+fn draw_path<S: Sink>(
+    alloc: Global,
+    net: &Net,
+    ends: (u32, u32),
+    path: &[u32],
+    sink: &mut S,
+) -> Result<(), SinkFault>
+    requires from { ends.0 < length net.now.names }
+    ensures run { IsDrawingOf (IsPathPicture net.now ends.0 ends.1 path.now) (S.taken sink.old) (S.taken sink.new) result }
+    ensures failures { S.failures sink.new ≡ failures_after result (S.failures sink.old) }
+{
+    net.keeps();
+    let Ok(imports) = imports_along(alloc, net.imports(), path) else {
+        return Err(SinkFault::Memory);
+    };
+    draw_imports(alloc, net, ends, &nothing(alloc), &imports, sink)
 }
 
 /// Puts the picture of what is said of two modules of a network, A and B, given by their numbers, as a graph in DOT: the
@@ -130,9 +160,10 @@ pub fn draw<S: Sink>(
     }
 }
 
-/// Puts the picture of what is said of two modules by its flow: as `draw` does, but of the imports it draws exactly those of the
-/// network that are removed or have flow, wherever they lead, and of the modules those at their ends, with A and B.
-/// Refuses with `Device` and `Memory`; the sink has then taken a front of the text.
+/// Writes the picture of what is said of two modules by its flow. It is as that of `draw`, but the imports drawn are exactly those of
+/// the network that the cut removes or gives flow, wherever they lead; or, if no cut can be made, those of the path of pins, each from a
+/// module of the path to the next. The modules drawn are those at their ends, with A and B.
+/// Fails with `Device` and `Memory`; the sink has then taken a prefix of the text.
 pub fn draw_flow<S: Sink>(
     alloc: Global,
     net: &Net,
@@ -145,13 +176,13 @@ pub fn draw_flow<S: Sink>(
     requires to { to < length net.now.names }
     requires removed { IsAscending (removed_said answer.now) }
     requires flow { IsAscending (flow_said answer.now) }
-    // All of the picture by flow at Ok, and a front of it after a refusal.
-    ensures run { IsFlowDrawing net.now from to (removed_said answer.now) (flow_said answer.now) (S.taken sink.old) (S.taken sink.new) result }
+    // All of the picture by flow at Ok, and a prefix of it after an error.
+    ensures run { IsFlowDrawing net.now from to (said_by answer.now) (S.taken sink.old) (S.taken sink.new) result }
     // Device is answered where the sink counted a failure, and nowhere else.
     ensures failures { S.failures sink.new ≡ failures_after result (S.failures sink.old) }
 {
     match answer {
-        Answer::Cut(cut) => draw_flow_of_cut(alloc, net, from, to, cut, sink),
-        Answer::Blocked { .. } => draw_flow_of_cut(alloc, net, from, to, &nothing(alloc), sink),
+        Answer::Cut(cut) => draw_flow_of_cut(alloc, net, (from, to), cut, sink),
+        Answer::Blocked { chain } => draw_path(alloc, net, (from, to), chain, sink),
     }
 }

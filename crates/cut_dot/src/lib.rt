@@ -6,6 +6,7 @@
 mod drawing;
 pub mod laws;
 mod lines;
+mod path;
 mod reached;
 mod reported;
 mod text;

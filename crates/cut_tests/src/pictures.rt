@@ -1,4 +1,4 @@
-//! Pictures by flow: of a cut, of a chain of pins, and into a sink that fails.
+//! Pictures by flow: of a cut, of a path of pins, and into a sink that fails.
 
 use crate::worked::net_of;
 use byte_sink::SinkFault;
@@ -27,13 +27,27 @@ const CUT_BY_FLOW: &str = "digraph cut {\n  rankdir=LR;\n  \
     \"B\" -> \"D\" [label=\"1/3\"];\n  \
     \"C\" -> \"D\" [label=\"1/1\"] [style=dashed, color=red];\n}\n";
 
-/// What can't be cut, as if A B and B D were pinned.
+/// Prices that pin the imports from A over B to D.
+const PINS: &[u8] = b"pin A B\npin B D\n";
+
+/// The report of the path that they are.
 const BLOCKED: &[u8] = b"cut A D\nblocked A B D\nend\n";
 
-/// Its picture by flow: A and D alone.
+/// Its picture by flow: the path, and no other import.
 const BLOCKED_BY_FLOW: &str = "digraph cut {\n  rankdir=LR;\n  \
     label=\"flow/weight; red: removed; bold: pinned; gray: still reached; double border: the two ends\";\n  \
-    \"A\" [peripheries=2] [style=filled];\n  \"D\" [peripheries=2] [style=filled];\n}\n";
+    \"A\" [peripheries=2] [style=filled];\n  \"B\" [style=filled];\n  \"D\" [peripheries=2] [style=filled];\n  \
+    \"A\" -> \"B\" [label=\"0/pin\"] [style=bold];\n  \
+    \"B\" -> \"D\" [label=\"0/pin\"] [style=bold];\n}\n";
+
+/// A report that is wrong: the path comes back, E doesn't import B, and B doesn't import A.
+const WRONG_PATH: &[u8] = b"cut A D\nblocked E B A B A B\nend\n";
+
+/// Its picture by flow: of the path's steps the one that is an import, once, and the two ends.
+const WRONG_PATH_BY_FLOW: &str = "digraph cut {\n  rankdir=LR;\n  \
+    label=\"flow/weight; red: removed; bold: pinned; gray: still reached; double border: the two ends\";\n  \
+    \"A\" [peripheries=2] [style=filled];\n  \"B\" [style=filled];\n  \"D\" [peripheries=2] [style=filled];\n  \
+    \"A\" -> \"B\" [label=\"0/1\"];\n}\n";
 
 /// Puts the picture by flow of what a report says.
 fn put_by_flow(alloc: Global, net: &Net, report: &[u8], sink: &mut ByOne) -> Result<(), SinkFault> {
@@ -69,25 +83,33 @@ fn has_front(
 fn is_drawn(
     rt: &impl Abort,
     alloc: Global,
-    net: &[u8],
+    net: &Net,
     report: &[u8],
     text: &str,
 ) -> Result<(), AllocError> {
-    let net = net_of(alloc, net, b"")?;
     for puts in 0..=text.len() as u64 {
-        has_front(rt, alloc, &net, report, puts, text)?;
+        has_front(rt, alloc, net, report, puts, text)?;
     }
     Ok(())
 }
 
 #[test]
 fn a_cut_by_flow(rt: HostRuntime) -> Result<(), Fail> {
-    is_drawn(&rt, rt.alloc(), NETWORK, CUT, CUT_BY_FLOW)?;
+    let net = net_of(rt.alloc(), NETWORK, b"")?;
+    is_drawn(&rt, rt.alloc(), &net, CUT, CUT_BY_FLOW)?;
     Ok(())
 }
 
 #[test]
-fn nothing_flows_where_pins_lead(rt: HostRuntime) -> Result<(), Fail> {
-    is_drawn(&rt, rt.alloc(), NETWORK, BLOCKED, BLOCKED_BY_FLOW)?;
+fn a_path_of_pins_by_flow(rt: HostRuntime) -> Result<(), Fail> {
+    let net = net_of(rt.alloc(), NETWORK, PINS)?;
+    is_drawn(&rt, rt.alloc(), &net, BLOCKED, BLOCKED_BY_FLOW)?;
+    Ok(())
+}
+
+#[test]
+fn a_path_that_is_none_by_flow(rt: HostRuntime) -> Result<(), Fail> {
+    let net = net_of(rt.alloc(), NETWORK, b"")?;
+    is_drawn(&rt, rt.alloc(), &net, WRONG_PATH, WRONG_PATH_BY_FLOW)?;
     Ok(())
 }

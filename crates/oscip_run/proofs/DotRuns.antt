@@ -2,8 +2,8 @@
 use Rattle.std.proofs.Common.{ℕ, arith, List, Option, Result, Ok, Err, refl, inl, inr, sym, subst}
 use Rattle.byte_sink.specs.declared.sink.SinkFault.{SinkFault}
 use Rattle.byte_sink.specs.declared.sink.SinkFault.TheVariants as sink
-use Rattle.cut_net.specs.declared.priced.Priced.{Priced}
 use Rattle.cut_net.specs.Network.{Network}
+use Rattle.cut_net.specs.Said.{Said}
 use Rattle.cut_report.specs.declared.report.Report.{Report as ReportRead}
 use Rattle.cut_report.specs.declared.fault.ReportFault.{ReportFault}
 use Rattle.cut_report.specs.declared.fault.ReportFault.TheVariants as report
@@ -15,7 +15,7 @@ use Rattle.cut_net.specs.declared.answer.Answer.TheVariants as answers
 use Rattle.cut_net.specs.Answers.{said_by}
 use Rattle.cut_report.specs.ReportText.{MaySay}
 use Rattle.cut_net.specs.Lines.{IsAscending}
-use Rattle.cut_dot.specs.Drawing.{IsDrawingOf}
+use Rattle.cut_dot.specs.Drawing.{IsDrawing, IsDrawingOf}
 use Rattle.cut_dot.specs.Pictures.{flow_said, removed_said}
 use Rattle.oscip_run.specs.Faults.{of_report, of_sink}
 use Rattle.oscip_run.specs.DotRuns.{IsDotRun, IsDrawn, IsPictureOf, PutsDrawnFront}
@@ -34,8 +34,14 @@ pub flow_ascends : (n : Network) (answer : Answer) → MaySay n (said_by answer)
 flow_ascends n (answers.Cut cut) says = says.flow_in_order
 flow_ascends n (answers.Blocked chain) says = λ j k d lt within. absurd (omega arith)
 
+-- the picture of an answer is that of what it says
+pub drawing_of : (n : Network) (a b : ℕ) (answer : Answer) (old new : Option (List ℕ)) (result : Result (Unit {0}) SinkFault) → IsDrawing n a b (removed_said answer) (flow_said answer) old new result
+    → IsDrawingOf (IsPictureOf n a b (said_by answer)) old new result
+drawing_of n a b (answers.Cut cut) old new result h = h
+drawing_of n a b (answers.Blocked chain) old new result h = h
+
 -- of whatever picture is drawn
-module _ (Shows : Network → ℕ → ℕ → List Priced → List Priced → List ℕ → Type 0) where
+module _ (Shows : Network → ℕ → ℕ → Said → List ℕ → Type 0) where
   -- a refused report
   pub refused : (n : Network) (text : List ℕ) (known : Option (List ℕ)) (fault : ReportFault) → UnlessMemory fault (IsReportOutcome n text (Err fault))
       → IsDotRun Shows (IsThis n) IsNeverRefused text known known (Err (of_report fault))
@@ -46,18 +52,12 @@ module _ (Shows : Network → ℕ → ℕ → List Priced → List Priced → Li
   refused n text known report.Device h = absurd h
   refused n text known report.Memory h = inl (Keeps-same known)
 
-  -- the picture of an answer is that of what it says
-  pub picture_of : (n : Network) (a b : ℕ) (answer : Answer) (text : List ℕ) → Shows n a b (removed_said answer) (flow_said answer) text
-      → IsPictureOf Shows n a b (said_by answer) text
-  picture_of n a b (answers.Cut cut) text h = h
-  picture_of n a b (answers.Blocked chain) text h = h
-
   -- what came of a drawing
   pub drawn : (n : Network) (bytes : List ℕ) (r : ReportRead) (old new : Option (List ℕ)) (fault : SinkFault) → IsReportOutcome n bytes (Ok (entry_of r))
-      → IsDrawingOf (Shows n r.from r.to (removed_said r.answer) (flow_said r.answer)) old new (Err fault) → IsDotRun Shows (IsThis n) IsNeverRefused bytes old new (Err (of_sink fault))
-  drawn n bytes r old new sink.Device says h = (h.0, record { net = n; reads = refl; entry = entry_of r; says = says; picture = picture_of n r.from r.to r.answer h.0 h.1 }, h.2)
+      → IsDrawingOf (Shows n r.from r.to (said_by r.answer)) old new (Err fault) → IsDotRun Shows (IsThis n) IsNeverRefused bytes old new (Err (of_sink fault))
+  drawn n bytes r old new sink.Device says h = (h.0, record { net = n; reads = refl; entry = entry_of r; says = says; picture = h.1 }, h.2)
   drawn n bytes r old new sink.Memory says (inl h) = inl h
-  drawn n bytes r old new sink.Memory says (inr h) = inr (h.0, record { net = n; reads = refl; entry = entry_of r; says = says; picture = picture_of n r.from r.to r.answer h.0 h.1 }, h.2)
+  drawn n bytes r old new sink.Memory says (inr h) = inr (h.0, record { net = n; reads = refl; entry = entry_of r; says = says; picture = h.1 }, h.2)
 
   -- a picture on a network is one on the input that has it
   drawn_of : (IsOf : Network → Type 0) (n : Network) → IsOf n → (bytes text : List ℕ) → IsDrawn Shows (IsThis n) bytes text → IsDrawn Shows IsOf bytes text

@@ -2,46 +2,45 @@
 use Rattle.std.specs.Prelude.{◌⊎◌, ℕ, Bool, true, false, List, [], Option, Result, Ok, Err}
 use Rattle.std.specs.Io.KnownBytes.{Appends, Keeps}
 use Rattle.byte_sink.specs.Sinks.{AppendsFront}
-use Rattle.cut_net.specs.declared.priced.Priced.{Priced}
 use Rattle.cut_net.specs.Network.{Network}
 use Rattle.cut_net.specs.Said.{Said, CutOf, BlockedBy}
 use Rattle.cut_report.specs.ReportClaim.{ReportClaim}
 use Rattle.cut_report.specs.ReportLines.{IsReportOutcome}
-use Rattle.cut_dot.specs.Pictures.{IsFlowPicture, IsPicture}
+use Rattle.cut_dot.specs.Pictures.{IsPicture, IsPictureByFlow}
 use Rattle.oscip_run.specs.declared.fault.RunFault.{RunFault}
 use Rattle.oscip_run.specs.declared.fault.RunFault.TheVariants.{CannotRead, CannotWrite, Tree, Net, Price, Rules, Report, Solve, Query, Device, Memory}
 use Rattle.oscip_run.specs.Runs.{IsRefusedReport}
 
+-- the picture of all imports between two modules, of what is said of them; where no cut can be made nothing is removed, and nothing flows
+abbrev pub IsPictureOf : Network → ℕ → ℕ → Said → List ℕ → Type 0
+IsPictureOf net a b (CutOf total printed flow) text = IsPicture net a b printed flow text
+IsPictureOf net a b (BlockedBy chain) text = IsPicture net a b [] [] text
+
 -- the picture that is asked for: the one by flow, or the one of all imports between the two modules
-abbrev pub IsAskedPicture : Bool → Network → ℕ → ℕ → List Priced → List Priced → List ℕ → Type 0
-IsAskedPicture true net a b printed flow text = IsFlowPicture net a b printed flow text
-IsAskedPicture false net a b printed flow text = IsPicture net a b printed flow text
+abbrev pub IsAskedPicture : Bool → Network → ℕ → ℕ → Said → List ℕ → Type 0
+IsAskedPicture true net a b said text = IsPictureByFlow net a b said text
+IsAskedPicture false net a b said text = IsPictureOf net a b said text
 
--- Below Shows says that a text is such a picture of two modules, of the imports to be removed, and of a flow.
-
--- the text is the picture of what is said of two modules; where no cut can be made nothing is removed, and nothing flows
-abbrev pub IsPictureOf : (Network → ℕ → ℕ → List Priced → List Priced → List ℕ → Type 0) → Network → ℕ → ℕ → Said → List ℕ → Type 0
-IsPictureOf Shows net a b (CutOf total printed flow) text = Shows net a b printed flow text
-IsPictureOf Shows net a b (BlockedBy chain) text = Shows net a b [] [] text
+-- Below Shows says that a text is such a picture of what is said of two modules.
 
 -- the report is one on the input's network, and the text is the picture of what it says, right or wrong
-pub record IsDrawn (Shows : Network → ℕ → ℕ → List Priced → List Priced → List ℕ → Type 0) (IsOf : Network → Type 0) (report text : List ℕ) : Type 0 where
+pub record IsDrawn (Shows : Network → ℕ → ℕ → Said → List ℕ → Type 0) (IsOf : Network → Type 0) (report text : List ℕ) : Type 0 where
   pub net : Network
   pub reads : IsOf net
   pub entry : ReportClaim
   pub says : IsReportOutcome net report (Ok entry)
-  pub picture : IsPictureOf Shows net entry.from entry.to entry.said text
+  pub picture : Shows net entry.from entry.to entry.said text
 
 -- the sink has the whole picture
-abbrev pub PutsDrawn : (Network → ℕ → ℕ → List Priced → List Priced → List ℕ → Type 0) → (Network → Type 0) → List ℕ → Option (List ℕ) → Option (List ℕ) → Type 0
+abbrev pub PutsDrawn : (Network → ℕ → ℕ → Said → List ℕ → Type 0) → (Network → Type 0) → List ℕ → Option (List ℕ) → Option (List ℕ) → Type 0
 PutsDrawn Shows IsOf report old new = (text : List ℕ) × IsDrawn Shows IsOf report text × Appends old new text
 
 -- the sink has a front of the picture
-abbrev pub PutsDrawnFront : (Network → ℕ → ℕ → List Priced → List Priced → List ℕ → Type 0) → (Network → Type 0) → List ℕ → Option (List ℕ) → Option (List ℕ) → Type 0
+abbrev pub PutsDrawnFront : (Network → ℕ → ℕ → Said → List ℕ → Type 0) → (Network → Type 0) → List ℕ → Option (List ℕ) → Option (List ℕ) → Type 0
 PutsDrawnFront Shows IsOf report old new = (text : List ℕ) × IsDrawn Shows IsOf report text × AppendsFront old new text
 
 -- a run of the engine: refused input leaves the sink as it was, with the fault that the input has
-abbrev pub IsDotRun : (Network → ℕ → ℕ → List Priced → List Priced → List ℕ → Type 0) → (Network → Type 0) → (RunFault → Type 0) → List ℕ → Option (List ℕ) → Option (List ℕ) → Result (Unit {0}) RunFault → Type 0
+abbrev pub IsDotRun : (Network → ℕ → ℕ → Said → List ℕ → Type 0) → (Network → Type 0) → (RunFault → Type 0) → List ℕ → Option (List ℕ) → Option (List ℕ) → Result (Unit {0}) RunFault → Type 0
 IsDotRun Shows IsOf IsRefused report old new (Ok _) = PutsDrawn Shows IsOf report old new
 IsDotRun Shows IsOf IsRefused report old new (Err (CannotRead path)) = ⊥
 IsDotRun Shows IsOf IsRefused report old new (Err (CannotWrite path)) = ⊥

@@ -1,8 +1,8 @@
 -- What a run of a job reads and puts.
 use Rattle.std.specs.Prelude.{◌≡◌, ℕ, Bool, true, List, Option, None, Result, Ok, Err, IfOk}
 use Rattle.std.specs.String.{string_bytes}
-use Rattle.cut_net.specs.declared.priced.Priced.{Priced}
 use Rattle.cut_net.specs.Network.{Network}
+use Rattle.cut_net.specs.Said.{Said}
 use Rattle.oscip_run.specs.CutRuns.{IsCutRun}
 use Rattle.oscip_run.specs.DotRuns.{IsAskedPicture, IsDotRun}
 use Rattle.oscip_run.specs.ImportRuns.{IsWhyRun}
@@ -22,7 +22,7 @@ IsCutJobRun IsOf IsRefused first second old new result =
     IsCutRun IsOf IsRefused first second old new (without_answer result) × IfOk result (λ agrees. agrees ≡ true)
 
 -- a run that draws such pictures as Shows says; one that is put is no check that says no
-abbrev pub IsDotJobRun : (Network → ℕ → ℕ → List Priced → List Priced → List ℕ → Type 0) → (Network → Type 0) → (RunFault → Type 0) → List ℕ → Option (List ℕ) → Option (List ℕ) → Result Bool RunFault → Type 0
+abbrev pub IsDotJobRun : (Network → ℕ → ℕ → Said → List ℕ → Type 0) → (Network → Type 0) → (RunFault → Type 0) → List ℕ → Option (List ℕ) → Option (List ℕ) → Result Bool RunFault → Type 0
 IsDotJobRun Shows IsOf IsRefused report old new result =
     IsDotRun Shows IsOf IsRefused report old new (without_answer result) × IfOk result (λ agrees. agrees ≡ true)
 

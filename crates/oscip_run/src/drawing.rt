@@ -3,6 +3,7 @@ ghost use Rattle.std.specs.Prelude.{◌≡◌, ◌<◌, length, option_copied};
 ghost use Rattle.byte_sink.specs.Sinks.{failures_after, failures_by};
 ghost use Rattle.cut_dot.specs.Drawing.{IsDrawingOf};
 ghost use Rattle.cut_dot.specs.Pictures.{flow_said, removed_said};
+ghost use Rattle.cut_net.specs.Answers.{said_by};
 ghost use Rattle.cut_net.specs.Lines.{IsAscending};
 ghost use Rattle.oscip_run.specs.DotRuns.{IsAskedPicture, IsDotRun};
 ghost use Rattle.oscip_run.specs.Faults.{is_device};
@@ -33,7 +34,7 @@ fn put_picture<S: Sink>(
     requires to { report.now.to < length net.now.names }
     requires removed { IsAscending (removed_said report.now.answer) }
     requires flow { IsAscending (flow_said report.now.answer) }
-    ensures run { IsDrawingOf (IsAskedPicture by_flow net.now report.now.from report.now.to (removed_said report.now.answer) (flow_said report.now.answer)) (S.taken sink.old) (S.taken sink.new) result }
+    ensures run { IsDrawingOf (IsAskedPicture by_flow net.now report.now.from report.now.to (said_by report.now.answer)) (S.taken sink.old) (S.taken sink.new) result }
     ensures failures { S.failures sink.new ≡ failures_after result (S.failures sink.old) }
 {
     if by_flow {
@@ -60,8 +61,8 @@ fn dot_in<S: Sink>(
 }
 
 /// Reads a network, its prices where they are given, and then a report on it, and puts the picture of what the report says of its two modules, as a graph in
-/// DOT: by flow, where that is asked for, only the imports that the report removes or gives flow, and the modules at their ends. See
-/// `draw` and `draw_flow` of `cut_dot`. What the report says isn't checked.
+/// DOT: by flow, if that is asked for, only the imports that the report removes or gives flow, or those of the path that a `blocked` line
+/// names, and the modules at their ends. See `draw` and `draw_flow` of `cut_dot`. What the report says isn't checked.
 /// Refuses with `Net`, `Price`, `Report`, `Device` or `Memory`.
 pub fn dot_net_bytes<S: Sink>(
     alloc: Global,

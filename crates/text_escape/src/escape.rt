@@ -56,7 +56,8 @@ fn push_char(out: &mut String, character: char) -> Result<(), AllocError>
     }
 }
 
-pub(crate) fn push_chars(out: &mut String, text: &str) -> Result<(), AllocError>
+/// Appends the text's characters, control characters written out.
+fn push_chars(out: &mut String, text: &str) -> Result<(), AllocError>
     ensures { OnOk result (string_bytes out.new ≡ string_bytes out.old ++ escaped text.now) }
 {
     for character in text.chars() {

@@ -2,7 +2,7 @@ use Rattle.std.proofs.Common.{refl}
 use Rattle.std.proofs.lemmas.Result.{err_from_is_err_and}
 use Rattle.cut_report.specs.Reading.{entry_of}
 use Rattle.oscip_run.specs.DotRuns.{IsAskedPicture}
-use Rattle.oscip_run.proofs.DotRuns.{drawn, flow_ascends, picture_of, refused, removed_ascend}
+use Rattle.oscip_run.proofs.DotRuns.{drawn, flow_ascends, refused, removed_ascend}
 use Rattle.oscip_run.proofs.drawing.dot_in.Goals as goal
 
 pub put_picture-requires-clause-from : goal.put_picture-requires-clause-from
@@ -30,4 +30,4 @@ returns-in_err-put_picture-clause-run g c =
 pub returns-clause-run : goal.returns-clause-run
 returns-clause-run g c =
     let put = c.in_ok-put_picture.ensures.run in
-    (put.0, record { net = c.args.net.now; reads = refl; entry = entry_of c.in_ok-report.report; says = c.in_ok-report.ensures.exact; picture = picture_of (IsAskedPicture c.args.by_flow) c.args.net.now c.in_ok-report.report.from c.in_ok-report.report.to c.in_ok-report.report.answer put.0 put.1 }, put.2)
+    (put.0, record { net = c.args.net.now; reads = refl; entry = entry_of c.in_ok-report.report; says = c.in_ok-report.ensures.exact; picture = put.1 }, put.2)
