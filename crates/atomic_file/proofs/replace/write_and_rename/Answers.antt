@@ -5,5 +5,5 @@ pub returns-in-Ok-rename-clause-renamed : goal.returns-in-Ok-rename-clause-renam
 returns-in-Ok-rename-clause-renamed g c = record {
   bytes = g.F.NewFile.Sink.taken c.write_new.new.file;
   is_written = c.in-Ok.ensures.written;
-  renamed = λ known k e. let h = c.in-Ok-rename.ensures.renamed k known e in rw (c.as_str.ensures.value, c.as_str-2.ensures.value) at h
+  renamed = λ known k e. let h = c.in-Ok-rename.ensures.renamed k known e in rw (c.as_str.ensures.value, c.as_str-2.ensures.value) at h;
 }
