@@ -1,5 +1,5 @@
 -- What the replacement of a file's content does to the paths of a file system.
-use Rattle.std.specs.Prelude.{◌≡◌, ◌≢◌, ℕ, List, [], ◌++◌, Option, Some, codes}
+use Rattle.std.specs.Prelude.{◌≡◌, ℕ, List, [], ◌++◌, Option, Some, codes}
 use Rattle.atomic_file.specs.Entries.{Entry, Missing, File, Link, Other, RenamedTo}
 
 -- the path of the file that a path stands for: where a link leads, or the path itself
