@@ -87,7 +87,7 @@ impl Sink for FakeFile {
 impl FileSystem for FakeFiles {
     type NewFile = FakeFile;
 
-    ghost use Rattle.std.specs.Prelude.{◌≡◌, true, codes, if◌then◌else◌};
+    ghost use Rattle.std.specs.Prelude.{◌≡◌, refl, true, codes, if◌then◌else◌};
     ghost use Rattle.std.specs.Str.{bytes_eq};
     ghost use Rattle.std.specs.Option.{option_map_or};
     ghost use Rattle.atomic_file.specs.Entries.{Entry, Missing, File, Link, Other};
@@ -191,4 +191,6 @@ impl FileSystem for FakeFiles {
             self.partial = None;
         }
     }
+
+    ghost knows_taken = { λ _ _. refl };
 }
