@@ -64,6 +64,7 @@ short run.sh "$here/run.sh" "$oscip"
 short cut.sh env SIZES="64 512" "$here/cut.sh" "$oscip"
 short differ.sh "$here/differ.sh" "$oscip" 1 300
 short refuse.sh "$here/refuse.sh" "$oscip" 97
+short kill.sh "$here/kill.sh" "$oscip" 20
 short refuse_tests.py refused
 short trees.sh "$here/trees.sh" "$oscip"
 short walk.sh "$here/walk.sh" "$oscip"

@@ -1,5 +1,5 @@
 -- What the replacement of a file's content does to the paths of a file system.
-use Rattle.std.specs.Prelude.{◌≡◌, ◌≢◌, ℕ, List, [], ◌++◌, Option, Some, codes}
+use Rattle.std.specs.Prelude.{◌≡◌, ℕ, List, [], ◌++◌, Option, Some, codes}
 use Rattle.atomic_file.specs.Entries.{Entry, Missing, File, Link, Other, RenamedTo}
 
 -- the path of the file that a path stands for: where a link leads, or the path itself
@@ -35,6 +35,8 @@ pub record IsWritten {F : Type 0} (IsKnown : Type 0) (taken : F → Option (List
 
 -- the new file was renamed to the target, with the bytes that the writer left in it, which was empty
 pub record IsRenamed {F : Type 0} (IsKnown : Type 0) (old new : List ℕ → Entry) (partial target : List ℕ) (taken : F → Option (List ℕ)) (Returns : F → F → Type 0) : Type 0 where
-  pub bytes : Option (List ℕ)
-  pub is_written : IsWritten IsKnown taken Returns bytes
-  pub renamed : (known : List ℕ) → IsKnown → bytes ≡ Some known → RenamedTo old new partial target known
+  pub left : Option (List ℕ)
+  pub is_written : IsWritten IsKnown taken Returns left
+  pub bytes : List ℕ
+  pub left_is : IsKnown → left ≡ Some bytes
+  pub renamed : IsKnown → RenamedTo old new partial target bytes

@@ -1,5 +1,5 @@
 //! What the replacement of a file needs of a file system and of the content's writer.
-ghost use Rattle.std.specs.Prelude.{◌≡◌, ℕ, List, [], Some, OnOk, IfOk, IsTrue, OnErr};
+ghost use Rattle.std.specs.Prelude.{◌≡◌, ℕ, List, [], Some, OnOk, IfOk, IsSome, IsTrue, OnErr};
 ghost use Rattle.std.specs.String.{string_bytes};
 ghost use Rattle.atomic_file.specs.Entries.{Entry, Link, IsFileOrMissing, KeepsAll, KeepsOthers, RenamedTo, kind_of};
 
@@ -103,6 +103,9 @@ pub trait FileSystem {
     fn remove(&mut self, path: &str, file: &Self::NewFile)
         requires named { is_named self.old path.now file.now }
         ensures others { is_known → KeepsOthers (entry_at self.old) (entry_at self.new) path.now };
+
+    /// If the clauses know what paths name, they know what a new file took.
+    ghost knows_taken: { is_known → (file : Self.NewFile) → IsSome (Self.NewFile.taken file) };
 }
 
 /// Why a content wasn't written whole.

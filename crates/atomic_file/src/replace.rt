@@ -17,11 +17,12 @@ const SUFFIX: &str = ".oscip-partial";
 /// Why the content of a file wasn't replaced.
 #[derive(Drop)]
 pub enum ReplaceFault<E> {
-    /// The path names no regular file, no link to one and not nothing; or this user may not write the file; or it couldn't be renamed to.
+    /// The path names something other than a regular file, a link to one, or nothing; or this user may not write the file; or
+    /// the rename failed.
     Target,
-    /// The new file, whose path this is, can't be opened or written, is locked, or isn't what its path names any more.
+    /// The new file can't be opened or written, is locked, or isn't what its path names any more.
     Partial {
-        /// The path.
+        /// The path of the new file.
         path: String,
     },
     /// There is no content.

@@ -29,6 +29,8 @@ pub struct FakeFiles {
     pub writes: u64,
     /// The step before which another process gives `PARTIAL` to a file of its own.
     pub stolen: u64,
+    /// Whether an allocation failed.
+    pub is_out_of_memory: bool,
     /// How many steps were asked for.
     pub steps: AtomicU64,
     /// The step that is refused.
@@ -85,7 +87,7 @@ impl Sink for FakeFile {
 impl FileSystem for FakeFiles {
     type NewFile = FakeFile;
 
-    ghost use Rattle.std.specs.Prelude.{◌≡◌, true, codes, if◌then◌else◌};
+    ghost use Rattle.std.specs.Prelude.{◌≡◌, refl, true, codes, if◌then◌else◌};
     ghost use Rattle.std.specs.Str.{bytes_eq};
     ghost use Rattle.std.specs.Option.{option_map_or};
     ghost use Rattle.atomic_file.specs.Entries.{Entry, Missing, File, Link, Other};
@@ -175,11 +177,10 @@ impl FileSystem for FakeFiles {
         if from != PARTIAL || to != TARGET {
             return Err(FileFault::System);
         }
-        let bytes = file
-            .bytes
-            .as_slice()
-            .to_vec(self.alloc)
-            .map_err(|_| FileFault::Memory)?;
+        let Ok(bytes) = file.bytes.as_slice().to_vec(self.alloc) else {
+            self.is_out_of_memory = true;
+            return Err(FileFault::Memory);
+        };
         self.target = Some(bytes);
         self.partial = None;
         Ok(())
@@ -190,4 +191,6 @@ impl FileSystem for FakeFiles {
             self.partial = None;
         }
     }
+
+    ghost knows_taken = { λ _ _. refl };
 }

@@ -12,7 +12,7 @@ const WHOLE: &[u8] = b"new";
 /// Writes a content, which may fail once it is written.
 fn write_whole(file: &mut FakeFile, fails: bool) -> Result<(), ContentFault<SinkFault>> {
     match put_all(file, WHOLE) {
-        Ok(()) if fails => Err(ContentFault::Other(SinkFault::Memory)),
+        Ok(()) if fails => Err(ContentFault::Other(SinkFault::Device)),
         Ok(()) => Ok(()),
         Err(SinkFault::Device) => Err(ContentFault::Device),
         Err(fault) => Err(ContentFault::Other(fault)),
@@ -50,6 +50,7 @@ fn files_of(
         is_folder: false,
         target: copy_of(alloc, target)?,
         partial: copy_of(alloc, partial)?,
+        is_out_of_memory: false,
         writes: NEVER,
         stolen: NEVER,
         steps: AtomicU64::new(0),
@@ -67,8 +68,7 @@ fn is_content(content: &Option<Vec<u8>>, wanted: Option<&[u8]>) -> bool {
 
 /// Replaces the file, by its path or by the link. How it ended.
 fn replace(files: &mut FakeFiles, fails: bool) -> &'static str {
-    let path = if files.is_link { OUT } else { TARGET };
-    let alloc = files.alloc;
+    let (alloc, path) = (files.alloc, if files.is_link { OUT } else { TARGET });
     match replace_file(
         alloc,
         files,
@@ -76,27 +76,29 @@ fn replace(files: &mut FakeFiles, fails: bool) -> &'static str {
         |file: &mut FakeFile| write_whole(file, fails),
     ) {
         Ok(()) => "written",
-        Err(ReplaceFault::Target) => "target",
+        Err(ReplaceFault::Target) if !files.is_out_of_memory => "target",
         Err(ReplaceFault::Partial { path }) if path.as_str() == PARTIAL => "partial",
         Err(ReplaceFault::Partial { .. }) => "another path",
-        Err(ReplaceFault::Content(_)) => "content",
-        Err(ReplaceFault::Memory) => "memory",
+        Err(ReplaceFault::Content(SinkFault::Device)) => "content",
+        Err(_) => "Memory",
     }
 }
 
-/// Whether the next run, of which nothing is refused, writes the whole content and leaves no new file.
-fn is_replaced_next(files: &mut FakeFiles) -> bool {
+/// How the next run ends, of which nothing is refused: it writes the whole content and leaves no new file.
+fn replace_next(files: &mut FakeFiles) -> &'static str {
     files.refused = NEVER;
     files.writes = NEVER;
-    replace(files, false) == "written"
-        && is_content(&files.target, Some(WHOLE))
-        && files.partial.is_none()
+    match replace(files, false) {
+        "written" if !is_content(&files.target, Some(WHOLE)) => "not whole",
+        "written" if files.partial.is_some() => "left",
+        ended => ended,
+    }
 }
 
-/// Whether the file has the whole content after this end, and otherwise what it had, and the next run succeeds.
-fn is_whole_or_kept(files: &mut FakeFiles, old: Option<&[u8]>, ended: &str) -> bool {
+/// Whether the file has the whole content after this end, and otherwise what it had.
+fn is_whole_or_kept(files: &FakeFiles, old: Option<&[u8]>, ended: &str) -> bool {
     let wanted = if ended == "written" { Some(WHOLE) } else { old };
-    is_content(&files.target, wanted) && is_replaced_next(files)
+    is_content(&files.target, wanted)
 }
 
 /// Each step is refused in turn. The run succeeds exactly if it didn't ask for the step.
@@ -108,14 +110,11 @@ fn refused_steps(rt: HostRuntime) -> Result<(), Fail> {
             files.refused = refused;
             let ended = replace(&mut files, false);
             let is_refused = files.steps.load(Ordering::SeqCst) > refused;
-            assert!(rt;
-                (ended == "written") != is_refused,
-                "step {refused}: {ended}"
-            );
-            assert!(rt;
-                is_whole_or_kept(&mut files, state.1, ended),
-                "step {refused}: {ended}"
-            );
+            let is_right = (ended == "written") != is_refused;
+            assert!(rt; is_right, "step {refused}: {ended}");
+            let is_right = is_whole_or_kept(&files, state.1, ended);
+            assert!(rt; is_right, "step {refused}: {ended}");
+            assert_eq!(rt; replace_next(&mut files), "written");
         }
     }
     Ok(())
@@ -130,7 +129,8 @@ fn failed_contents(rt: HostRuntime) -> Result<(), Fail> {
             files.writes = writes;
             let ended = replace(&mut files, fails);
             assert!(rt; ended == wanted && files.partial.is_none(), "{ended}");
-            assert!(rt; is_whole_or_kept(&mut files, state.1, ended), "{ended}");
+            assert!(rt; is_whole_or_kept(&files, state.1, ended), "{ended}");
+            assert_eq!(rt; replace_next(&mut files), "written");
         }
     }
     Ok(())
@@ -145,10 +145,8 @@ fn stolen_path(rt: HostRuntime) -> Result<(), Fail> {
             files.stolen = stolen;
             let ended = replace(&mut files, false);
             let is_kept = files.partial.is_some() && is_content(&files.target, state.1);
-            assert!(rt;
-                ended == "written" || ended == "partial" && is_kept,
-                "step {stolen}"
-            );
+            let is_right = ended == "written" || ended == "partial" && is_kept;
+            assert!(rt; is_right, "step {stolen}: {ended}");
         }
     }
     Ok(())
@@ -161,10 +159,8 @@ fn unreplaced(rt: HostRuntime) -> Result<(), Fail> {
         let mut files = files_of(rt.alloc(), (is_link, None, None))?;
         files.is_folder = is_folder;
         let ended = replace(&mut files, false);
-        assert!(rt;
-            ended == "target" && files.target.is_none() && files.partial.is_none(),
-            "{ended}"
-        );
+        let is_none = files.target.is_none() && files.partial.is_none();
+        assert!(rt; ended == "target" && is_none, "{ended}");
     }
     Ok(())
 }

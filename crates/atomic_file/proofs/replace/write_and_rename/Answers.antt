@@ -1,9 +1,18 @@
 -- What the writer left in the new file is what the target has.
+use Rattle.std.proofs.Common.{◌≡◌, List, [], Option, None, Some, IsSome, unwrap_or, refl}
 use Rattle.atomic_file.proofs.replace.write_and_rename.Goals as goal
 
+is-unwrap_or : {A : Type 0} (o : Option (List A)) → IsSome o → o ≡ Some (unwrap_or o [])
+is-unwrap_or None h = cc
+is-unwrap_or (Some x) h = refl
+
 pub returns-in-Ok-rename-clause-renamed : goal.returns-in-Ok-rename-clause-renamed
-returns-in-Ok-rename-clause-renamed g c = record {
-  bytes = g.F.NewFile.Sink.taken c.write_new.new.file;
-  is_written = c.in-Ok.ensures.written;
-  renamed = λ known k e. let h = c.in-Ok-rename.ensures.renamed k known e in rw (c.as_str.ensures.value, c.as_str-2.ensures.value) at h;
-}
+returns-in-Ok-rename-clause-renamed g c =
+    let left = g.F.NewFile.Sink.taken c.write_new.new.file in record {
+      left = left;
+      is_written = c.in-Ok.ensures.written;
+      bytes = unwrap_or left [];
+      left_is = λ k. is-unwrap_or left (g.met.F.FileSystem.knows_taken k c.write_new.new.file);
+      renamed = λ k. let h = c.in-Ok-rename.ensures.renamed k _ (is-unwrap_or left (g.met.F.FileSystem.knows_taken k c.write_new.new.file)) in
+          rw (c.as_str.ensures.value, c.as_str-2.ensures.value) at h;
+    }
