@@ -20,6 +20,7 @@
 #include <random>
 #include <regex>
 #include <spawn.h>
+#include <sstream>
 #include <string>
 #include <sys/resource.h>
 #include <sys/time.h>
@@ -154,8 +155,8 @@ const char *const FAULT = "oscip: (" FILE_FAULT
     "|" IMPORTS_FAULT "|WeightOverflow|PriceOverflow|NoEnd|NoDocument|SameModule|NoSuchModule [^]*"
     "|(Truncated|LongVarint|Group|ZeroField|BadText) \\d+)\n";
 const char *const FAULTS = "((" FILE_FAULT ")\n)+|(" IMPORTS_FAULT ")\n";
-const char *const INDEX_FAULT = "(oscip: (" FILE_FAULT ")\n)*oscip: (" FILE_FAULT "|" IMPORTS_FAULT ")\n";
 const char *const LEFT_OUT = "(oscip: (" FILE_FAULT ")\n)+";
+const char *const NO_INDEX = "(oscip: (" FILE_FAULT ")\n)*oscip: (" FILE_FAULT "|" IMPORTS_FAULT ")\n";
 const char *const REPORT = "cut \\w+ \\w+\n(weight \\d+\n(remove \\w+ \\w+ \\d+\n)*(flow \\w+ \\w+ [1-9]\\d*\n)*|blocked( \\w+)+\n)end\n";
 const char *const PLACES = "([^]*:\\d+:\\d+-\\d+:\\d+\n)*";
 const char *const NETWORK = "(module \\w+\n)*(import \\w+ \\w+ \\d+\n)*";
@@ -184,7 +185,7 @@ bool is_documented(const Words &words, const Ended &ended) {
         auto answer = ANSWERS.find(words.empty() ? "" : words[0]);
         return told.empty() && (answer == ANSWERS.end() || is_like(put, answer->second) || put.find("Usage") != Text::npos);
     }
-    case 1: return put.empty() && is_like(told, words[0] == "index" ? INDEX_FAULT : FAULT);
+    case 1: return put.empty() && is_like(told, words[0] == "index" ? NO_INDEX : FAULT);
     case 2: return put.empty() && told.rfind("error: ", 0) == 0;
     case 3: return is_like(told, words[0] == "index" ? "(oscip: (" FILE_FAULT ")\n)*oscip: cannot (read|write)( [^]*)?\n" : "oscip: cannot (read|write)( [^]*)?\n");
     case 5:
@@ -310,14 +311,22 @@ void tried_why(const Text &first, const Text &last) {
     if (one.status != other.status || one.put != other.put) stop(words, other, "not the chain in the tree");
 }
 
-// The faults of all files: the first is what any other command tells, and an index that leaves these files out tells each.
+// The faults of all files: the first is that of any other command. An index that leaves these files out reports each, and then the
+// fault of the imports, if it has one.
 void tried_faults() {
     Ended faults = tried({"faults", "tree"}), net = tried({"net", "tree"});
-    Text first = "oscip: " + faults.put.substr(0, faults.put.find('\n') + 1);
     Words words = {"index", "tree", "--hex", "--skip-faults"};
     Ended index = tried(words);
-    if (faults.status == 0 ? net.status != 0 || index.status != 0 : net.status != 1 || net.told != first || (index.status != 1 && index.status != 5))
-        stop(words, index, "not the faults of the tree");
+    std::istringstream lines(faults.put);
+    Text all, line;
+    while (std::getline(lines, line)) all += "oscip: " + line + "\n";
+    if (faults.status == 0) {
+        if (net.status != 0 || index.status != 0) stop(words, index, "not the faults of the tree");
+        return;
+    }
+    bool has_first = net.status == 1 && net.told == all.substr(0, all.find('\n') + 1);
+    bool has_all = index.status == 5 ? index.told == all : index.status == 1 && index.told.rfind(all, 0) == 0;
+    if (!has_first || !has_all) stop(words, index, "not the faults of the tree");
 }
 
 void try_tree(const Examples &examples) {
@@ -346,7 +355,7 @@ void try_tree(const Examples &examples) {
     case 2: tried({"crossings", "tree", some_name(), some_name()}); break;
     case 3: tried({"unresolved", "tree"}); break;
     case 4: tried_cut(priced({"cut", "tree", some_name(), some_name(), some_workers()}, examples)); break;
-    case 5: tried({"index", "tree", "out", some_workers()}); break;
+    case 5: tried({"index", "tree", "out", one_in(2) ? "--atomic" : some_workers()}); break;
     case 6: tried_why(some_name(), some_name()); break;
     default: {
         Ended one = tried({"index", "tree", "--hex", "--workers=1"});
@@ -357,7 +366,7 @@ void try_tree(const Examples &examples) {
     }
 }
 
-const Words SAID = {"cut", "cut-net", "check", "check-net", "dot", "dot-net", "def", "refs", "crossings", "why", "why-net", "rules", "faults", "symbol", "symbols", "--symbol=x", "--symbol", "--skip-faults", "index", "unresolved", "help", "--help", "-h", "-V", "--version",
+const Words SAID = {"cut", "cut-net", "check", "check-net", "dot", "dot-net", "def", "refs", "crossings", "why", "why-net", "rules", "faults", "symbol", "symbols", "--symbol=x", "--symbol", "--skip-faults", "--atomic", "index", "unresolved", "help", "--help", "-h", "-V", "--version",
     "--workers", "--workers=2", "--workers=99", "--prices", "--prices=prices", "--hex", "--flow", "--package", "--package=p", "--package= p", "--root=r", "--", "-", "net", "report", "tree", "index", "gone", "A", "B", "0", "3",
     "-1", "2147483648", "", "\xff"};
 
