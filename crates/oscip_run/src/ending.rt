@@ -97,7 +97,7 @@ pub fn end_without_job<O: Sink, E: Sink>(
         JobFault::Help { text } => match stdout.write(text.as_str()) {
             Ok(()) => ExitCode::from(status_of_words(fault)),
             Err(_) => {
-                let status = end_by_fault(&RunFault::Device, "oscip: Device\n", stderr);
+                let status = end_by_fault(&RunFault::Device, "oscip: cannot write\n", stderr);
                 ExitCode::from(status)
             }
         },
