@@ -157,6 +157,8 @@ const char *const FAULT = "oscip: (" FILE_FAULT
 const char *const FAULTS = "((" FILE_FAULT ")\n)+|(" IMPORTS_FAULT ")\n";
 const char *const LEFT_OUT = "(oscip: (" FILE_FAULT ")\n)+";
 const char *const NO_INDEX = "(oscip: (" FILE_FAULT ")\n)*oscip: (" FILE_FAULT "|" IMPORTS_FAULT ")\n";
+const char *const NO_FILE = "oscip: cannot (read|write)( [^]*)?\n";
+const char *const NO_INDEX_FILE = "(oscip: (" FILE_FAULT ")\n)*oscip: cannot (read|write)( [^]*)?\n";
 const char *const REPORT = "cut \\w+ \\w+\n(weight \\d+\n(remove \\w+ \\w+ \\d+\n)*(flow \\w+ \\w+ [1-9]\\d*\n)*|blocked( \\w+)+\n)end\n";
 const char *const PLACES = "([^]*:\\d+:\\d+-\\d+:\\d+\n)*";
 const char *const NETWORK = "(module \\w+\n)*(import \\w+ \\w+ \\d+\n)*";
@@ -180,14 +182,15 @@ bool is_like(const Text &text, const char *pattern) {
 
 bool is_documented(const Words &words, const Ended &ended) {
     const Text &put = ended.put, &told = ended.told;
+    const bool leaves_out = std::find(words.begin(), words.end(), "--skip-faults") != words.end();
     switch (ended.status) {
     case 0: {
         auto answer = ANSWERS.find(words.empty() ? "" : words[0]);
         return told.empty() && (answer == ANSWERS.end() || is_like(put, answer->second) || put.find("Usage") != Text::npos);
     }
-    case 1: return put.empty() && is_like(told, words[0] == "index" ? NO_INDEX : FAULT);
+    case 1: return put.empty() && is_like(told, leaves_out ? NO_INDEX : FAULT);
     case 2: return put.empty() && told.rfind("error: ", 0) == 0;
-    case 3: return is_like(told, words[0] == "index" ? "(oscip: (" FILE_FAULT ")\n)*oscip: cannot (read|write)( [^]*)?\n" : "oscip: cannot (read|write)( [^]*)?\n");
+    case 3: return is_like(told, leaves_out ? NO_INDEX_FILE : NO_FILE);
     case 5:
         if (words[0] == "index") return is_like(told, LEFT_OUT) && is_like(put, "([0-9a-f]*\n)?");
         if (!told.empty()) return false;

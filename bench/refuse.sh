@@ -24,7 +24,6 @@ printf 'import A B 0\nimport B C 0\nimport A C 0\n' > zero.net
 sed 's/^flow A M 2/flow A M 3/' six.cut > over.cut
 sed '/^end/d' six.cut > short.cut
 ends=$(./generate layered 1 64 512 layered.net)
-printf 'oscip: Memory\n' > memory
 printf 'pin A M\n' > pin.prices
 printf 'pin A M\npin M B\n' > pins.prices
 printf 'pin A M\nprice M B 1\npin M B\n' > twice.prices
@@ -49,9 +48,17 @@ printf '?' > broken/E.Mod
 printf 'MODULE F; VAR x, x: SET; END F.' > broken/F.Mod
 printf 'cut A D\nweight 2\nremove A B 1\nremove C D 1\nflow A B 1\nflow A C 1\nflow B D 1\nflow C D 1\nend\n' > four.cut
 
-# Whether the run ended for want of memory.
+# Whether the run ended for want of memory, and told before only of files that it leaves out.
 is_memory() {
-  [ $status = 4 ] && cmp -s told memory && head -c "$(wc -c < got)" right | cmp -s - got
+  [ $status = 4 ] && [ "$(tail -n 1 told)" = 'oscip: Memory' ] && ! sed '$d' told | grep -qvxFf left
+}
+
+# The lines that may come before Memory: those of files that are left out.
+keep_left() {
+  case " $* " in
+    *' --skip-faults '*) cp said left ;;
+    *) : > left ;;
+  esac
 }
 
 # Whether standard output is right but for its flow, which has to pass the check.
@@ -67,6 +74,7 @@ trial() {
   : > out.scip
   "$oscip" "$@" > right 2> said && right=0 || right=$?
   cat out.scip >> right
+  keep_left "$@"
   [ $right = $wanted ] || { echo "$*: status $right, $(head -n 1 said)"; exit 1; }
   while :; do
     rm -f refused
@@ -74,7 +82,7 @@ trial() {
     REFUSE_AT=$number REFUSE_NOTE=refused LD_PRELOAD="$work/refuse.so" "$oscip" "$@" > got 2> told && status=0 || status=$?
     [ -e refused ] || break
     cat out.scip >> got
-    if is_memory; then
+    if is_memory && head -c "$(wc -c < got)" right | cmp -s - got; then
       refusals=$((refusals + 1))
     elif [ $status = $right ] && is_right "$@" && cmp -s told said; then
       same=$((same + 1))
@@ -88,21 +96,21 @@ trial() {
   echo "$*: $refusals refusals end in Memory, $same change nothing ($(cat said right | head -n 1), status $right)"
 }
 
-# A run that replaces out.scip as a whole, after its status if no allocation fails. If it runs out of memory, the lines before Memory are
-# those of files that it leaves out, and the index may be there already only if such lines were still to be written.
+# A run that replaces out.scip as a whole, after its status if no allocation fails.
 whole() {
   local wanted=$1 number=1 refusals=0 same=0 right status
   shift
   printf 'as it was' > out.scip
   "$oscip" "$@" out.scip > right 2> said && right=0 || right=$?
   cp out.scip right.scip
+  keep_left "$@"
   [ $right = $wanted ] || { echo "$*: status $right, $(head -n 1 said)"; exit 1; }
   while :; do
     rm -f refused
     printf 'as it was' > out.scip
     REFUSE_AT=$number REFUSE_NOTE=refused LD_PRELOAD="$work/refuse.so" "$oscip" "$@" out.scip > got 2> told && status=0 || status=$?
     [ -e refused ] || break
-    if [ $status = 4 ] && [ "$(tail -n 1 told)" = 'oscip: Memory' ] && ! sed '$d' told | grep -qvxFf said && is_whole; then
+    if is_memory && is_whole; then
       refusals=$((refusals + 1))
     elif [ $status = $right ] && cmp -s out.scip right.scip && cmp -s told said && [ ! -e out.scip.oscip-partial ]; then
       same=$((same + 1))
@@ -116,9 +124,10 @@ whole() {
   echo "$*: $refusals refusals end in Memory, $same change nothing ($(cat said right | head -n 1), status $right)"
 }
 
-# Whether out.scip is as it was, or right where lines of left-out files were written, and nothing is beside it.
+# Whether nothing is beside out.scip, and it is as it was, or right and all lines of left-out files but one are told.
 is_whole() {
-  [ ! -e out.scip.oscip-partial ] && { printf 'as it was' | cmp -s - out.scip || { [ -s said ] && cmp -s out.scip right.scip; }; }
+  [ -e out.scip.oscip-partial ] && return 1
+  printf 'as it was' | cmp -s - out.scip || { cmp -s out.scip right.scip && [ -s left ] && [ "$(wc -l < told)" = "$(wc -l < left)" ]; }
 }
 
 trial 0 check-net six.net six.cut

@@ -9,7 +9,7 @@ complete -c oscip -n __fish_use_subcommand -a check -d 'Check a report\'s proof 
 complete -c oscip -n __fish_use_subcommand -a crossings -d 'Print where an Oberon-07 module uses another: what to rewrite to remove that import'
 complete -c oscip -n __fish_use_subcommand -a net -d 'Print which Oberon-07 module imports which, and by how many uses, as a network'
 complete -c oscip -n __fish_use_subcommand -a why -d 'Print why an Oberon-07 module reaches another: the shortest path of imports'
-complete -c oscip -n __fish_use_subcommand -a rules -d 'Check Oberon-07 modules against rules of which may not reach which'
+complete -c oscip -n __fish_use_subcommand -a rules -d 'Check Oberon-07 modules against rules that say which may not reach which'
 complete -c oscip -n __fish_use_subcommand -a cut-net -d 'Find the cheapest imports of a network to remove so that A no longer reaches B'
 complete -c oscip -n __fish_use_subcommand -a check-net -d 'Check a report\'s proof that its cut of a network is cheapest'
 complete -c oscip -n __fish_use_subcommand -a why-net -d 'Print why a module of a network reaches another: the shortest path of imports'
@@ -20,7 +20,7 @@ complete -c oscip -n __fish_use_subcommand -a refs -d 'Print where the symbol at
 complete -c oscip -n __fish_use_subcommand -a symbol -d 'Print the text of the symbol at a position, by an index in the SCIP format'
 complete -c oscip -n __fish_use_subcommand -a symbols -d 'List which symbols are defined where, by an index in the SCIP format'
 complete -c oscip -n __fish_use_subcommand -a index -d 'Write an index of Oberon-07 modules in the SCIP format, for code browsers'
-complete -c oscip -n __fish_use_subcommand -a unresolved -d 'List identifiers of Oberon-07 modules that denote nothing that the modules declare'
+complete -c oscip -n __fish_use_subcommand -a unresolved -d 'List identifiers of Oberon-07 modules that are neither declared, imported nor predeclared'
 complete -c oscip -n __fish_use_subcommand -a faults -d 'List files of a folder that have faults, each with its first one'
 complete -c oscip -n '__fish_seen_subcommand_from cut' -F
 complete -c oscip -n '__fish_seen_subcommand_from cut' -l workers -x

@@ -29,6 +29,8 @@ pub struct FakeFiles {
     pub writes: u64,
     /// The step before which another process gives `PARTIAL` to a file of its own.
     pub stolen: u64,
+    /// Whether a rename found `PARTIAL` given away, more than one step ago.
+    pub renames_stolen: bool,
     /// Whether an allocation failed.
     pub is_out_of_memory: bool,
     /// How many steps were asked for.
@@ -183,6 +185,7 @@ impl FileSystem for FakeFiles {
         };
         self.target = Some(bytes);
         self.partial = None;
+        self.renames_stolen = self.steps.load(Ordering::SeqCst) > self.stolen.saturating_add(1);
         Ok(())
     }
 

@@ -53,6 +53,7 @@ fn files_of(
         is_out_of_memory: false,
         writes: NEVER,
         stolen: NEVER,
+        renames_stolen: false,
         steps: AtomicU64::new(0),
         refused: NEVER,
     })
@@ -136,7 +137,7 @@ fn failed_contents(rt: HostRuntime) -> Result<(), Fail> {
     Ok(())
 }
 
-/// The new file of another process stays, and the file is as it was.
+/// Another process's file stays, and the file is as it was, unless it took the path after the last look at it.
 #[test]
 fn stolen_path(rt: HostRuntime) -> Result<(), Fail> {
     for state in STATES {
@@ -144,8 +145,11 @@ fn stolen_path(rt: HostRuntime) -> Result<(), Fail> {
             let mut files = files_of(rt.alloc(), state)?;
             files.stolen = stolen;
             let ended = replace(&mut files, false);
-            let is_kept = files.partial.is_some() && is_content(&files.target, state.1);
-            let is_right = ended == "written" || ended == "partial" && is_kept;
+            let is_right = match ended {
+                "written" => !files.renames_stolen && is_content(&files.target, Some(WHOLE)),
+                "partial" => files.partial.is_some() && is_content(&files.target, state.1),
+                _ => false,
+            };
             assert!(rt; is_right, "step {stolen}: {ended}");
         }
     }

@@ -16,8 +16,8 @@ use index_run::{
 };
 use oscip_job::{Indexing, Job, JobFault, Output, job_of};
 use oscip_run::{
-    Reader, RunFault, Stream, SystemFiles, ask_tree, end_of, end_without_job, fault_line, run_net,
-    run_question,
+    Reader, RunFault, Stream, SystemFiles, ask_tree, end_of, end_without_job, fault_line,
+    line_of_run, run_net, run_question,
 };
 use oscip_tree::{Source, TreeFault};
 use std::alloc::{AllocError, Global};
@@ -269,7 +269,8 @@ fn end_of_job<
     requires package { HasPackage job.now }
 {
     let ended = run_job(rt, job, stderr);
-    end_of(rt.alloc(), &ended, stderr)
+    let line = line_of_run(rt.alloc(), &ended);
+    end_of(&ended, line, stderr)
 }
 
 /// Reports why there is no job, or writes the help, and returns the status.
@@ -279,7 +280,7 @@ fn end_of_words<R: AllocGlobal + Print, E: Sink>(
     stderr: &mut Stream<E>,
 ) -> ExitCode {
     let mut stdout = Stream::new(ToWrite::new(io::writer(rt)));
-    end_without_job(rt.alloc(), fault, &mut stdout, stderr)
+    end_without_job(fault, &mut stdout, stderr)
 }
 
 fn run<R: Files<File = File> + AllocGlobal + Print + Threads + Wait + Sync + Clone + Drop, E: Sink>(
@@ -312,7 +313,7 @@ fn main(rt: HostRuntime) -> ExitCode {
     match words_of(&rt) {
         Ok(words) => run(&rt, words.as_slice(), &mut stderr),
         Err(error) if error.kind() == ErrorKind::OutOfMemory => {
-            end_of(rt.alloc(), &Err(RunFault::Memory), &mut stderr)
+            end_of_words(&rt, &JobFault::Memory, &mut stderr)
         }
         Err(_) => end_of_words(&rt, &not_words(rt.alloc()), &mut stderr),
     }

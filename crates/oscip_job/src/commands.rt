@@ -181,7 +181,7 @@ fn with_flow<'a>(alloc: Global, command: Made<'a>) -> Made<'a>
         alloc,
         command,
         "flow",
-        "Draw only the imports that the report removes or gives flow",
+        "Draw only the imports that the report removes or gives flow, or those of its path",
     )
 }
 
@@ -229,7 +229,7 @@ fn rules_command<'a>(alloc: Global) -> Made<'a>
     let command = named(
         alloc,
         "rules",
-        "Check Oberon-07 modules against rules of which may not reach which",
+        "Check Oberon-07 modules against rules that say which may not reach which",
         RULES_END,
     );
     let command = with_required(alloc, command, "DIR", FOLDER_HELP);
@@ -436,7 +436,7 @@ fn unresolved_command<'a>(alloc: Global) -> Made<'a>
     let command = named(
         alloc,
         "unresolved",
-        "List identifiers of Oberon-07 modules that denote nothing that the modules declare",
+        "List identifiers of Oberon-07 modules that are neither declared, imported nor predeclared",
         UNRESOLVED_END,
     );
     with_required(alloc, command, "DIR", FOLDER_HELP)

@@ -1,8 +1,8 @@
 //! How the program ends: what it writes to its streams, and its status.
-ghost use Rattle.std.specs.Prelude.{◌≡◌, IfErr, IfOk};
+ghost use Rattle.std.specs.Prelude.{◌≡◌, IfOk};
 ghost use Rattle.std.specs.Process.{exit_status};
 ghost use Rattle.std.specs.String.{string_bytes};
-ghost use Rattle.oscip_run.specs.Endings.{fault_line, run_status, words_status, EndsByFault, EndsRun, EndsWords};
+ghost use Rattle.oscip_run.specs.Endings.{fault_line, run_line, run_status, words_status, EndsByFault, EndsRun, EndsWords};
 ghost use Rattle.oscip_run.specs.declared.fault.RunFault.TheVariants.{Memory};
 
 use crate::{RunFault, Stream, fault_line, status_of};
@@ -33,53 +33,55 @@ pub fn status_of_words(fault: &JobFault) -> u8
     }
 }
 
+/// The line that reports how a run ended: that of `fault_line`, or an empty text if the run has no fault. Fails if memory runs out.
+pub fn line_of_run(alloc: Global, ended: &Result<bool, RunFault>) -> Result<String, AllocError>
+    ensures { IfOk result (λ text. string_bytes text ≡ run_line ended.now) }
+{
+    match ended {
+        Ok(_) => Ok(String::new(alloc)),
+        Err(fault) => fault_line(alloc, fault),
+    }
+}
+
+/// Reports a fault by its line on standard error. Returns its status, which a failure of standard error doesn't change.
+fn end_by_fault<E: Sink>(fault: &RunFault, line: &str, stderr: &mut Stream<E>) -> u8
+    requires { line.now ≡ fault_line fault.now }
+    ensures { EndsByFault E.taken fault.now stderr.old stderr.new result }
+{
+    let _ = stderr.write(line);
+    status_of(fault)
+}
+
 /// Reports on standard error that memory ran out, without an allocation. Returns the status.
 fn end_by_memory<E: Sink>(stderr: &mut Stream<E>) -> u8
     ensures { EndsByFault E.taken Memory stderr.old stderr.new result }
 {
-    let _ = stderr.write("oscip: Memory\n");
-    status_of(&RunFault::Memory)
+    end_by_fault(&RunFault::Memory, "oscip: Memory\n", stderr)
 }
 
-/// Reports a fault by its line on standard error, or that memory ran out for the line. Returns the status of what it reports.
-fn end_by_fault<E: Sink>(
-    fault: &RunFault,
+/// Reports the fault of a run, if it has one, by the line of `line_of_run` on standard error. Returns the status: that of
+/// `status_of_run`, or 4 if memory ran out for the line of a fault.
+pub fn end_of<E: Sink>(
+    ended: &Result<bool, RunFault>,
     line: Result<String, AllocError>,
     stderr: &mut Stream<E>,
-) -> u8
-    requires { IfOk line (λ text. string_bytes text ≡ fault_line fault.now) }
-    ensures fault { IfOk line (λ _. EndsByFault E.taken fault.now stderr.old stderr.new result) }
-    ensures memory { IfErr line (λ _. EndsByFault E.taken Memory stderr.old stderr.new result) }
-{
-    match line {
-        Ok(line) => {
-            let _ = stderr.write(line.as_str());
-            status_of(fault)
-        }
-        Err(_) => end_by_memory(stderr),
-    }
-}
-
-/// Reports the fault of a run, if it has one, in one line on standard error. Returns the status: that of `status_of_run`, or 4 if
-/// memory ran out for the line. A failure of standard error changes no status.
-pub fn end_of<E: Sink>(
-    alloc: Global,
-    ended: &Result<bool, RunFault>,
-    stderr: &mut Stream<E>,
 ) -> ExitCode
+    requires { IfOk line (λ text. string_bytes text ≡ run_line ended.now) }
     // The status, and the line that is written with it.
-    ensures { EndsRun E.taken ended.now stderr.old stderr.new (exit_status result) }
+    ensures { EndsRun E.taken ended.now line stderr.old stderr.new (exit_status result) }
 {
     match ended {
         Ok(_) => ExitCode::from(status_of_run(ended)),
-        Err(fault) => ExitCode::from(end_by_fault(fault, fault_line(alloc, fault), stderr)),
+        Err(fault) => match line {
+            Ok(line) => ExitCode::from(end_by_fault(fault, line.as_str(), stderr)),
+            Err(_) => ExitCode::from(end_by_memory(stderr)),
+        },
     }
 }
 
 /// Reports on standard error why there is no job, or writes the help that was asked for to standard output. Returns the status: that of
-/// `status_of_words`, or if not all of the help was written, that of `end_of` for `Device`.
+/// `status_of_words`, or if not all of the help was written, that of `Device`, whose line is then written.
 pub fn end_without_job<O: Sink, E: Sink>(
-    alloc: Global,
     fault: &JobFault,
     stdout: &mut Stream<O>,
     stderr: &mut Stream<E>,
@@ -94,7 +96,10 @@ pub fn end_without_job<O: Sink, E: Sink>(
         }
         JobFault::Help { text } => match stdout.write(text.as_str()) {
             Ok(()) => ExitCode::from(status_of_words(fault)),
-            Err(_) => end_of(alloc, &Err(RunFault::Device), stderr),
+            Err(_) => {
+                let status = end_by_fault(&RunFault::Device, "oscip: cannot write\n", stderr);
+                ExitCode::from(status)
+            }
         },
         JobFault::Memory => ExitCode::from(end_by_memory(stderr)),
     }

@@ -24,7 +24,7 @@ mod stream;
 pub use asking::answer_question;
 pub use crossing::crossings_tree;
 pub use drawing::{dot_net_bytes, dot_tree};
-pub use ending::{end_of, end_without_job, status_of_run, status_of_words};
+pub use ending::{end_of, end_without_job, line_of_run, status_of_run, status_of_words};
 pub use engine::{READERS, check_net_bytes, check_tree, cut_net_bytes, cut_tree};
 pub use fault::{RunFault, fault_line, status_of};
 pub use faults::{faults_tree, run_faults};
