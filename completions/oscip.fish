@@ -20,7 +20,7 @@ complete -c oscip -n __fish_use_subcommand -a refs -d 'Print where the symbol at
 complete -c oscip -n __fish_use_subcommand -a symbol -d 'Print the text of the symbol at a position, by an index in the SCIP format'
 complete -c oscip -n __fish_use_subcommand -a symbols -d 'List which symbols are defined where, by an index in the SCIP format'
 complete -c oscip -n __fish_use_subcommand -a index -d 'Write an index of Oberon-07 modules in the SCIP format, for code browsers'
-complete -c oscip -n __fish_use_subcommand -a unresolved -d 'List identifiers of Oberon-07 modules that are neither declared, imported nor predeclared'
+complete -c oscip -n __fish_use_subcommand -a unresolved -d 'List identifiers of Oberon-07 modules that are not declared, imported or predeclared'
 complete -c oscip -n __fish_use_subcommand -a faults -d 'List files of a folder that have faults, each with its first one'
 complete -c oscip -n '__fish_seen_subcommand_from cut' -F
 complete -c oscip -n '__fish_seen_subcommand_from cut' -l workers -x

@@ -181,7 +181,7 @@ fn with_flow<'a>(alloc: Global, command: Made<'a>) -> Made<'a>
         alloc,
         command,
         "flow",
-        "Draw only the imports that the report removes or gives flow, or those of its path",
+        "Draw only imports that the report removes, gives flow or has in its path",
     )
 }
 
@@ -436,7 +436,7 @@ fn unresolved_command<'a>(alloc: Global) -> Made<'a>
     let command = named(
         alloc,
         "unresolved",
-        "List identifiers of Oberon-07 modules that are neither declared, imported nor predeclared",
+        "List identifiers of Oberon-07 modules that are not declared, imported or predeclared",
         UNRESOLVED_END,
     );
     with_required(alloc, command, "DIR", FOLDER_HELP)
