@@ -6,7 +6,7 @@ use Rattle.std.proofs.lemmas.List.Elements.{All-contains}
 use Rattle.digraph.specs.declared.edge.Edge.{Edge}
 use Rattle.digraph.specs.Chains.{Chain}
 use Rattle.digraph.specs.Edges as edges
-use Rattle.digraph.specs.Levels.{AreChain, IsLeastChain}
+use Rattle.digraph.specs.ShortestPaths.{AreChain, IsLeastChain}
 use Rattle.digraph.proofs.Members.{first_or_later, first_member, from_map, in_map, later_member, no_member}
 use Rattle.digraph.proofs.SameGraphs.{chain_as, AreSame}
 use Rattle.cut_net.specs.declared.priced.Priced.{Priced}

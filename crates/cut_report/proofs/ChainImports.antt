@@ -3,7 +3,7 @@ use Rattle.std.proofs.Common.{◌≡◌, ℕ, true, List, [], ◌∷◌, Option,
 use Rattle.std.specs.Prelude.{Contains, find, is_some, unwrap_or}
 use Rattle.std.specs.List.{zip}
 use Rattle.digraph.specs.Chains.{IsChain}
-use Rattle.digraph.specs.Levels.{AreChain, IsLeastChain}
+use Rattle.digraph.specs.ShortestPaths.{AreChain, IsLeastChain}
 use Rattle.digraph.proofs.Members.{first_or_later, from_map, no_member}
 use Rattle.digraph.proofs.SameGraphs.{chain_as, AreSame}
 use Rattle.cut_net.specs.declared.priced.Priced.{Priced}

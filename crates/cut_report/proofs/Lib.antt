@@ -5,6 +5,7 @@ pub mod RestKinds
 pub mod ImportLines
 pub mod EntryLines
 pub mod FaultLaws
+pub mod Reached
 pub mod Readings
 pub mod LastImports
 pub mod Standings

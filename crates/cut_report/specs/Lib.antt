@@ -5,5 +5,6 @@ pub mod ReportLines
 pub mod Faults
 pub mod Lines
 pub mod Drafts
+pub mod Reach
 pub mod Reading
 pub mod NetLines

@@ -1,7 +1,7 @@
 -- The text of a network, and that of a chain of imports: each line is one that the text of a network may have.
 use Rattle.std.specs.Prelude.{ℕ, List, ◌++◌, map, drop, find, unwrap_or}
 use Rattle.std.specs.List.{flat_map, zip}
-use Rattle.digraph.specs.Levels.{AreChain}
+use Rattle.digraph.specs.ShortestPaths.{AreChain}
 use Rattle.texts.specs.Fields.{ended}
 use Rattle.cut_net.specs.declared.priced.Priced.{Priced}
 use Rattle.cut_net.specs.Cuts.{same_ends, Any, Imports}

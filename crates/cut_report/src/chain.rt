@@ -1,7 +1,7 @@
 //! Chains of imports.
 ghost use Rattle.std.specs.Prelude.{◌≡◌, ◌<◌, IfNone, IfOk, IfSome, length, map};
 ghost use Rattle.digraph.specs.Chains.{Chain};
-ghost use Rattle.digraph.specs.Levels.{IsLeastChain};
+ghost use Rattle.digraph.specs.ShortestPaths.{IsLeastChain};
 ghost use Rattle.cut_net.specs.Cuts.{Any, Imports};
 ghost use Rattle.cut_net.specs.Lines.{edge_of};
 
@@ -10,7 +10,7 @@ use digraph::{Edge, least_chain};
 use std::alloc::{AllocError, Global};
 
 /// The imports without their weights.
-fn edges_of(alloc: Global, imports: &[Priced]) -> Result<Vec<Edge>, AllocError>
+pub(crate) fn edges_of(alloc: Global, imports: &[Priced]) -> Result<Vec<Edge>, AllocError>
     ensures { IfOk result (λ edges. edges.items ≡ map edge_of imports.now) }
 {
     imports

@@ -1,5 +1,5 @@
--- The files of a folder stand together.
-use Rattle.std.proofs.Common.{◌≡◌, ◌≢◌, ℕ, ◌<◌, ◌≤◌, ◌⊎◌, inl, inr, true, false, List, [], ◌∷◌, ◌++◌, length, get_or, drop, Some, refl, sym, ap, ◌∙◌, subst, arith, append_assoc, Ordering}
+-- The files of a folder are adjacent.
+use Rattle.std.proofs.Common.{◌≡◌, ◌≢◌, ℕ, ◌<◌, ◌≤◌, ◌⊎◌, inl, inr, true, false, List, [], ◌∷◌, ◌++◌, length, get_or, drop, Some, refl, sym, ap, ◌∙◌, subst, arith, Ordering}
 use Rattle.std.specs.Prelude.{◌↔◌, slice_get, nat_eq}
 use Rattle.std.specs.List.{starts_with}
 use Rattle.std.specs.List.Sorted.{IsPartitionPoint, IsPartitionedBy, IsSorted}
@@ -16,7 +16,7 @@ use Rattle.std.proofs.lemmas.Option.{get_or_from_slice_get}
 use Rattle.std.proofs.lemmas.Slice.Eq.{starts_is}
 use Rattle.cut_rules.specs.declared.file.File.{File}
 use Rattle.cut_rules.specs.Folders.{is_before, is_not_behind, path_cmp}
-use Rattle.cut_rules.specs.Rules.{LiesIn}
+use Rattle.cut_rules.specs.Rules.{folder_prefix, IsBelow}
 use Rattle.cut_rules.proofs.Pieces.{get_low}
 
 -- a text that is not above one that begins so comes before the beginning, or begins so too
@@ -97,22 +97,19 @@ module _ (files : List File) (sorted : IsSorted path_cmp files) (text : List ℕ
       low_enough Equal l e = cc
       low_enough Greater l e = absurd (omega (arith, l))
 
-module _ (files : List File) (folder text : List ℕ) (is_text : text ≡ folder ++ 47 ∷ []) (from to : ℕ)
+module _ (files : List File) (path text : List ℕ) (is_text : text ≡ folder_prefix path) (from to : ℕ)
     (first : IsPartitionPoint (λ f. is_before text f ≡ true) (λ f. is_before text f ≡ false) files from)
     (last : IsPartitionPoint (λ f. is_not_behind text f ≡ true) (λ f. is_not_behind text f ≡ false) files to) where
-  whole_is : (rest : List ℕ) → text ++ rest ≡ folder ++ 47 ∷ rest
-  whole_is rest = ap (λ (t : List ℕ). t ++ rest) is_text ∙ append_assoc folder (47 ∷ []) rest
-
-  pub places_are : (k : ℕ) (f : File) → slice_get files k ≡ Some f → ((from ≤ k) × (k < to)) ↔ LiesIn folder f.path.now
+  pub places_are : (k : ℕ) (f : File) → slice_get files k ≡ Some f → ((from ≤ k) × (k < to)) ↔ IsBelow path f.path.now
   places_are k f at =
       let lt : k < length files = get_low files k f at in
       let here : get_or files k f ≡ f = get_or_from_slice_get files k f f at in (
         λ (low, high). elim (or_cases _ _ (subst (λ (g : File). is_not_behind text g ≡ true) here (last.0 k f (omega arith) high))) [
           | inl before ↦ absurd (let e : true ≡ false = sym before ∙ subst (λ (g : File). is_before text g ≡ false) here (first.1 k f low lt) in cc)
-          | inr starts ↦ let whole = (begins text f).0 starts in (drop (length text) f.path.now, whole ∙ whole_is (drop (length text) f.path.now))
+          | inr starts ↦ (drop (length text) f.path.now, (begins text f).0 starts ∙ ap (λ (t : List ℕ). t ++ drop (length text) f.path.now) is_text)
         ],
         λ (rest, is).
-            let whole : f.path.now ≡ text ++ rest = is ∙ sym (whole_is rest) in (
+            let whole : f.path.now ≡ text ++ rest = is ∙ ap (λ (t : List ℕ). t ++ rest) (sym is_text) in (
               elim (cases_lt k from) [
                 | inl below ↦
                     let less = before_is text f (subst (λ (g : File). is_before text g ≡ true) here (first.0 k f (omega arith) below)) in

@@ -1,270 +1,310 @@
--- What is wrong with a line, and what is looked for first.
-use Rattle.std.proofs.Common.{◌≡◌, ℕ, ◌+◌, ◌<◌, ◌≤◌, inl, inr, true, false, Bool, List, [], ◌∷◌, length, map, get_or, Option, Some, None, refl, sym, ap, ◌∙◌, subst, arith}
-use Rattle.std.specs.Prelude.{◌↔◌, AllPairs, Contains, String, is_some, nat_eq, option_map, slice_get}
-use Rattle.std.specs.List.{position, position_or_len}
-use Rattle.std.specs.Str.{bytes_eq}
-use Rattle.std.specs.String.{string_bytes}
-use Rattle.std.proofs.lemmas.Bool.{cases_eq, cases_lt, eqb-true, false_from_ne_true, lt-ltb}
-use Rattle.std.proofs.lemmas.Bool.Decides.{Decides-eqb}
-use Rattle.std.proofs.lemmas.Cmp.{nat_eq_equiv}
-use Rattle.std.proofs.lemmas.Map.Keys.{IsDistinct-from_apart}
-use Rattle.std.proofs.lemmas.Map.Made.{is_member-Decides, length-le_from_is_member}
-use Rattle.std.proofs.lemmas.List.{get_or_default, get_or-map, length-map}
-use Rattle.std.proofs.lemmas.List.Elements.{Contains-get_or}
-use Rattle.std.proofs.lemmas.List.Sums.{fails_before_first}
-use Rattle.std.proofs.lemmas.Option.{slice_get-get_or}
-use Rattle.std.proofs.lemmas.Slice.Eq.{bytes_eq-Decides}
+-- The search for a rule finds the paths that its line forbids.
+use Rattle.std.proofs.Common.{◌≡◌, ◌∙◌, ℕ, ◌+◌, ◌<◌, ◌≤◌, ◌⊎◌, inl, inr, true, false, List, [], ◌∷◌, length, get_or, Option, Some, None, refl, sym, ap, subst, arith}
+use Rattle.std.specs.Prelude.{◌↔◌, All, Contains, slice_get}
+use Rattle.std.proofs.lemmas.Bool.{cases_Bool}
+use Rattle.std.proofs.lemmas.List.{get_or_default}
+use Rattle.std.proofs.lemmas.List.Elements.{All-contains, Contains-get_or}
+use Rattle.std.proofs.lemmas.Option.{slice_get_within}
+use Rattle.digraph.specs.declared.edge.Edge.{Edge}
+use Rattle.digraph.specs.declared.graph.Graph.{Graph}
+use Rattle.digraph.specs.Chains.{IsChain}
+use Rattle.digraph.specs.Edges.{Leads}
 use Rattle.digraph.specs.Marks.{marked}
-use Rattle.digraph.proofs.Members.{from_map, in_map}
+use Rattle.digraph.proofs.Members.{first_member, first_or_later, later_member, no_member}
+use Rattle.texts.proofs.FieldCuts.{some_is}
 use Rattle.cut_net.specs.declared.priced.Priced.{Priced}
+use Rattle.cut_net.specs.Lines.{edge_of}
 use Rattle.cut_net.specs.Network.{Network, index_of, name_of, none_there, texts, unpinned}
-use Rattle.cut_net.specs.Prices.{is_named}
-use Rattle.cut_net.proofs.Noting.{named_is}
-use Rattle.cut_net.proofs.Places.{index_takes, position_named}
-use Rattle.cut_rules.specs.declared.draft.Rule.{Rule}
-use Rattle.cut_rules.specs.declared.fault.LineFault.{LineFault}
-use Rattle.cut_rules.specs.declared.fault.LineFault.TheVariants.{BadLine, SetIsModule, NoSuchModule, NoSuchImport, TwiceAllowed, EmptySet, TooMany, Memory}
+use Rattle.cut_net.specs.WellFormed.{IsNetwork}
+use Rattle.cut_net.proofs.Noting.{names_apart}
+use Rattle.cut_net.proofs.Places.{index_again, index_takes}
 use Rattle.cut_rules.specs.declared.file.File.{File}
-use Rattle.cut_rules.specs.RuleLines.{RuleLine, Member, Folder, Forbid, Allow, Says}
-use Rattle.cut_rules.specs.Drafts.{number_by, number_of, AreAllowed, AreForbids, AreSets, IsFirstWrong, IsRight}
-use Rattle.cut_rules.specs.Rules.{rank, AreManyBefore, IsSet, IsUnder, IsWrong, LiesIn}
-use Rattle.cut_rules.proofs.Ranks.{one_rank, rank_low}
+use Rattle.cut_rules.specs.declared.reading.Rules.{Rules}
+use Rattle.cut_rules.specs.declared.rule.Rule.{Rule}
+use Rattle.cut_rules.specs.declared.rule.RuleKind.{RuleKind}
+use Rattle.cut_rules.specs.declared.rule.RuleKind.TheVariants as kinds
+use Rattle.cut_rules.specs.declared.rule_search.RuleSearch.{RuleSearch}
+use Rattle.cut_rules.specs.RuleLines.{RuleLine, Allow, Forbid, ForbidImport, May, Restricts, Says}
+use Rattle.cut_rules.specs.Rules.{Added, Counts, IsIn, Itself}
+use Rattle.cut_rules.specs.Drafts.{number_by, number_of, IsAddedWithin, IsMember}
+use Rattle.cut_rules.specs.Judged.{IsBarredBy, IsCounted, IsCountedGraph, IsFirstRule, IsMayOf, IsNamed, IsOutsider, IsRepeated, IsRuleSearch, IsSearchFor, IsTarget, IsTargetBy}
+use Rattle.cut_rules.specs.Outcomes.{AreRulesOf}
+use Rattle.digraph.specs.ShortestPaths.{IsPathAround}
+use Rattle.cut_rules.specs.Verdicts.{ByForbid, ByForbidImport, ByMay, IsEntryPath, IsFirstMay, IsForbidden}
+use Rattle.cut_rules.proofs.LineLaws.{says_one}
+use Rattle.cut_rules.proofs.MemberLaws.{members_are}
+use Rattle.cut_rules.proofs.Pieces.{says_low}
 
--- ---- names
+pub chain_to : (G H : ℕ → ℕ → Type 0) → ((a b : ℕ) → G a b → H a b) → (m : ℕ) (more : List ℕ) (b : ℕ) → IsChain G m more b → IsChain H m more b
+chain_to G H over m [] b e = e
+chain_to G H over m (n ∷ more) b (step, rest) = (over m n step, chain_to G H over n more b rest)
 
-module _ (net : Network) (name : List ℕ) where
-  pub is_module : (i : ℕ) → index_of net name ≡ Some i → Contains net.names name
-  is_module i e = let p = index_takes net name i e in (i, p.0, sym (get_or_default net.names i [] name p.0) ∙ p.1)
+-- where each node that is led to is low, so is each of a chain after its first
+pub low_chain : (G : ℕ → ℕ → Type 0) (count : ℕ) → ((a b : ℕ) → G a b → b < count) → (m : ℕ) (more : List ℕ) (b : ℕ) → IsChain G m more b → (v : ℕ) → Contains more v → v < count
+low_chain G count low m [] b e v has = no_member v has
+low_chain G count low m (n ∷ more) b (step, rest) v has = elim (first_or_later n more v has) [
+  | inl same ↦ subst (λ (u : ℕ). u < count) same (low m n step)
+  | inr later ↦ low_chain G count low n more b rest v later
+]
 
-  pub no_module : index_of net name ≡ None → Contains net.names name → ⊥
-  no_module e (k, lt, is) =
-      let test : List ℕ → Bool = λ x. bytes_eq x name in
-      elim (cases_lt (position_or_len test net.names) (length net.names)) [
-        | inl below ↦ let some : Some (position_or_len test net.names) ≡ None = rw (lt-ltb _ _ below) at e in cc
-        | inr above ↦
-            let fails : bytes_eq (get_or net.names k name) name ≡ false = fails_before_first test net.names k name (omega arith) in
-            let passes : bytes_eq (get_or net.names k name) name ≡ true = (bytes_eq-Decides (get_or net.names k name) name).1 is in
-            let e : true ≡ false = sym passes ∙ fails in cc
-      ]
+module _ (net : Network) (network : IsNetwork net) (files : List File) (pieces : List (List ℕ)) (rules : Rules) (are : AreRulesOf net files pieces rules) where
+  abbrev nodes : ℕ
+  nodes = length net.names
 
--- whether there is one, by the tests
-pub some_there : (o : Option ℕ) → is_some o ≡ true → (i : ℕ) × (o ≡ Some i)
-some_there (Some i) e = (i, refl)
-some_there None e = cc
+  abbrev sets : List (List ℕ)
+  sets = texts rules.sets.items
 
-pub none_there_by : (o : Option ℕ) → is_some o ≡ false → o ≡ None
-none_there_by (Some i) e = cc
-none_there_by None e = refl
+  -- ---- imports that count
 
-pub no_some : (o : Option ℕ) → ((i : ℕ) → o ≡ Some i → ⊥) → o ≡ None
-no_some (Some i) h = absurd (h i refl)
-no_some None h = refl
+  module _ (graph : Graph) (of : IsCountedGraph net rules graph) where
+    pub counts : (m n : ℕ) → Leads graph.edges.now m n → Counts net pieces m n
+    counts m n leads =
+        let (k, lt, free, is) = (of.counted (record { from = m; to = n })).0 leads in
+        let i = get_or net.imports k none_there in (
+          i,
+          Contains-get_or net.imports k none_there lt,
+          ap (λ (p : Edge). p.from) is,
+          ap (λ (p : Edge). p.to) is,
+          λ (line, says).
+              let there = (are.allowed.are k lt).1 (line, (says_low pieces line _ says).1, says) in
+              let e : true ≡ false = sym there ∙ free in cc,
+        )
 
--- ---- numbers of names
+    pub counted_back : (m n : ℕ) → Counts net pieces m n → Leads graph.edges.now m n
+    counted_back m n (i, (k, lt, is), from, to, free) =
+        let here : get_or net.imports k none_there ≡ i = get_or_default net.imports k none_there i lt ∙ is in
+        (of.counted (record { from = m; to = n })).1 (
+          k,
+          lt,
+          elim (cases_Bool (marked rules.allowed.items k)) [
+            | inl taken ↦
+                let (line, le, says) = (are.allowed.are k lt).0 taken in
+                absurd (free (line, subst (λ (j : Priced). Says pieces line (Allow (name_of net j.from) (name_of net j.to))) here says))
+            | inr no_mark ↦ no_mark
+          ],
+          ap edge_of here ∙ (λ k. record { from = from k; to = to k }),
+        )
 
-module _ {Z : Type 0} (net : Network) (sets : List (String Z)) (name : List ℕ) where
-  abbrev place : Option ℕ
-  place = position (λ x. bytes_eq (string_bytes x) name) sets
+  low_count : (m n : ℕ) → Counts net pieces m n → n < nodes
+  low_count m n (i, has, from, to, free) = subst (λ (v : ℕ). v < nodes) to (network.between i has).1
 
-  pub number_behind : index_of net name ≡ None → number_of net (texts sets) name ≡ option_map (λ k. length net.names + k) place
-  number_behind none = ap (λ (o : Option ℕ). number_by (length net.names) o (index_of (unpinned (texts sets) []) name)) none ∙ ap (option_map (λ k. length net.names + k)) (position_named name sets)
+  low_source : (m n : ℕ) → Counts net pieces m n → m < nodes
+  low_source m n (i, has, from, to, free) = subst (λ (v : ℕ). v < nodes) from (network.between i has).0
 
-  pub number_module : (i : ℕ) → index_of net name ≡ Some i → number_of net (texts sets) name ≡ Some i
-  number_module i e = ap (λ (o : Option ℕ). number_by (length net.names) o (index_of (unpinned (texts sets) []) name)) e
+  -- ---- modules of names
 
-  pub no_number : index_of net name ≡ None → place ≡ None → number_of net (texts sets) name ≡ None
-  no_number none missing = number_behind none ∙ ap (option_map (λ k. length net.names + k)) missing
-
-  pub set_numbered : (k : ℕ) → index_of net name ≡ None → place ≡ Some k → number_of net (texts sets) name ≡ Some (length net.names + k)
-  set_numbered k none there = number_behind none ∙ ap (option_map (λ k. length net.names + k)) there
-
-  -- a set has a place
-  pub set_placed : Contains (texts sets) name → place ≡ None → ⊥
-  set_placed has missing = no_module (unpinned (texts sets) []) name (position_named name sets ∙ missing) has
-
-  -- a name without a number is neither a module nor a set
-  pub unknown : (pieces : List (List ℕ)) → AreSets sets pieces → number_of net (texts sets) name ≡ None → (Contains net.names name → ⊥) × (IsSet pieces name → ⊥)
-  unknown pieces are none = by (index_of net name) refl
+  -- a number is that of a module, or of a set after all modules
+  number_cases : (x : List ℕ) (number : ℕ) → number_of net sets x ≡ Some number → (index_of net x ≡ Some number) ⊎ ((k : ℕ) × (nodes + k ≡ number) × (index_of (unpinned sets []) x ≡ Some k))
+  number_cases x number is = by (index_of net x) (index_of (unpinned sets []) x) refl refl is
     where
-      by : (o : Option ℕ) → index_of net name ≡ o → (Contains net.names name → ⊥) × (IsSet pieces name → ⊥)
-      by (Some i) e = absurd (let f : Some i ≡ None = sym (number_module i e) ∙ none in cc)
-      by None e = (no_module net name e, λ is. set_placed ((are name).1 is) (none_of place (sym (number_behind e) ∙ none)))
-        where
-          none_of : (o : Option ℕ) → option_map (λ k. length net.names + k) o ≡ None → o ≡ None
-          none_of (Some k) e = cc
-          none_of None e = refl
+      by : (o p : Option ℕ) → index_of net x ≡ o → index_of (unpinned sets []) x ≡ p → number_by nodes o p ≡ Some number → (index_of net x ≡ Some number) ⊎ ((k : ℕ) × (nodes + k ≡ number) × (index_of (unpinned sets []) x ≡ Some k))
+      by (Some i) p e f is = inl (e ∙ is)
+      by None (Some k) e f is = inr (k, some_is (nodes + k) number is, f)
+      by None None e f is = absurd cc
 
-  pub known_name : (pieces : List (List ℕ)) (k : ℕ) → AreSets sets pieces → number_of net (texts sets) name ≡ Some k → (Contains net.names name → ⊥) × (IsSet pieces name → ⊥) → ⊥
-  known_name pieces k are some (apart, none) = by (index_of net name) refl
-    where
-      by : (o : Option ℕ) → index_of net name ≡ o → ⊥
-      by (Some i) e = apart (is_module net name i e)
-      by None e = placed place refl
-        where
-          placed : (o : Option ℕ) → place ≡ o → ⊥
-          placed (Some i) f = none ((are name).0 (is_module (unpinned (texts sets) []) name i (position_named name sets ∙ f)))
-          placed None f = let g : Some k ≡ None = sym some ∙ no_number e f in cc
-
--- ---- lines
-
-module _ (net : Network) (files : List File) (pieces : List (List ℕ)) (line : ℕ) where
-  module _ (said : RuleLine) where
-    -- a fault isn't one of what the line says
-    abbrev pub Lacks : LineFault → Type 0
-    Lacks fault = IsWrong net files pieces line fault said → ⊥
-
-    -- nor is any that is looked for before this rank
-    abbrev pub LacksBefore : ℕ → Type 0
-    LacksBefore n = (other : LineFault) → rank other < n → Lacks other
-
-    lacks_more : (fault : LineFault) → LacksBefore (rank fault) → Lacks fault → LacksBefore (rank fault + 1)
-    lacks_more fault none here other lt wrong = elim (cases_eq (rank other) (rank fault)) [
-      | inl same ↦ here (subst (λ (f : LineFault). IsWrong net files pieces line f said) (one_rank other fault same) wrong)
-      | inr differs ↦ none other (omega (arith, differs)) wrong
+  -- a number is that of one name
+  one_name : (x y : List ℕ) (number : ℕ) → number_of net sets x ≡ Some number → number_of net sets y ≡ Some number → x ≡ y
+  one_name x y number of_x of_y = elim (number_cases x number of_x) [
+    | inl e ↦ elim (number_cases y number of_y) [
+      | inl f ↦ sym (index_takes net x number e).1 ∙ (index_takes net y number f).1
+      | inr set ↦ absurd (let low = (index_takes net x number e).0 in let at = set.1 in omega arith)
     ]
+    | inr own ↦ elim (number_cases y number of_y) [
+      | inl f ↦ absurd (let low = (index_takes net y number f).0 in let at = own.1 in omega arith)
+      | inr set ↦
+          let first = own.1 in
+          let second = set.1 in
+          let same : own.0 ≡ set.0 = omega arith in
+          sym (index_takes (unpinned sets []) x own.0 own.2).1 ∙ ap (name_of (unpinned sets [])) same ∙ (index_takes (unpinned sets []) y set.0 set.2).1
+    ]
+  ]
 
-    before_SetIsModule : LacksBefore 1
-    before_SetIsModule = lacks_more BadLine (λ other lt wrong. omega arith) (λ wrong. wrong)
+  pub is_in : (x : List ℕ) (number m : ℕ) → m < nodes → number_of net sets x ≡ Some number → IsNamed rules number m ↔ IsIn net files pieces x m
+  is_in x number m low is = members_are net network files pieces rules are x number m is low
 
-    before_NoSuchModule : Lacks SetIsModule → LacksBefore 2
-    before_NoSuchModule h = lacks_more SetIsModule before_SetIsModule h
+  -- ---- rules
 
-    before_NoSuchImport : Lacks SetIsModule → Lacks NoSuchModule → LacksBefore 3
-    before_NoSuchImport h i = lacks_more NoSuchModule (before_NoSuchModule h) i
+  -- a line that restricts is that of a rule
+  rule_of : (line : ℕ) (kind : RuleKind) (x y : List ℕ) → Says pieces line (Restricts kind x y) → (r : Rule) × Contains rules.rules.items r × (r.line ≡ line) × (r.kind ≡ kind) × (number_of net sets x ≡ Some r.first) × (number_of net sets y ≡ Some r.second)
+  rule_of line kind x y says =
+      let (r, has, at) = are.rules.all line kind x y (says_low pieces line _ says).1 says in
+      let (le, (u, v, own, first, second)) = are.rules.each r has in
+      let one : Restricts r.kind u v ≡ Restricts kind x y = says_one pieces line (Restricts r.kind u v) (Restricts kind x y) (subst (λ (n : ℕ). Says pieces n (Restricts r.kind u v)) at own) says in
+      let kind_is : r.kind ≡ kind = cc in
+      let x_is : u ≡ x = cc in
+      let y_is : v ≡ y = cc in
+      (r, has, at, kind_is, subst (λ (n : List ℕ). number_of net sets n ≡ Some r.first) x_is first, subst (λ (n : List ℕ). number_of net sets n ≡ Some r.second) y_is second)
 
-    before_TwiceAllowed : Lacks SetIsModule → Lacks NoSuchModule → Lacks NoSuchImport → LacksBefore 4
-    before_TwiceAllowed h i j = lacks_more NoSuchImport (before_NoSuchImport h i) j
+  module _ (r : Rule) (x y : List ℕ) (says : Says pieces r.line (Restricts r.kind x y)) (first : number_of net sets x ≡ Some r.first) (second : number_of net sets y ≡ Some r.second) where
+    -- another line of the rule's number says the same
+    same_line : (kind : RuleKind) (u v : List ℕ) → Says pieces r.line (Restricts kind u v) → (r.kind ≡ kind) × (x ≡ u) × (y ≡ v)
+    same_line kind u v other =
+        let one : Restricts r.kind x y ≡ Restricts kind u v = says_one pieces r.line (Restricts r.kind x y) (Restricts kind u v) says other in
+        (cc, cc, cc)
 
-    before_EmptySet : Lacks SetIsModule → Lacks NoSuchModule → Lacks NoSuchImport → Lacks TwiceAllowed → LacksBefore 5
-    before_EmptySet h i j k = lacks_more TwiceAllowed (before_TwiceAllowed h i j) k
+    outsider : (n : ℕ) → n < nodes → IsOutsider rules r.first n → (IsIn net files pieces x n → ⊥) × ((other : ℕ) (v : List ℕ) → Says pieces other (May x v) → IsIn net files pieces v n → ⊥)
+    outsider n low (own, others) = (
+      λ is. own ((is_in x r.first n low first).1 is),
+      λ other v line is.
+          let (s, has, at, kind, of_x, of_v) = rule_of other kinds.May x v line in
+          others s has (kind, some_is s.first r.first (sym of_x ∙ first)) ((is_in v s.second n low of_v).1 is),
+    )
 
-    before_TooMany : Lacks SetIsModule → Lacks NoSuchModule → Lacks NoSuchImport → Lacks TwiceAllowed → Lacks EmptySet → LacksBefore 6
-    before_TooMany h i j k l = lacks_more EmptySet (before_EmptySet h i j k) l
+    outsider_back : (n : ℕ) → n < nodes → (IsIn net files pieces x n → ⊥) → ((other : ℕ) (v : List ℕ) → Says pieces other (May x v) → IsIn net files pieces v n → ⊥) → IsOutsider rules r.first n
+    outsider_back n low own others = (
+      λ named. own ((is_in x r.first n low first).0 named),
+      λ s has (kind, same) named.
+          let (le, (u, v, line, of_u, of_v)) = are.rules.each s has in
+          let x_is : u ≡ x = one_name u x r.first (of_u ∙ ap Some same) first in
+          let may : Says pieces s.line (May x v) = subst (λ (k : RuleKind). Says pieces s.line (Restricts k x v)) kind (subst (λ (n : List ℕ). Says pieces s.line (Restricts s.kind n v)) x_is line) in
+          others s.line v may ((is_in v s.second n low of_v).0 named),
+    )
 
-    first_wrong : (fault : LineFault) → IsWrong net files pieces line fault said → LacksBefore (rank fault) → IsFirstWrong net files pieces line fault said
-    first_wrong fault wrong none = record {
-      wrong = wrong;
-      first = λ other is. elim (cases_lt (rank other) (rank fault)) [ inl less ↦ absurd (none other less is) | inr le ↦ le ];
+    first_may : r.kind ≡ kinds.May → (IsRepeated rules.rules.items r → ⊥) → IsFirstMay pieces r.line x
+    first_may kind not_repeated = record {
+      target = y;
+      says = subst (λ (k : RuleKind). Says pieces r.line (Restricts k x y)) kind says;
+      first = λ before v less line.
+          let (s, has, at, own, of_x, of_v) = rule_of before kinds.May x v line in
+          not_repeated (kind, s, has, omega arith, (own, some_is s.first r.first (sym of_x ∙ first)));
     }
 
-    right : Lacks SetIsModule → Lacks NoSuchModule → Lacks NoSuchImport → Lacks TwiceAllowed → Lacks EmptySet → Lacks TooMany → IsRight net files pieces line said
-    right h i j k l m fault wrong = lacks_more Memory (lacks_more TooMany (before_TooMany h i j k l) m) (λ none. none) fault (rank_low fault) wrong
+    -- a later `may` of the same name forbids nothing
+    pub repeated_none : IsRepeated rules.rules.items r → (m n : ℕ) (path : List ℕ) → IsForbidden net files pieces r.line m n path → ⊥
+    repeated_none (kind, s, has, less, (own, same)) m n path (ByForbid u v line target free) = let e = same_line kinds.Forbid u v line in let f : kinds.May ≡ kinds.Forbid = sym kind ∙ e.0 in cc
+    repeated_none (kind, s, has, less, (own, same)) m n path (ByForbidImport u v line source target is) = let e = same_line kinds.ForbidImport u v line in let f : kinds.May ≡ kinds.ForbidImport = sym kind ∙ e.0 in cc
+    repeated_none (kind, s, has, less, (own, same)) m n path (ByMay u may source outside others is) =
+        let (le, (w, v, line, of_w, of_v)) = are.rules.each s has in
+        let x_is : x ≡ u = (same_line kinds.May u may.target may.says).1 in
+        let w_is : w ≡ u = one_name w x r.first (of_w ∙ ap Some same) first ∙ x_is in
+        may.first s.line v less (subst (λ (k : RuleKind). Says pieces s.line (Restricts k u v)) own (subst (λ (n : List ℕ). Says pieces s.line (Restricts s.kind n v)) w_is line))
 
-  pub member_right : (s m : List ℕ) → Lacks (Member s m) SetIsModule → Lacks (Member s m) NoSuchModule → IsRight net files pieces line (Member s m)
-  member_right s m h i = right (Member s m) h i (λ none. none) (λ none. none) (λ none. none) (λ none. none)
+    module _ (graph : Graph) (of : IsCountedGraph net rules graph) (found : RuleSearch) (is : IsRuleSearch rules nodes graph.edges.now r found) where
+      abbrev Edges : ℕ → ℕ → Type 0
+      Edges = Leads graph.edges.now
 
-  pub member_SetIsModule : (s m : List ℕ) → IsWrong net files pieces line SetIsModule (Member s m) → IsFirstWrong net files pieces line SetIsModule (Member s m)
-  member_SetIsModule s m is = first_wrong (Member s m) SetIsModule is (before_SetIsModule (Member s m))
+      low_lead : (a b : ℕ) → Edges a b → b < nodes
+      low_lead a b leads = low_count a b (counts graph of a b leads)
 
-  pub member_NoSuchModule : (s m : List ℕ) → IsWrong net files pieces line NoSuchModule (Member s m) → Lacks (Member s m) SetIsModule → IsFirstWrong net files pieces line NoSuchModule (Member s m)
-  member_NoSuchModule s m is h = first_wrong (Member s m) NoSuchModule is (before_NoSuchModule (Member s m) h)
+      pub path_within : (m : ℕ) (path : List ℕ) → IsPathAround Edges is.starts is.barrier m path → All (λ v. v < nodes) path
+      path_within m [] none = absurd none
+      path_within m (start ∷ more) (source, chain, free) = λ k d lt.
+          let has = Contains-get_or (start ∷ more) k d lt in
+          elim (first_or_later start more (get_or (start ∷ more) k d) has) [
+            | inl same ↦ subst (λ (v : ℕ). v < nodes) same (is.starts_within start source)
+            | inr later ↦ low_chain Edges nodes low_lead start more m chain (get_or (start ∷ more) k d) later
+          ]
 
-  pub folder_right : (s path : List ℕ) → Lacks (Folder s path) SetIsModule → Lacks (Folder s path) EmptySet → IsRight net files pieces line (Folder s path)
-  folder_right s path h l = right (Folder s path) h (λ none. none) (λ none. none) (λ none. none) l (λ none. none)
+      source_is : (v : ℕ) → Contains is.starts v → IsIn net files pieces x v
+      source_is v has = let low = is.starts_within v has in (is_in x r.first v low first).0 ((is.starts_are v low).0 has)
 
-  pub folder_SetIsModule : (s path : List ℕ) → IsWrong net files pieces line SetIsModule (Folder s path) → IsFirstWrong net files pieces line SetIsModule (Folder s path)
-  folder_SetIsModule s path is = first_wrong (Folder s path) SetIsModule is (before_SetIsModule (Folder s path))
+      source_back : (v : ℕ) → v < nodes → IsIn net files pieces x v → Contains is.starts v
+      source_back v low named = (is.starts_are v low).1 ((is_in x r.first v low first).1 named)
 
-  pub folder_EmptySet : (s path : List ℕ) → IsWrong net files pieces line EmptySet (Folder s path) → Lacks (Folder s path) SetIsModule → IsFirstWrong net files pieces line EmptySet (Folder s path)
-  folder_EmptySet s path is h = first_wrong (Folder s path) EmptySet is (before_EmptySet (Folder s path) h (λ none. none) (λ none. none) (λ none. none))
+      -- a path whose modules after the first are all barred has one module
+      alone : ((v : ℕ) → v < nodes → marked is.barrier v ≡ true) → (m : ℕ) (path : List ℕ) → IsPathAround Edges is.starts is.barrier m path → (path ≡ m ∷ []) × IsIn net files pieces x m
+      alone all m [] none = absurd none
+      alone all m (start ∷ []) (source, e, free) = (ap (λ (v : ℕ). v ∷ []) e, subst (λ (v : ℕ). IsIn net files pieces x v) e (source_is start source))
+      alone all m (start ∷ n ∷ more) (source, (step, rest), free) = absurd (
+          let low = low_lead start n step in
+          let e : true ≡ false = sym (all n low) ∙ All-contains (λ (v : ℕ). marked is.barrier v ≡ false) (n ∷ more) n free (first_member n more n refl) in
+          cc)
 
-  pub forbid_right : (x y : List ℕ) → Lacks (Forbid x y) NoSuchModule → Lacks (Forbid x y) TooMany → IsRight net files pieces line (Forbid x y)
-  forbid_right x y i m = right (Forbid x y) (λ none. none) i (λ none. none) (λ none. none) (λ none. none) m
+      alone_back : (m : ℕ) (path : List ℕ) → m < nodes → path ≡ m ∷ [] → IsIn net files pieces x m → IsPathAround Edges is.starts is.barrier m path
+      alone_back m path low e named = subst (IsPathAround Edges is.starts is.barrier m) (sym e) (source_back m low named, refl, λ k d lt. absurd (omega arith))
 
-  pub forbid_NoSuchModule : (x y : List ℕ) → IsWrong net files pieces line NoSuchModule (Forbid x y) → IsFirstWrong net files pieces line NoSuchModule (Forbid x y)
-  forbid_NoSuchModule x y is = first_wrong (Forbid x y) NoSuchModule is (before_NoSuchModule (Forbid x y) (λ none. none))
+      entry_to : ((v : ℕ) → v < nodes → IsIn net files pieces y v → marked is.barrier v ≡ true) → (m : ℕ) (path : List ℕ) → IsPathAround Edges is.starts is.barrier m path → IsEntryPath (Counts net pieces) (IsIn net files pieces x) (IsIn net files pieces y) m path
+      entry_to bars m [] none = absurd none
+      entry_to bars m (start ∷ more) (source, chain, free) = (
+        source_is start source,
+        chain_to Edges (Counts net pieces) (counts graph of) start more m chain,
+        λ v has named.
+            let low = low_chain Edges nodes low_lead start more m chain v has in
+            let e : true ≡ false = sym (bars v low named) ∙ All-contains (λ (u : ℕ). marked is.barrier u ≡ false) more v free has in
+            cc,
+      )
 
-  pub forbid_TooMany : (x y : List ℕ) → IsWrong net files pieces line TooMany (Forbid x y) → Lacks (Forbid x y) NoSuchModule → IsFirstWrong net files pieces line TooMany (Forbid x y)
-  forbid_TooMany x y is i = first_wrong (Forbid x y) TooMany is (before_TooMany (Forbid x y) (λ none. none) i (λ none. none) (λ none. none) (λ none. none))
+      entry_back : ((v : ℕ) → v < nodes → marked is.barrier v ≡ true → IsIn net files pieces y v) → (m : ℕ) → m < nodes → (path : List ℕ) → IsEntryPath (Counts net pieces) (IsIn net files pieces x) (IsIn net files pieces y) m path → IsPathAround Edges is.starts is.barrier m path
+      entry_back bars m low [] none = absurd none
+      entry_back bars m low (start ∷ more) (source, chain, free) = (
+        source_back start (low_start more chain) source,
+        chain_to (Counts net pieces) Edges (counted_back graph of) start more m chain,
+        λ k d lt.
+            let v = get_or more k d in
+            let has = Contains-get_or more k d lt in
+            elim (cases_Bool (marked is.barrier v)) [
+              | inl barred ↦ absurd (free v has (bars v (low_chain (Counts net pieces) nodes low_count start more m chain v has) barred))
+              | inr no_mark ↦ no_mark
+            ],
+      )
+        where
+          low_start : (more : List ℕ) → IsChain (Counts net pieces) start more m → start < nodes
+          low_start [] e = subst (λ (v : ℕ). v < nodes) (sym e) low
+          low_start (n ∷ more) (step, rest) = low_source start n step
 
-  pub allow_right : (m n : List ℕ) → Lacks (Allow m n) NoSuchModule → Lacks (Allow m n) NoSuchImport → Lacks (Allow m n) TwiceAllowed → IsRight net files pieces line (Allow m n)
-  allow_right m n i j k = right (Allow m n) (λ none. none) i j k (λ none. none) (λ none. none)
+      -- ---- by the kind of the rule
 
-  pub allow_NoSuchModule : (m n : List ℕ) → IsWrong net files pieces line NoSuchModule (Allow m n) → IsFirstWrong net files pieces line NoSuchModule (Allow m n)
-  allow_NoSuchModule m n is = first_wrong (Allow m n) NoSuchModule is (before_NoSuchModule (Allow m n) (λ none. none))
+      forbidden_to : (IsRepeated rules.rules.items r → ⊥) → (kind : RuleKind) → r.kind ≡ kind → ((v : ℕ) → v < nodes → (marked is.barrier v ≡ true) ↔ IsBarredBy rules r kind v) → ((v : ℕ) → v < nodes → (marked found.targets.items v ≡ true) ↔ IsTargetBy rules r kind v)
+          → (m n : ℕ) (path : List ℕ) → m < nodes → n < nodes → IsPathAround Edges is.starts is.barrier m path → marked found.targets.items n ≡ true → IsForbidden net files pieces r.line m n path
+      forbidden_to new kinds.Forbid e bars targets m n path low high around target =
+          ByForbid x y (subst (λ (k : RuleKind). Says pieces r.line (Restricts k x y)) e says) ((is_in y r.second n high second).0 ((targets n high).0 target))
+          (entry_to (λ v low named. (bars v low).1 ((is_in y r.second v low second).1 named)) m path around)
+      forbidden_to new kinds.ForbidImport e bars targets m n path low high around target =
+          let (only, source) = alone (λ v low. (bars v low).1 tt) m path around in
+          ByForbidImport x y (subst (λ (k : RuleKind). Says pieces r.line (Restricts k x y)) e says) source ((is_in y r.second n high second).0 ((targets n high).0 target)) only
+      forbidden_to new kinds.May e bars targets m n path low high around target =
+          let (only, source) = alone (λ v low. (bars v low).1 tt) m path around in
+          let (outside, others) = outsider n high ((targets n high).0 target) in
+          ByMay x (first_may e new) source outside others only
 
-  pub allow_NoSuchImport : (m n : List ℕ) → IsWrong net files pieces line NoSuchImport (Allow m n) → Lacks (Allow m n) NoSuchModule → IsFirstWrong net files pieces line NoSuchImport (Allow m n)
-  allow_NoSuchImport m n is i = first_wrong (Allow m n) NoSuchImport is (before_NoSuchImport (Allow m n) (λ none. none) i)
+      forbidden_back : (kind : RuleKind) → r.kind ≡ kind → ((v : ℕ) → v < nodes → (marked is.barrier v ≡ true) ↔ IsBarredBy rules r kind v) → ((v : ℕ) → v < nodes → (marked found.targets.items v ≡ true) ↔ IsTargetBy rules r kind v)
+          → (m n : ℕ) (path : List ℕ) → m < nodes → n < nodes → IsForbidden net files pieces r.line m n path → IsPathAround Edges is.starts is.barrier m path × (marked found.targets.items n ≡ true)
+      forbidden_back kinds.Forbid e bars targets m n path low high (ByForbid u v line target free) =
+          let (k, same_x, same_y) = same_line kinds.Forbid u v line in
+          let target_is : IsIn net files pieces y n = subst (λ (w : List ℕ). IsIn net files pieces w n) (sym same_y) target in
+          let entry : IsEntryPath (Counts net pieces) (IsIn net files pieces x) (IsIn net files pieces y) m path =
+          subst (λ (w : List ℕ). IsEntryPath (Counts net pieces) (IsIn net files pieces w) (IsIn net files pieces y) m path) (sym same_x)
+          (subst (λ (w : List ℕ). IsEntryPath (Counts net pieces) (IsIn net files pieces u) (IsIn net files pieces w) m path) (sym same_y) free) in
+          (entry_back (λ w low barred. (is_in y r.second w low second).0 ((bars w low).0 barred)) m low path entry, (targets n high).1 ((is_in y r.second n high second).1 target_is))
+      forbidden_back kinds.ForbidImport e bars targets m n path low high (ByForbid u v line target free) = absurd (let k = (same_line kinds.Forbid u v line).0 in let f : kinds.ForbidImport ≡ kinds.Forbid = sym e ∙ k in cc)
+      forbidden_back kinds.May e bars targets m n path low high (ByForbid u v line target free) = absurd (let k = (same_line kinds.Forbid u v line).0 in let f : kinds.May ≡ kinds.Forbid = sym e ∙ k in cc)
+      forbidden_back kinds.Forbid e bars targets m n path low high (ByForbidImport u v line source target only) = absurd (let k = (same_line kinds.ForbidImport u v line).0 in let f : kinds.Forbid ≡ kinds.ForbidImport = sym e ∙ k in cc)
+      forbidden_back kinds.ForbidImport e bars targets m n path low high (ByForbidImport u v line source target only) =
+          let (k, same_x, same_y) = same_line kinds.ForbidImport u v line in
+          let target_is : IsIn net files pieces y n = subst (λ (w : List ℕ). IsIn net files pieces w n) (sym same_y) target in
+          let source_of : IsIn net files pieces x m = subst (λ (w : List ℕ). IsIn net files pieces w m) (sym same_x) source in
+          (alone_back m path low only source_of, (targets n high).1 ((is_in y r.second n high second).1 target_is))
+      forbidden_back kinds.May e bars targets m n path low high (ByForbidImport u v line source target only) = absurd (let k = (same_line kinds.ForbidImport u v line).0 in let f : kinds.May ≡ kinds.ForbidImport = sym e ∙ k in cc)
+      forbidden_back kinds.Forbid e bars targets m n path low high (ByMay u may source outside others only) = absurd (let k = (same_line kinds.May u may.target may.says).0 in let f : kinds.Forbid ≡ kinds.May = sym e ∙ k in cc)
+      forbidden_back kinds.ForbidImport e bars targets m n path low high (ByMay u may source outside others only) = absurd (let k = (same_line kinds.May u may.target may.says).0 in let f : kinds.ForbidImport ≡ kinds.May = sym e ∙ k in cc)
+      forbidden_back kinds.May e bars targets m n path low high (ByMay u may source outside others only) =
+          let same_x = (same_line kinds.May u may.target may.says).1 in
+          let source_of : IsIn net files pieces x m = subst (λ (w : List ℕ). IsIn net files pieces w m) (sym same_x) source in
+          let outside_of : IsIn net files pieces x n → ⊥ = λ named. outside (subst (λ (w : List ℕ). IsIn net files pieces w n) same_x named) in
+          let others_of : (other : ℕ) (v : List ℕ) → Says pieces other (May x v) → IsIn net files pieces v n → ⊥ = λ other v line named. others other v (subst (λ (w : List ℕ). Says pieces other (May w v)) same_x line) named in
+          (alone_back m path low only source_of, (targets n high).1 (outsider_back n high outside_of others_of))
 
-  pub allow_TwiceAllowed : (m n : List ℕ) → IsWrong net files pieces line TwiceAllowed (Allow m n) → Lacks (Allow m n) NoSuchModule → Lacks (Allow m n) NoSuchImport → IsFirstWrong net files pieces line TwiceAllowed (Allow m n)
-  allow_TwiceAllowed m n is i j = first_wrong (Allow m n) TwiceAllowed is (before_TwiceAllowed (Allow m n) (λ none. none) i j)
+      pub searched : (IsRepeated rules.rules.items r → ⊥) → IsSearchFor net files pieces r.line found
+      searched new = record {
+        edges = graph.edges.now;
+        starts = is.starts;
+        barrier = is.barrier;
+        search = is.search;
+        within = path_within;
+        size = is.size;
+        forbidden = λ m n path low high. (
+          λ (around, target). forbidden_to new r.kind refl is.barrier_are is.targets_are m n path low high around target,
+          forbidden_back r.kind refl is.barrier_are is.targets_are m n path low high,
+        );
+      }
 
--- a folder with no place has no module
-pub none_under : (files : List File) (folder : List ℕ) (from to : ℕ) → ((k : ℕ) (f : File) → slice_get files k ≡ Some f → ((from ≤ k) × (k < to)) ↔ LiesIn folder f.path.now) → to ≤ from → (m : ℕ) → IsUnder files folder m → ⊥
-none_under files folder from to are none m under =
-    let (k, lt, is) = under.listed in
-    let at = slice_get-get_or files k under.file lt ∙ ap (λ (f : File). Some f) is in
-    let (low, high) = (are k under.file at).1 under.lies in
-    omega arith
+  -- of one of the rules
+  pub searched_rule : (r : Rule) → IsFirstRule rules.rules.items r → (graph : Graph) (of : IsCountedGraph net rules graph) (found : RuleSearch) → IsRuleSearch rules nodes graph.edges.now r found → IsSearchFor net files pieces r.line found
+  searched_rule r (has, new) graph of found is =
+      let (le, (x, y, says, first, second)) = are.rules.each r has in
+      searched r x y says first second graph of found is new
 
-pub some_under : (files : List File) (folder : List ℕ) (from to : ℕ) → to ≤ length files → ((k : ℕ) (f : File) → slice_get files k ≡ Some f → ((from ≤ k) × (k < to)) ↔ LiesIn folder f.path.now) → from < to → ((m : ℕ) → IsUnder files folder m → ⊥) → ⊥
-some_under files folder from to within are some none = by files within are some none
-  where
-    by : (fs : List File) → to ≤ length fs → ((k : ℕ) (f : File) → slice_get fs k ≡ Some f → ((from ≤ k) × (k < to)) ↔ LiesIn folder f.path.now) → from < to → ((m : ℕ) → IsUnder fs folder m → ⊥) → ⊥
-    by [] within are some none = absurd (omega arith)
-    by (g ∷ fs) within are some none =
-        let f = get_or (g ∷ fs) from g in
-        let lt : from < length (g ∷ fs) = omega arith in
-        none f.module (record { file = f; listed = Contains-get_or (g ∷ fs) from g lt; module_is = refl; lies = (are from f (slice_get-get_or (g ∷ fs) from g lt)).0 (omega arith, some) })
-
--- 4096 rules are many
-pub many_before : (net : Network) (sets pieces : List (List ℕ)) (line count : ℕ) (rules : List Rule) → AreForbids net sets pieces count rules → count < line → 4096 ≤ length rules → AreManyBefore pieces line
-many_before net sets pieces line count rules are before many = record {
-  lines = map (λ (r : Rule). r.line) rules;
-  many = (let few = are.few in let long = length-map rules (λ (r : Rule). r.line) in omega arith);
-  ascending = λ i j d lt l. lines_ascend rules are.ascending i j d lt l;
-  each = λ l has.
-      let (r, there, is) = from_map (λ (r : Rule). r.line) rules l has in
-      let own = are.each r there in
-      let le = own.0 in
-      (omega arith, (own.1.0, own.1.1, subst (λ (n : ℕ). Says pieces n (Forbid own.1.0 own.1.1)) is own.1.2));
-}
-  where
-    lines_ascend : (rs : List Rule) → AllPairs (λ (r s : Rule). r.line < s.line) rs → AllPairs (λ i j. i < j) (map (λ (r : Rule). r.line) rs)
-    lines_ascend [] up i j d lt l = absurd (omega arith)
-    lines_ascend (r ∷ rs) up i j d lt l =
-        let long = length-map (r ∷ rs) (λ (r : Rule). r.line) in
-        rw (get_or-map (λ (r : Rule). r.line) (r ∷ rs) i r d (omega arith), get_or-map (λ (r : Rule). r.line) (r ∷ rs) j r d (omega arith)) (up i j r lt (omega arith))
-
--- a list of ascending numbers of which each is in another one is no longer
-pub no_longer : (xs ys : List ℕ) → AllPairs (λ i j. i < j) xs → ((n : ℕ) → Contains xs n → Contains ys n) → length xs ≤ length ys
-no_longer xs ys up each =
-    length-le_from_is_member nat_eq_equiv xs ys (IsDistinct-from_apart nat_eq xs (λ i j d lt l. let less = up i j d lt l in eqb_apart (get_or xs i d) (get_or xs j d) less))
-    (λ q has. (is_member-Decides Decides-eqb ys q).1 (each q ((is_member-Decides Decides-eqb xs q).0 has)))
-  where
-    eqb_apart : (a b : ℕ) → a < b → nat_eq a b ≡ false
-    eqb_apart a b less = false_from_ne_true _ (λ e. let same = eqb-true a b e in omega arith)
-
--- fewer are not: the lines of many are lines of rules, each once
-pub few_before : (net : Network) (sets pieces : List (List ℕ)) (line count : ℕ) (rules : List Rule) → AreForbids net sets pieces count rules → line ≤ count + 1 → length rules < 4096 → AreManyBefore pieces line → ⊥
-few_before net sets pieces line count rules are next few many =
-    let long = length-map rules (λ (r : Rule). r.line) in
-    let le = no_longer many.lines (map (λ (r : Rule). r.line) rules) many.ascending (λ l has.
-    let (before, (x, y, says)) = many.each l has in
-    let own = are.all l x y (omega arith) says in
-    subst (Contains (map (λ (r : Rule). r.line) rules)) own.2 (in_map (λ (r : Rule). r.line) rules own.0 own.1)) in
-    let size = many.many in
-    omega arith
-
--- ---- allowed imports
-
-module _ (net : Network) (pieces : List (List ℕ)) (line count : ℕ) (allowed : List Bool) (are : AreAllowed net pieces count allowed) (next : line ≡ count + 1) (m n : List ℕ) (k : ℕ) (lt : k < length net.imports)
-    (named : is_named net m n (get_or net.imports k none_there) ≡ true) where
-  abbrev here : Priced
-  here = get_or net.imports k none_there
-
-  names_same : (m ≡ name_of net here.from) × (n ≡ name_of net here.to)
-  names_same = named_is net m n here named
-
-  pub allowed_before : marked allowed k ≡ true → (before : ℕ) × (before < line) × Says pieces before (Allow m n)
-  allowed_before e =
-      let (before, le, says) = (are.are k lt).0 e in
-      (before, omega arith, subst (λ (x : List ℕ). Says pieces before (Allow x n)) (sym names_same.0) (subst (λ (y : List ℕ). Says pieces before (Allow (name_of net here.from) y)) (sym names_same.1) says))
-
-  pub not_allowed_before : marked allowed k ≡ false → ((before : ℕ) × (before < line) × Says pieces before (Allow m n)) → ⊥
-  not_allowed_before e (before, less, says) =
-      let there = (are.are k lt).1 (before, omega arith, subst (λ (x : List ℕ). Says pieces before (Allow x (name_of net here.to))) names_same.0 (subst (λ (y : List ℕ). Says pieces before (Allow m y)) names_same.1 says)) in
-      let bad : true ≡ false = sym there ∙ e in cc
-
-  pub import_there : ((i : Priced) → Contains net.imports i → is_named net m n i ≡ true → ⊥) → ⊥
-  import_there none = none here (Contains-get_or net.imports k none_there lt) named
+  pub repeated_rule : (r : Rule) → Contains rules.rules.items r → IsRepeated rules.rules.items r → (m n : ℕ) (path : List ℕ) → IsForbidden net files pieces r.line m n path → ⊥
+  repeated_rule r has repeated m n path forbidden =
+      let (le, (x, y, says, first, second)) = are.rules.each r has in
+      repeated_none r x y says first second repeated m n path forbidden

@@ -1,120 +1,293 @@
--- A line that is read is the one that was written.
-use Rattle.std.proofs.Common.{◌≡◌, ◌≢◌, ℕ, inl, inr, true, List, ◌∷◌, ◌++◌, Some, None, refl, sym, ap, ◌∙◌, arith, codes}
-use Rattle.std.specs.Prelude.{slice_get}
-use Rattle.std.specs.Str.{bytes_eq}
-use Rattle.std.proofs.lemmas.Bool.{cases_Bool}
+-- A line that is read is the one that is spelled.
+use Rattle.std.proofs.Common.{◌≡◌, ℕ, suc, ◌+◌, ◌<◌, ◌≤◌, inl, inr, true, false, Bool, not, eqb, List, [], ◌∷◌, ◌++◌, length, take, drop, get_or, Some, None, refl, sym, ap, ◌∙◌, subst, arith, codes, append_assoc, append-nil, add-one, drop-cons}
+use Rattle.std.specs.Prelude.{slice_get, unwrap_or}
+use Rattle.std.specs.Char.{is_ascii_alphanumeric}
+use Rattle.std.specs.List.{list_all, position, position_or_len}
+use Rattle.std.specs.Str.{bytes_eq, is_utf8, IsUtf8}
+use Rattle.std.proofs.lemmas.Bool.{and_parts, and_from, cases_Bool, cases_lt, false≢true, le-ltb, lt-ltb}
+use Rattle.std.proofs.lemmas.Bool.Decides.{nat_tests}
+use Rattle.std.proofs.Math.ListN.{drop_of_length-le}
+use Rattle.std.proofs.Math.Seq.{drop-append_seam, take-append_seam}
+use Rattle.std.proofs.lemmas.List.{take-append-drop}
 use Rattle.std.proofs.lemmas.Option.{option_and_then_some}
+use Rattle.std.proofs.lemmas.Str.{IsUtf8-from_is_utf8, is_utf8-from_IsUtf8}
 use Rattle.std.proofs.lemmas.Slice.Eq.{bytes_eq-Decides}
 use Rattle.texts.specs.Fields.{cut_at, named, is_name}
 use Rattle.texts.proofs.FieldCuts.{cut_takes, cut_again, some_is}
 use Rattle.texts.proofs.FieldNames.{named_takes, named_again, name_without}
 use Rattle.cut_net.proofs.NetLines.{map_some}
-use Rattle.cut_rules.specs.RuleLines.{RuleLine, Member, Folder, Forbid, Allow, rule_line, is_written, IsPieceAt, IsRuleLine, Says}
-use Rattle.cut_rules.specs.LineReading.{folder_of, line_by, line_under, names_of, rule_line_of}
+use Rattle.cut_rules.specs.declared.rule.RuleKind.{RuleKind}
+use Rattle.cut_rules.specs.declared.rule.RuleKind.TheVariants as kinds
+use Rattle.cut_rules.specs.RuleLines.{RuleLine, Module, Folder, Named, Tree, Adds, Restricts, Allow, rule_line, is_blank, keyword, EndsRule, IsComment, IsIdle, IsPieceAt, IsRuleLine, MayFollow, Says, Spells}
+use Rattle.cut_rules.specs.LineReading.{is_comment, is_idle, kind_of, last_name_of, line_after, line_of_fields, line_of_names, rule_line_of, text_of}
 
--- what is read behind a word
-abbrev behind : List ℕ → List ℕ → List ℕ
-behind word fields = word ++ 32 ∷ fields
+-- ---- comments
 
-names_takes : (fields : List ℕ) (x : List ℕ × List ℕ) → names_of fields ≡ Some x → (fields ≡ x.0 ++ 32 ∷ x.1) × (is_name x.0 ≡ true) × (is_name x.1 ≡ true)
-unfolding names_of
-names_takes fields x e =
-    option_and_then_some _ (cut_at 32 fields) x e (λ parts h1 e.
-    option_and_then_some _ (named parts.0) x e (λ m h2 e.
-    map_some _ (named parts.1) x e (λ n h3 same.
-    let p = named_takes parts.0 m h2 in
-    let q = named_takes parts.1 n h3 in
-    let whole : fields ≡ m ++ 32 ∷ n = cut_takes 32 fields parts h1 ∙ rw (p.0, q.0) refl in
-    rw (← same) (whole, p.1, q.1))))
+comment_takes : (text : List ℕ) → is_comment text ≡ true → IsComment text
+unfolding is_comment
+comment_takes [] e = absurd (false≢true e)
+comment_takes (b ∷ text) e = elim (cases_Bool (is_blank b)) [
+  | inl blank ↦
+      let c = comment_takes text (rw blank at e) in
+      record { blanks = b ∷ c.blanks; rest = c.rest; are_blank = and_from _ _ blank c.are_blank; whole = ap (λ (t : List ℕ). b ∷ t) c.whole }
+  | inr other ↦
+      let hash : eqb b 35 ≡ true = rw other at e in
+      record { blanks = []; rest = text; are_blank = refl; whole = (let same : b ≡ 35 = grind (arith, nat_tests) in ap (λ (c : ℕ). c ∷ text) same) }
+]
 
-folder_takes : (fields : List ℕ) (l : RuleLine) → folder_of fields ≡ Some l → (behind (codes "folder") fields ≡ rule_line l) × IsRuleLine l
-unfolding folder_of
-folder_takes fields l e =
-    option_and_then_some _ (cut_at 32 fields) l e (λ parts h1 e.
-    map_some _ (named parts.0) l e (λ s h2 same.
-    let p = named_takes parts.0 s h2 in
-    let whole : fields ≡ s ++ 32 ∷ parts.1 = cut_takes 32 fields parts h1 ∙ rw p.0 refl in
-    rw (← same, whole) (refl, p.1)))
+comment_again : (blanks rest : List ℕ) → list_all is_blank blanks ≡ true → is_comment (blanks ++ 35 ∷ rest) ≡ true
+unfolding is_comment
+comment_again [] rest e = refl
+comment_again (b ∷ blanks) rest e = let p = and_parts (is_blank b) (list_all is_blank blanks) e in rw p.0 (comment_again blanks rest p.1)
 
-by_takes : (word m n : List ℕ) (l : RuleLine) → is_name m ≡ true → is_name n ≡ true → line_by word m n ≡ Some l → (behind word (m ++ 32 ∷ n) ≡ rule_line l) × IsRuleLine l
-by_takes word m n l p q e =
-    elim (cases_Bool (bytes_eq word (codes "set"))) [
-      | inl same_word ↦
-          let is : word ≡ codes "set" = (bytes_eq-Decides word (codes "set")).0 same_word in
-          let same : Member m n ≡ l = some_is (Member m n) l (rw same_word at e) in
-          rw (← same, is) (refl, (p, q))
-      | inr differs ↦ elim (cases_Bool (bytes_eq word (codes "forbid"))) [
-        | inl same_word ↦
-            let is : word ≡ codes "forbid" = (bytes_eq-Decides word (codes "forbid")).0 same_word in
-            let same : Forbid m n ≡ l = some_is (Forbid m n) l (rw (differs, same_word) at e) in
-            rw (← same, is) (refl, (p, q))
-        | inr other ↦ elim (cases_Bool (bytes_eq word (codes "allow"))) [
-          | inl same_word ↦
-              let is : word ≡ codes "allow" = (bytes_eq-Decides word (codes "allow")).0 same_word in
-              let same : Allow m n ≡ l = some_is (Allow m n) l (rw (differs, other, same_word) at e) in
-              rw (← same, is) (refl, (p, q))
-          | inr last ↦ absurd (let none : None ≡ Some l = rw (differs, other, last) at e in cc)
-        ]
-      ]
+comment_is : (text : List ℕ) → IsComment text → is_comment text ≡ true
+comment_is text c = ap is_comment c.whole ∙ comment_again c.blanks c.rest c.are_blank
+
+pub idle_takes : (piece : List ℕ) → is_idle piece ≡ true → IsIdle piece
+idle_takes [] e = inl refl
+idle_takes (b ∷ text) e = inr (comment_takes (b ∷ text) e)
+
+pub idle_is : (piece : List ℕ) → IsIdle piece → is_idle piece ≡ true
+idle_is [] either = refl
+idle_is (b ∷ text) (inl e) = absurd cc
+idle_is (b ∷ text) (inr c) = comment_is (b ∷ text) c
+
+-- ---- the last name
+
+blank_at : (fields : List ℕ) → is_idle (drop (position_or_len is_blank fields) fields) ≡ true → EndsRule (drop (position_or_len is_blank fields) fields)
+blank_at [] e = tt
+blank_at (b ∷ fields) e = elim (cases_Bool (is_blank b)) [
+  | inl blank ↦ rw blank ((blank, comment_takes (b ∷ fields) (rw blank at e)))
+  | inr other ↦
+      let next : 1 + position_or_len is_blank fields ≡ suc (position_or_len is_blank fields) = omega arith in
+      rw (other, next) (blank_at fields (rw (other, next) at e))
+]
+
+last_takes : (fields name : List ℕ) → last_name_of fields ≡ Some name → (comment : List ℕ) × (fields ≡ name ++ comment) × (is_name name ≡ true) × EndsRule comment
+unfolding last_name_of
+last_takes fields name e = elim (cases_Bool (is_idle (drop (position_or_len is_blank fields) fields))) [
+  | inl idle ↦
+      let end = position_or_len is_blank fields in
+      let p = named_takes (take end fields) name (rw idle at e) in (
+        drop end fields,
+        sym (take-append-drop end fields) ∙ ap (λ (t : List ℕ). t ++ drop end fields) p.0,
+        p.1,
+        blank_at fields idle,
+      )
+  | inr other ↦ absurd (let none : None ≡ Some name = rw other at e in cc)
+]
+
+-- no byte of a name is a blank
+letters_sharp : (bytes : List ℕ) → list_all is_ascii_alphanumeric bytes ≡ true → list_all (λ b. not (is_blank b)) bytes ≡ true
+letters_sharp [] e = refl
+letters_sharp (b ∷ bytes) e = let p = and_parts _ _ e in and_from _ _ (grind (arith, nat_tests)) (letters_sharp bytes p.1)
+
+name_sharp : (name : List ℕ) → is_name name ≡ true → list_all (λ b. not (is_blank b)) name ≡ true
+name_sharp [] e = refl
+name_sharp (b ∷ bytes) e = let p = and_parts _ _ e in and_from _ _ (grind (arith, nat_tests)) (letters_sharp bytes p.1)
+
+name_ends : (name comment : List ℕ) → list_all (λ b. not (is_blank b)) name ≡ true → EndsRule comment → position_or_len is_blank (name ++ comment) ≡ length name
+name_ends [] [] e ends = refl
+name_ends [] (b ∷ text) e ends = rw ends.0 refl
+name_ends (b ∷ name) comment e ends =
+    let p = and_parts (not (is_blank b)) (list_all (λ c. not (is_blank c)) name) e in
+    let rest = name_ends name comment p.1 ends in
+    rw p.0 (omega arith)
+
+idle_end : (comment : List ℕ) → EndsRule comment → is_idle comment ≡ true
+idle_end [] ends = refl
+idle_end (b ∷ text) ends = comment_is (b ∷ text) ends.1
+
+last_again : (name comment : List ℕ) → is_name name ≡ true → EndsRule comment → last_name_of (name ++ comment) ≡ Some name
+unfolding last_name_of
+last_again name comment p ends = rw (name_ends name comment (name_sharp name p) ends, drop-append_seam name comment, idle_end comment ends, take-append_seam name comment, named_again name p) refl
+
+-- how the last name is read
+pub last_by : (fields : List ℕ) (end : ℕ) → end ≡ position_or_len is_blank fields → is_idle (drop end fields) ≡ true → last_name_of fields ≡ named (take end fields)
+unfolding last_name_of
+last_by fields end at idle = rw (← at, idle) refl
+
+pub last_none : (fields : List ℕ) (end : ℕ) → end ≡ position_or_len is_blank fields → is_idle (drop end fields) ≡ false → last_name_of fields ≡ None
+unfolding last_name_of
+last_none fields end at other = rw (← at, other) refl
+
+-- the first index, or the length
+pub index_or_len : (test : ℕ → Bool) (xs : List ℕ) → unwrap_or (position test xs) (length xs) ≡ position_or_len test xs
+index_or_len test xs = elim (cases_lt (position_or_len test xs) (length xs)) [
+  | inl lt ↦ rw (lt-ltb _ _ lt) refl
+  | inr ge ↦ let le = prefix_low xs in rw (le-ltb _ _ ge) (omega arith)
+]
+  where
+    prefix_low : (ys : List ℕ) → position_or_len test ys ≤ length ys
+    prefix_low [] = omega arith
+    prefix_low (y ∷ ys) = elim (cases_Bool (test y)) [
+      | inl passes ↦ rw passes (omega arith)
+      | inr fails ↦ let le = prefix_low ys in rw fails (omega arith)
     ]
 
-under_takes : (word fields : List ℕ) (l : RuleLine) → line_under word fields ≡ Some l → (behind word fields ≡ rule_line l) × IsRuleLine l
-unfolding line_under
-under_takes word fields l e =
-    elim (cases_Bool (bytes_eq word (codes "folder"))) [
-      | inl same_word ↦
-          let is : word ≡ codes "folder" = (bytes_eq-Decides word (codes "folder")).0 same_word in
-          let p = folder_takes fields l (rw same_word at e) in
-          rw is p
-      | inr differs ↦ option_and_then_some _ (names_of fields) l (rw differs at e) (λ x h e.
-          let p = names_takes fields x h in
-          rw p.0 (by_takes word x.0 x.1 l p.1 p.2 e))
+-- a comment goes on after a blank
+pub comment_more : (bytes : List ℕ) (i : ℕ) → i < length bytes → is_blank (get_or bytes i 0) ≡ true → is_comment (drop i bytes) ≡ is_comment (drop (i + 1) bytes)
+unfolding is_comment
+comment_more bytes i lt blank = rw (drop-cons bytes i 0, add-one, blank) refl
+
+pub comment_here : (bytes : List ℕ) (i : ℕ) → i < length bytes → is_blank (get_or bytes i 0) ≡ false → is_comment (drop i bytes) ≡ eqb (get_or bytes i 0) 35
+unfolding is_comment
+comment_here bytes i lt other = rw (drop-cons bytes i 0, other) refl
+
+pub comment_end : (bytes : List ℕ) (i : ℕ) → length bytes ≤ i → is_comment (drop i bytes) ≡ false
+unfolding is_comment
+comment_end bytes i le = rw (drop_of_length-le bytes {i = i} le) refl
+
+-- ---- lines
+
+-- what is read after a word
+abbrev after : List ℕ → List ℕ → List ℕ
+after word fields = word ++ 32 ∷ fields
+
+text_takes : (bytes text : List ℕ) → text_of bytes ≡ Some text → (bytes ≡ text) × IsUtf8 text
+unfolding text_of
+text_takes bytes text e = elim (cases_Bool (is_utf8 bytes)) [
+  | inl good ↦ let same : bytes ≡ text = some_is bytes text (rw good at e) in (same, subst IsUtf8 same (IsUtf8-from_is_utf8 bytes good))
+  | inr bad ↦ absurd (let none : None ≡ Some text = rw bad at e in cc)
+]
+
+pub text_none : (bytes : List ℕ) → (IsUtf8 bytes → ⊥) → text_of bytes ≡ None
+unfolding text_of
+text_none bytes none = elim (cases_Bool (is_utf8 bytes)) [
+  | inl good ↦ absurd (none (IsUtf8-from_is_utf8 bytes good))
+  | inr bad ↦ rw bad refl
+]
+
+pub text_again : (text : List ℕ) → IsUtf8 text → text_of text ≡ Some text
+unfolding text_of
+text_again text good = rw (is_utf8-from_IsUtf8 text good) refl
+
+kind_takes : (word : List ℕ) (kind : RuleKind) → kind_of word ≡ Some kind → word ≡ keyword kind
+kind_takes word kind e = elim (cases_Bool (bytes_eq word (codes "forbid"))) [
+  | inl is ↦ let same : kinds.Forbid ≡ kind = some_is kinds.Forbid kind (rw is at e) in (bytes_eq-Decides word (codes "forbid")).0 is ∙ ap keyword same
+  | inr a ↦ elim (cases_Bool (bytes_eq word (codes "forbid-import"))) [
+    | inl is ↦ let same : kinds.ForbidImport ≡ kind = some_is kinds.ForbidImport kind (rw (a, is) at e) in (bytes_eq-Decides word (codes "forbid-import")).0 is ∙ ap keyword same
+    | inr b ↦ elim (cases_Bool (bytes_eq word (codes "may"))) [
+      | inl is ↦ let same : kinds.May ≡ kind = some_is kinds.May kind (rw (a, b, is) at e) in (bytes_eq-Decides word (codes "may")).0 is ∙ ap keyword same
+      | inr c ↦ absurd (let none : None ≡ Some kind = rw (a, b, c) at e in cc)
     ]
+  ]
+]
+
+-- what a line is after its keyword and a comment
+abbrev Reads : List ℕ → RuleLine → Type 0
+Reads bytes l = (comment : List ℕ) × (bytes ≡ rule_line l ++ comment) × IsRuleLine l × MayFollow l comment
+
+-- with the keyword and the first name before it a name and its comment are the line
+two_names : (word m n comment : List ℕ) → after word (m ++ 32 ∷ (n ++ comment)) ≡ (word ++ 32 ∷ (m ++ 32 ∷ n)) ++ comment
+two_names word m n comment = sym (append_assoc word (32 ∷ (m ++ 32 ∷ n)) comment ∙ ap (λ (t : List ℕ). word ++ 32 ∷ t) (append_assoc m (32 ∷ n) comment))
+
+names_read : (word m n comment : List ℕ) (l : RuleLine) → is_name m ≡ true → is_name n ≡ true → EndsRule comment → line_of_names word m n ≡ Some l → Reads (after word (m ++ 32 ∷ (n ++ comment))) l
+names_read word m n comment l p q ends e = elim (cases_Bool (bytes_eq word (codes "set"))) [
+  | inl is ↦
+      let same : Adds m (Module n) ≡ l = some_is _ l (rw is at e) in
+      let word_is = (bytes_eq-Decides word (codes "set")).0 is in
+      rw (← same, word_is) (comment, two_names (codes "set") m n comment, (p, q), ends)
+  | inr a ↦ elim (cases_Bool (bytes_eq word (codes "allow"))) [
+    | inl is ↦
+        let same : Allow m n ≡ l = some_is _ l (rw (a, is) at e) in
+        let word_is = (bytes_eq-Decides word (codes "allow")).0 is in
+        rw (← same, word_is) (comment, two_names (codes "allow") m n comment, (p, q), ends)
+    | inr b ↦ map_some (λ (kind : RuleKind). Restricts kind m n) (kind_of word) l (rw (a, b) at e) (λ kind h same.
+        let word_is = kind_takes word kind h in
+        rw (← same, word_is) (comment, two_names (keyword kind) m n comment, (p, q), ends))
+  ]
+]
+
+after_takes : (word first last : List ℕ) (l : RuleLine) → is_name first ≡ true → line_after word first last ≡ Some l → Reads (after word (first ++ 32 ∷ last)) l
+unfolding line_after
+after_takes word first last l p e = elim (cases_Bool (bytes_eq word (codes "folder"))) [
+  | inl is ↦
+      let word_is = (bytes_eq-Decides word (codes "folder")).0 is in
+      map_some (λ (path : List ℕ). Adds first (Folder path)) (text_of last) l (rw is at e) (λ path h same.
+      let t = text_takes last path h in
+      rw (← same, word_is, t.0) ([], sym (append-nil _), (p, t.1), refl))
+  | inr a ↦ elim (cases_Bool (bytes_eq word (codes "named"))) [
+    | inl is ↦
+        let word_is = (bytes_eq-Decides word (codes "named")).0 is in
+        map_some (λ (pattern : List ℕ). Adds first (Named pattern)) (text_of last) l (rw (a, is) at e) (λ pattern h same.
+        let t = text_takes last pattern h in
+        rw (← same, word_is, t.0) ([], sym (append-nil _), (p, t.1), refl))
+    | inr b ↦ option_and_then_some _ (last_name_of last) l (rw (a, b) at e) (λ second h e.
+        let (comment, whole, q, ends) = last_takes last second h in
+        rw whole (names_read word first second comment l p q ends e))
+  ]
+]
+
+fields_takes : (word fields : List ℕ) (l : RuleLine) → line_of_fields word fields ≡ Some l → Reads (after word fields) l
+unfolding line_of_fields
+fields_takes word fields l e = elim (cases_Bool (bytes_eq word (codes "tree"))) [
+  | inl is ↦
+      let word_is = (bytes_eq-Decides word (codes "tree")).0 is in
+      map_some (λ (s : List ℕ). Adds s Tree) (last_name_of fields) l (rw is at e) (λ s h same.
+      let (comment, whole, q, ends) = last_takes fields s h in
+      rw (← same, word_is, whole) (comment, sym (append_assoc (codes "tree") (32 ∷ s) comment), q, ends))
+  | inr a ↦ option_and_then_some _ (cut_at 32 fields) l (rw a at e) (λ parts h1 e.
+      option_and_then_some _ (named parts.0) l e (λ first h2 e.
+      let p = named_takes parts.0 first h2 in
+      let whole : fields ≡ first ++ 32 ∷ parts.1 = cut_takes 32 fields parts h1 ∙ rw p.0 refl in
+      rw whole (after_takes word first parts.1 l p.1 e)))
+]
 
 -- what is read is spelled so
-pub line_takes : (piece : List ℕ) (l : RuleLine) → rule_line_of piece ≡ Some l → (rule_line l ≡ piece) × IsRuleLine l
+pub line_takes : (piece : List ℕ) (l : RuleLine) → rule_line_of piece ≡ Some l → Spells piece l
 unfolding rule_line_of
-line_takes piece l e =
-    option_and_then_some _ (cut_at 32 piece) l e (λ parts h e.
-    let p = under_takes parts.0 parts.1 l e in
-    (sym (cut_takes 32 piece parts h ∙ p.0), p.1))
+line_takes piece l e = option_and_then_some _ (cut_at 32 piece) l e (λ parts h e.
+    let (comment, whole, form, follows) = fields_takes parts.0 parts.1 l e in
+    record { form = form; comment = comment; follows = follows; whole = cut_takes 32 piece parts h ∙ whole })
 
-names_again : (m n : List ℕ) → is_name m ≡ true → is_name n ≡ true → names_of (m ++ 32 ∷ n) ≡ Some (m, n)
-unfolding names_of
-names_again m n p q = rw (cut_again 32 m n (name_without 32 m refl p), named_again m p, named_again n q) refl
+-- ---- what is spelled so is read
 
-folder_again : (s path : List ℕ) → is_name s ≡ true → folder_of (s ++ 32 ∷ path) ≡ Some (Folder s path)
-unfolding folder_of
-folder_again s path p = rw (cut_again 32 s path (name_without 32 s refl p), named_again s p) refl
+kind_again : (kind : RuleKind) → kind_of (keyword kind) ≡ Some kind
+kind_again kinds.Forbid = refl
+kind_again kinds.ForbidImport = refl
+kind_again kinds.May = refl
 
--- what is spelled so is read
-pub line_again : (l : RuleLine) → IsRuleLine l → rule_line_of (rule_line l) ≡ Some l
-unfolding rule_line_of line_under
-line_again (Member s m) h = rw (cut_again 32 (codes "set") (s ++ 32 ∷ m) refl, names_again s m h.0 h.1) refl
-line_again (Folder s path) h = rw (cut_again 32 (codes "folder") (s ++ 32 ∷ path) refl, folder_again s path h) refl
-line_again (Forbid x y) h = rw (cut_again 32 (codes "forbid") (x ++ 32 ∷ y) refl, names_again x y h.0 h.1) refl
-line_again (Allow m n) h = rw (cut_again 32 (codes "allow") (m ++ 32 ∷ n) refl, names_again m n h.0 h.1) refl
+line_again_of : (l : RuleLine) (comment : List ℕ) → IsRuleLine l → MayFollow l comment → rule_line_of (rule_line l ++ comment) ≡ Some l
+unfolding rule_line_of line_of_fields line_after
+line_again_of (Adds s (Module m)) comment h ends =
+    rw (append_assoc s (32 ∷ m) comment, cut_again 32 (codes "set") (s ++ 32 ∷ (m ++ comment)) refl, cut_again 32 s (m ++ comment) (name_without 32 s refl h.0), named_again s h.0, last_again m comment h.1 ends) refl
+line_again_of (Adds s (Folder path)) comment h ends =
+    rw (ends, append-nil (s ++ 32 ∷ path), cut_again 32 (codes "folder") (s ++ 32 ∷ path) refl, cut_again 32 s path (name_without 32 s refl h.0), named_again s h.0, text_again path h.1) refl
+line_again_of (Adds s (Named pattern)) comment h ends =
+    rw (ends, append-nil (s ++ 32 ∷ pattern), cut_again 32 (codes "named") (s ++ 32 ∷ pattern) refl, cut_again 32 s pattern (name_without 32 s refl h.0), named_again s h.0, text_again pattern h.1) refl
+line_again_of (Adds s Tree) comment h ends = rw (cut_again 32 (codes "tree") (s ++ comment) refl, last_again s comment h ends) refl
+line_again_of (Restricts kinds.Forbid x y) comment h ends =
+    rw (append_assoc x (32 ∷ y) comment, cut_again 32 (codes "forbid") (x ++ 32 ∷ (y ++ comment)) refl, cut_again 32 x (y ++ comment) (name_without 32 x refl h.0), named_again x h.0, last_again y comment h.1 ends) refl
+line_again_of (Restricts kinds.ForbidImport x y) comment h ends =
+    rw (append_assoc x (32 ∷ y) comment, cut_again 32 (codes "forbid-import") (x ++ 32 ∷ (y ++ comment)) refl, cut_again 32 x (y ++ comment) (name_without 32 x refl h.0), named_again x h.0, last_again y comment h.1 ends) refl
+line_again_of (Restricts kinds.May x y) comment h ends =
+    rw (append_assoc x (32 ∷ y) comment, cut_again 32 (codes "may") (x ++ 32 ∷ (y ++ comment)) refl, cut_again 32 x (y ++ comment) (name_without 32 x refl h.0), named_again x h.0, last_again y comment h.1 ends) refl
+line_again_of (Allow m n) comment h ends =
+    rw (append_assoc m (32 ∷ n) comment, cut_again 32 (codes "allow") (m ++ 32 ∷ (n ++ comment)) refl, cut_again 32 m (n ++ comment) (name_without 32 m refl h.0), named_again m h.0, last_again n comment h.1 ends) refl
 
--- a line has one spelling
-pub line_once : (l k : RuleLine) → IsRuleLine l → IsRuleLine k → rule_line l ≡ rule_line k → l ≡ k
-line_once l k good well e =
-    let a = line_again l good in
-    let b = line_again k well in
-    let c : rule_line_of (rule_line l) ≡ rule_line_of (rule_line k) = ap rule_line_of e in
-    cc
+pub line_again : (piece : List ℕ) (l : RuleLine) → Spells piece l → rule_line_of piece ≡ Some l
+line_again piece l s = ap rule_line_of s.whole ∙ line_again_of l s.comment s.form s.follows
+
+-- the bytes spell one line
+pub line_once : (piece : List ℕ) (l k : RuleLine) → Spells piece l → Spells piece k → l ≡ k
+line_once piece l k a b = some_is l k (sym (line_again piece l a) ∙ line_again piece k b)
 
 -- what isn't read is no line
-pub no_line : (piece : List ℕ) → rule_line_of piece ≡ None → (l : RuleLine) → IsRuleLine l → rule_line l ≢ piece
-no_line piece none l good e =
-    let a : Some l ≡ None = sym (line_again l good) ∙ ap rule_line_of e ∙ none in
-    absurd cc
+pub no_line : (piece : List ℕ) → rule_line_of piece ≡ None → (l : RuleLine) → Spells piece l → ⊥
+no_line piece none l s = let e : Some l ≡ None = sym (line_again piece l s) ∙ none in cc
 
--- a line is written
-pub line_written : (l : RuleLine) → is_written (rule_line l) ≡ true
-line_written (Member s m) = refl
-line_written (Folder s path) = refl
-line_written (Forbid x y) = refl
-line_written (Allow m n) = refl
+-- a line isn't idle
+pub line_written : (l : RuleLine) (comment : List ℕ) → is_idle (rule_line l ++ comment) ≡ false
+unfolding is_comment
+line_written (Adds s (Module m)) comment = refl
+line_written (Adds s (Folder path)) comment = refl
+line_written (Adds s (Named pattern)) comment = refl
+line_written (Adds s Tree) comment = refl
+line_written (Restricts kinds.Forbid x y) comment = refl
+line_written (Restricts kinds.ForbidImport x y) comment = refl
+line_written (Restricts kinds.May x y) comment = refl
+line_written (Allow m n) comment = refl
 
 -- ---- lines of a text
 
@@ -123,6 +296,12 @@ one_piece pieces line p q a b =
     let e : a.place ≡ b.place = (let x = a.number in let y = b.number in omega arith) in
     some_is p q (sym a.there ∙ ap (slice_get pieces) e ∙ b.there)
 
--- a line says one thing
+-- a line states one thing
 pub says_one : (pieces : List (List ℕ)) (line : ℕ) (l k : RuleLine) → Says pieces line l → Says pieces line k → l ≡ k
-says_one pieces line l k a b = line_once l k a.form b.form (one_piece pieces line (rule_line l) (rule_line k) a.spelled b.spelled)
+says_one pieces line l k a b = line_once a.piece l k a.spelled (subst (λ (p : List ℕ). Spells p k) (one_piece pieces line b.piece a.piece b.at a.at) b.spelled)
+
+-- an idle line states nothing
+pub idle_says : (pieces : List (List ℕ)) (line : ℕ) (piece : List ℕ) (l : RuleLine) → IsPieceAt pieces line piece → is_idle piece ≡ true → Says pieces line l → ⊥
+idle_says pieces line piece l at idle s =
+    let e : true ≡ false = sym idle ∙ ap is_idle (one_piece pieces line piece s.piece at s.at ∙ s.spelled.whole) ∙ line_written l s.spelled.comment in
+    absurd (false≢true (sym e))

@@ -1,19 +1,24 @@
 -- Marks of the modules of a name.
-use Rattle.std.proofs.Common.{◌≡◌, ◌≢◌, ℕ, zero, suc, replicate, ◌+◌, ◌<◌, ◌≤◌, ◌⊎◌, inl, inr, true, false, Bool, List, [], ◌∷◌, ◌++◌, length, get_or, set, Some, refl, sym, ap, ◌∙◌, subst, arith, nat_lt}
+use Rattle.std.proofs.Common.{◌≡◌, ◌≢◌, ℕ, zero, suc, replicate, ◌+◌, ◌<◌, ◌≤◌, ◌⊎◌, inl, inr, true, false, Bool, List, [], ◌∷◌, ◌++◌, length, get_or, set, take, max, add-one, Some, refl, sym, ap, ◌∙◌, subst, arith, nat_lt}
 use Rattle.std.specs.Prelude.{◌↔◌, AllPairs, Contains, slice_get}
 use Rattle.std.specs.List.Sorted.{IsPartitionPoint, IsPartitionedBy}
 use Rattle.std.proofs.lemmas.Bool.{cases_eq, cases_lt, lt-ltb, ltb-true}
+use Rattle.std.proofs.Math.ListN.{get_or-append}
+use Rattle.std.proofs.Math.Seq.{take-suc}
+use Rattle.std.proofs.lemmas.List.{get_or_push, length_push}
 use Rattle.std.proofs.lemmas.List.{get_or-set_other, get_or-set_same, get_or_past, length-set}
 use Rattle.std.proofs.lemmas.List.Elements.{Contains-append_left, Contains-get_or, Contains-push, Contains-push_cases}
 use Rattle.std.proofs.lemmas.List.Quantifiers.{all_pairs_push}
 use Rattle.std.proofs.lemmas.Option.{get_or_from_slice_get, slice_get-get_or}
 use Rattle.digraph.specs.Marks.{marked}
 use Rattle.texts.proofs.FieldCuts.{some_is}
-use Rattle.cut_rules.specs.declared.draft.Span.{Span}
+use Rattle.cut_rules.specs.declared.table.MarkedSet.{MarkedSet}
+use Rattle.cut_rules.specs.declared.table.Span.{Span}
 use Rattle.cut_rules.specs.declared.file.File.{File}
-use Rattle.cut_rules.specs.Drafts.{HasPlace, InSpans, IsAtPlace}
-use Rattle.cut_rules.specs.Outcomes.{AreByName}
+use Rattle.cut_rules.specs.Drafts.{HasPlace, InMarks, InSpans, IsAtPlace}
+use Rattle.cut_rules.specs.Tables.{AreByName, AreByStart}
 use Rattle.cut_rules.proofs.Pieces.{get_low}
+use Rattle.cut_rules.proofs.TableLaws.{marks_added}
 
 -- one module stands at a place
 pub one_at : (files : List File) (k m n : ℕ) → IsAtPlace files k m → IsAtPlace files k n → m ≡ n
@@ -174,6 +179,44 @@ module _ (files : List File) (spans : List Span) (name : ℕ) (old : List Bool) 
     | inr ge ↦ ge
   ]
 
+-- the places up to this one that a later span of the set has are those of earlier ones
+abbrev pub AreCovered : List Span → ℕ → ℕ → ℕ → Type 0
+AreCovered spans at name covered =
+    (k j : ℕ) (s : Span) → at ≤ j → slice_get spans j ≡ Some s → s.name ≡ name → s.from ≤ k → k < covered → (i : ℕ) × (t : Span) × (i < at) × (slice_get spans i ≡ Some t) × (t.name ≡ name) × (t.from ≤ k) × (k < t.to)
+
+module _ (files : List File) (spans : List Span) (name : ℕ) (old now : List Bool) (at covered : ℕ) (span : Span) (there : slice_get spans at ≡ Some span) (is : span.name ≡ name) (cover : AreCovered spans at name covered) where
+  -- so they have their marks
+  pub skipped : (new : List Bool) (from : ℕ) → from ≡ max span.from covered → AreMarks old now (InSpansBefore files spans at name) → AreMarks now new (HasPlace files from span.to) → AreMarks now new (HasPlace files span.from span.to)
+  skipped new from start (size, are) (long, more) = (
+    long,
+    λ m small. (
+      λ e. elim ((more m small).0 e) [ inl was ↦ inl was | inr (k, low, high, here) ↦ inr (k, omega arith, high, here) ],
+      λ either. (more m small).1 (elim either [
+        | inl was ↦ inl was
+        | inr (k, low, high, here) ↦ elim (cases_lt k from) [
+          | inl below ↦
+              let (i, t, lt, at_i, named, above, under) = cover k at span (omega arith) there is low (omega arith) in
+              inl ((are m (omega arith)).1 (inr (i, t, lt, at_i, named, (k, above, under, here))))
+          | inr rest ↦ inr (k, rest, high, here)
+        ]
+      ]),
+    ),
+  )
+
+  pub covers_more : AreByStart spans → AreCovered spans (at + 1) name (max covered span.to)
+  covers_more up k j s le at_j named low less = elim (cases_lt k span.to) [
+    | inl inside ↦
+        let lt = get_low spans j s at_j in
+        let here : get_or spans at s ≡ span = get_or_from_slice_get spans at span s there in
+        let last : get_or spans j s ≡ s = get_or_from_slice_get spans j s s at_j in
+        let one = ap (λ (t : Span). t.name) here ∙ is ∙ sym (ap (λ (t : Span). t.name) last ∙ named) in
+        let rises = up at j s (omega arith) lt one in
+        let first = ap (λ (t : Span). t.from) here in
+        let second = ap (λ (t : Span). t.from) last in
+        (at, span, omega arith, there, is, omega arith, inside)
+    | inr outside ↦ let (i, t, lt, at_i, is_named, above, under) = cover k j s (omega arith) at_j named low (omega arith) in (i, t, omega arith, at_i, is_named, above, under)
+  ]
+
 pub names_split : (spans : List Span) (name : ℕ) → AreByName spans → IsPartitionedBy (λ (s : Span). nat_lt s.name name) spans
 names_split spans name up i j d le lt e = let less = ltb-true (get_or spans j d).name name e in let rises = up i j d le lt in lt-ltb (get_or spans i d).name name (omega arith)
 
@@ -227,6 +270,78 @@ name_marked nodes name none first last P size clear (long, own) (longer, others)
     λ either. (others m (omega arith)).1 (elim either [ inl is ↦ inl ((own m (omega arith)).1 (inr is)) | inr p ↦ inr p ]),
   ),
 )
+
+-- one step of marks after another
+pub marks_then : (a b c : List Bool) (P Q : ℕ → Type 0) → AreMarks a b P → AreMarks b c Q → AreMarks a c (λ m. P m ⊎ Q m)
+marks_then a b c P Q (long, first) (longer, second) = (
+  longer ∙ long,
+  λ m small. (
+    λ e. elim ((second m (omega arith)).0 e) [
+      | inl was ↦ elim ((first m small).0 was) [ inl before ↦ inl before | inr p ↦ inr (inl p) ]
+      | inr q ↦ inr (inr q)
+    ],
+    λ either. (second m (omega arith)).1 (elim either [
+      | inl before ↦ inl ((first m small).1 (inl before))
+      | inr later ↦ elim later [ inl p ↦ inl ((first m small).1 (inr p)) | inr q ↦ inr q ]
+    ]),
+  ),
+)
+
+pub marks_as : (a b : List Bool) (P Q : ℕ → Type 0) → ((m : ℕ) → P m ↔ Q m) → AreMarks a b P → AreMarks a b Q
+marks_as a b P Q same (long, are) = (
+  long,
+  λ m small. (
+    λ e. elim ((are m small).0 e) [ inl was ↦ inl was | inr p ↦ inr ((same m).0 p) ],
+    λ either. (are m small).1 (elim either [ inl was ↦ inl was | inr q ↦ inr ((same m).1 q) ]),
+  ),
+)
+
+pub marks_still : (a : List Bool) (P : ℕ → Type 0) → ((m : ℕ) → P m → ⊥) → AreMarks a a P
+marks_still a P none = (refl, λ m small. ((λ e. inl e), λ either. elim either [ inl was ↦ was | inr p ↦ absurd (none m p) ]))
+
+-- the marks of another list up to an index
+abbrev pub MarkedTo : List Bool → ℕ → ℕ → Type 0
+MarkedTo others count m = (m < count) × (marked others m ≡ true)
+
+pub marked_to_next : (others : List Bool) (count : ℕ) → marked others count ≡ true → (m : ℕ) → (MarkedTo others count m ⊎ (count ≡ m)) ↔ MarkedTo others (count + 1) m
+marked_to_next others count here m = (
+  λ either. elim either [
+    | inl (lt, is) ↦ (omega arith, is)
+    | inr e ↦ (omega arith, subst (λ (n : ℕ). marked others n ≡ true) e here)
+  ],
+  λ (lt, is). elim (cases_eq m count) [ inl e ↦ inr (sym e) | inr ne ↦ inl (omega (arith, ne), is) ],
+)
+
+pub unmarked_to_next : (others : List Bool) (count : ℕ) → marked others count ≡ false → (m : ℕ) → MarkedTo others count m ↔ MarkedTo others (count + 1) m
+unmarked_to_next others count here m = (
+  λ (lt, is). (omega arith, is),
+  λ (lt, is). elim (cases_eq m count) [
+    | inl e ↦ absurd (let f : true ≡ false = sym is ∙ ap (marked others) e ∙ here in cc)
+    | inr ne ↦ (omega (arith, ne), is)
+  ],
+)
+
+pub marked_to_all : (others : List Bool) (count : ℕ) → length others ≤ count → (m : ℕ) → MarkedTo others count m ↔ (marked others m ≡ true)
+marked_to_all others count le m = (λ (lt, is). is, λ is. (let lt = marked_low others m is in omega arith, is))
+
+-- one mark more at the end
+pub mark_pushed : (marks : List Bool) (b : Bool) (n : ℕ) (P : ℕ → Type 0) → (length marks ≡ n) × ((m : ℕ) → m < n → (marked marks m ≡ true) ↔ P m) → (b ≡ true) ↔ P n → (length (marks ++ b ∷ []) ≡ n + 1) × ((m : ℕ) → m < n + 1 → (marked (marks ++ b ∷ []) m ≡ true) ↔ P m)
+mark_pushed marks b n P (long, are) here = (
+  (let more = length_push marks b in omega arith),
+  λ m low. elim (cases_eq m n) [
+    | inl e ↦
+        let is : marked (marks ++ b ∷ []) m ≡ b = get_or_push marks b false m (omega arith) in
+        subst (λ (k : ℕ). (marked (marks ++ b ∷ []) m ≡ true) ↔ P k) (sym e) ((λ f. here.0 (sym is ∙ f)), (λ p. is ∙ here.1 p))
+    | inr ne ↦
+        let is : marked (marks ++ b ∷ []) m ≡ marked marks m = get_or-append marks (b ∷ []) false m (omega (arith, ne)) in
+        let old = are m (omega (arith, ne)) in
+        ((λ f. old.0 (sym is ∙ f)), (λ p. is ∙ old.1 p))
+  ],
+)
+
+-- the entries of a set up to an index
+pub entries_next : (entries : List MarkedSet) (i name : ℕ) (d : MarkedSet) → i < length entries → (m : ℕ) → InMarks (take (i + 1) entries) name m ↔ (InMarks (take i entries) name m ⊎ (((get_or entries i d).name ≡ name) × (marked (get_or entries i d).marks.items m ≡ true)))
+entries_next entries i name d lt m = rw (add-one, take-suc entries i d lt) (marks_added (take i entries) (get_or entries i d) name m)
 
 -- the span at a place
 abbrev pub first_span : Span

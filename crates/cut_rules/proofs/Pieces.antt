@@ -1,15 +1,15 @@
 -- One line more.
-use Rattle.std.proofs.Common.{◌≡◌, ℕ, zero, suc, ◌+◌, ◌<◌, ◌≤◌, ◌⊎◌, inl, inr, true, false, List, [], ◌∷◌, ◌++◌, length, Option, Some, None, refl, sym, ap, ◌∙◌, subst, arith}
+use Rattle.std.proofs.Common.{◌≡◌, ℕ, zero, suc, ◌+◌, ◌<◌, ◌≤◌, ◌⊎◌, inl, inr, List, [], ◌∷◌, ◌++◌, length, Option, Some, None, refl, sym, ap, ◌∙◌, subst, arith}
 use Rattle.std.specs.Prelude.{◌↔◌, Contains, slice_get, option_map, option_and_then}
 use Rattle.std.proofs.lemmas.Bool.{cases_eq}
 use Rattle.std.proofs.lemmas.List.Elements.{Contains-append_left, Contains-push, Contains-push_cases}
 use Rattle.std.proofs.lemmas.Option.{option_and_then_some}
 use Rattle.texts.proofs.FieldCuts.{some_is}
-use Rattle.cut_rules.specs.RuleLines.{RuleLine, Member, Folder, Forbid, Allow, rule_line, is_written, IsPieceAt, IsRuleLine, Says}
+use Rattle.cut_rules.specs.RuleLines.{RuleLine, Selector, Adds, Restricts, Allow, IsPieceAt, Says, Spells}
 use Rattle.cut_rules.specs.LineReading.{rule_line_of, set_in, set_of}
 use Rattle.cut_rules.specs.Rules.{IsSet}
 use Rattle.cut_rules.specs.Drafts.{IsSetWithin}
-use Rattle.cut_rules.proofs.LineLaws.{line_again, line_takes, line_written}
+use Rattle.cut_rules.proofs.LineLaws.{line_again, line_takes, one_piece}
 
 pub get_low : {A : Type 0} (xs : List A) (k : ℕ) (x : A) → slice_get xs k ≡ Some x → k < length xs
 get_low [] k x e = absurd cc
@@ -18,67 +18,62 @@ get_low (y ∷ ys) (suc k) x e = let lt = get_low ys k x e in omega arith
 
 pub says_low : (pieces : List (List ℕ)) (line : ℕ) (l : RuleLine) → Says pieces line l → (0 < line) × (line ≤ length pieces)
 says_low pieces line l s =
-    let at = s.spelled in
-    let lt = get_low pieces at.place (rule_line l) at.there in
+    let at = s.at in
+    let lt = get_low pieces at.place s.piece at.there in
     let e = at.number in
     (omega arith, omega arith)
 
-module _ (pieces : List (List ℕ)) (count : ℕ) (piece : List ℕ) (there : slice_get pieces count ≡ Some piece) where
-  pub piece_here : IsPieceAt pieces (count + 1) piece
-  piece_here = record { place = count; number = refl; there = there }
+-- among the lines up to the next one are those up to this one, and the next one
+pub within_next : (Q : ℕ → Type 0) (count : ℕ) → ((l : ℕ) × (l ≤ count + 1) × Q l) ↔ (((l : ℕ) × (l ≤ count) × Q l) ⊎ Q (count + 1))
+within_next Q count = (
+  λ (l, le, q). elim (cases_eq l (count + 1)) [
+    | inl e ↦ inr (subst Q e q)
+    | inr ne ↦ inl (l, omega (arith, ne), q)
+  ],
+  λ either. elim either [ inl (l, le, q) ↦ (l, omega arith, q) | inr q ↦ (count + 1, omega arith, q) ],
+)
 
-  pub says_here : (l : RuleLine) → rule_line l ≡ piece → IsRuleLine l → Says pieces (count + 1) l
-  says_here l e form = record { spelled = record { place = count; number = refl; there = there ∙ ap (λ (p : List ℕ). Some p) (sym e) }; form = form }
+module _ (pieces : List (List ℕ)) (count : ℕ) (piece : List ℕ) (at : IsPieceAt pieces (count + 1) piece) where
+  pub says_here : (l : RuleLine) → Spells piece l → Says pieces (count + 1) l
+  says_here l spelled = record { piece = piece; at = at; spelled = spelled }
 
-  pub said_here : (l : RuleLine) → Says pieces (count + 1) l → rule_line l ≡ piece
-  said_here l s =
-      let at = s.spelled in
-      let same : at.place ≡ count = (let e = at.number in omega arith) in
-      some_is (rule_line l) piece (sym at.there ∙ ap (slice_get pieces) same ∙ there)
+  pub spelled_here : (l : RuleLine) → Says pieces (count + 1) l → Spells piece l
+  spelled_here l s = subst (λ (p : List ℕ). Spells p l) (one_piece pieces (count + 1) s.piece piece s.at at) s.spelled
 
-  -- the piece is no line
-  pub nothing_here : is_written piece ≡ false → (l : RuleLine) → Says pieces (count + 1) l → ⊥
-  nothing_here none l s = let e : true ≡ false = sym (line_written l) ∙ ap is_written (said_here l s) ∙ none in absurd cc
-
-  -- the set of which the line says something
-  set_here : (s : List ℕ) → IsSetWithin pieces (count + 1) s → IsSetWithin pieces count s ⊎ (set_of piece ≡ Some s)
+  -- the set to which the line adds modules
+  set_here : (s : List ℕ) → ((selector : Selector) × Says pieces (count + 1) (Adds s selector)) → set_of piece ≡ Some s
   unfolding set_of
-  set_here s (line, le, says) = elim (cases_eq line (count + 1)) [
-    | inl e ↦ inr (elim says [
-      | inl (m, is) ↦ let here : Says pieces (count + 1) (Member s m) = subst (λ (n : ℕ). Says pieces n (Member s m)) e is in
-          ap (option_and_then set_in) (ap rule_line_of (sym (said_here (Member s m) here)) ∙ line_again (Member s m) here.form)
-      | inr (path, is) ↦ let here : Says pieces (count + 1) (Folder s path) = subst (λ (n : ℕ). Says pieces n (Folder s path)) e is in
-          ap (option_and_then set_in) (ap rule_line_of (sym (said_here (Folder s path) here)) ∙ line_again (Folder s path) here.form)
-    ])
-    | inr ne ↦ inl (line, omega (arith, ne), says)
-  ]
+  set_here s (selector, says) = ap (option_and_then set_in) (line_again piece (Adds s selector) (spelled_here (Adds s selector) says))
 
-  of_set : (s : List ℕ) (l : RuleLine) → Says pieces (count + 1) l → set_in l ≡ Some s → IsSetWithin pieces (count + 1) s
-  of_set s (Member t m) says e = (count + 1, omega arith, inl (m, subst (λ (x : List ℕ). Says pieces (count + 1) (Member x m)) (some_is t s e) says))
-  of_set s (Folder t path) says e = (count + 1, omega arith, inr (path, subst (λ (x : List ℕ). Says pieces (count + 1) (Folder x path)) (some_is t s e) says))
-  of_set s (Forbid x y) says e = absurd cc
+  of_set : (s : List ℕ) (l : RuleLine) → Says pieces (count + 1) l → set_in l ≡ Some s → (selector : Selector) × Says pieces (count + 1) (Adds s selector)
+  of_set s (Adds t selector) says e = (selector, subst (λ (x : List ℕ). Says pieces (count + 1) (Adds x selector)) (some_is t s e) says)
+  of_set s (Restricts kind x y) says e = absurd cc
   of_set s (Allow m n) says e = absurd cc
 
-  set_there : (s : List ℕ) → set_of piece ≡ Some s → IsSetWithin pieces (count + 1) s
+  set_there : (s : List ℕ) → set_of piece ≡ Some s → (selector : Selector) × Says pieces (count + 1) (Adds s selector)
   unfolding set_of
-  set_there s e = option_and_then_some set_in (rule_line_of piece) s e (λ l h e. let p = line_takes piece l h in of_set s l (says_here l p.0 p.1) e)
+  set_there s e = option_and_then_some set_in (rule_line_of piece) s e (λ l h e. of_set s l (says_here l (line_takes piece l h)) e)
 
   -- the sets of the lines so far, with this one
-  pub sets_more : (s : List ℕ) → IsSetWithin pieces (count + 1) s ↔ (IsSetWithin pieces count s ⊎ (set_of piece ≡ Some s))
-  sets_more s = (
-    set_here s,
-    λ either. elim either [
-      | inl (line, le, says) ↦ (line, omega arith, says)
-      | inr e ↦ set_there s e
-    ],
-  )
+  pub sets_next : (s : List ℕ) → IsSetWithin pieces (count + 1) s ↔ (IsSetWithin pieces count s ⊎ (set_of piece ≡ Some s))
+  sets_next s =
+      let next = within_next (λ (l : ℕ). (selector : Selector) × Says pieces l (Adds s selector)) count in (
+        λ (line, le, selector, says). elim (next.0 (line, le, (selector, says))) [
+          | inl (l, low, own) ↦ inl (l, low, own.0, own.1)
+          | inr own ↦ inr (set_here s own)
+        ],
+        λ either. elim either [
+          | inl (line, le, selector, says) ↦ (line, omega arith, selector, says)
+          | inr e ↦ let own = set_there s e in (count + 1, omega arith, own.0, own.1)
+        ],
+      )
 
-module _ (pieces : List (List ℕ)) (count : ℕ) (piece : List ℕ) (there : slice_get pieces count ≡ Some piece) (old : List (List ℕ)) where
+module _ (pieces : List (List ℕ)) (count : ℕ) (piece : List ℕ) (at : IsPieceAt pieces (count + 1) piece) (old : List (List ℕ)) where
   -- the names so far, with the set of this line
   pub one_more : (new : List (List ℕ)) (n : ℕ) (name : List ℕ) → n ≡ count + 1 → ((s : List ℕ) → Contains old s ↔ IsSetWithin pieces count s) → new ≡ old ++ name ∷ [] → set_of piece ≡ Some name
       → (s : List ℕ) → Contains new s ↔ IsSetWithin pieces n s
   one_more new n name next are is here s =
-      let more = sets_more pieces count piece there s in
+      let more = sets_next pieces count piece at s in
       rw (is, next) (
         λ has. more.1 (elim (Contains-push_cases old name s has) [
           | inl was ↦ inl ((are s).0 was)
@@ -93,7 +88,7 @@ module _ (pieces : List (List ℕ)) (count : ℕ) (piece : List ℕ) (there : sl
   pub none_more : {T : Type 0} (v : T → List ℕ) (n : ℕ) (o : Option T) → n ≡ count + 1 → ((s : List ℕ) → Contains old s ↔ IsSetWithin pieces count s) → option_map v o ≡ set_of piece
       → ((x : T) → o ≡ Some x → ⊥) → (s : List ℕ) → Contains old s ↔ IsSetWithin pieces n s
   none_more {T} v n o next are is none s =
-      let more = sets_more pieces count piece there s in
+      let more = sets_next pieces count piece at s in
       rw next (
         λ has. more.1 (inl ((are s).0 has)),
         λ within. elim (more.0 within) [
@@ -107,20 +102,13 @@ module _ (pieces : List (List ℕ)) (count : ℕ) (piece : List ℕ) (there : sl
       no_value None e none = cc
 
 pub no_sets : (pieces : List (List ℕ)) (s : List ℕ) → IsSetWithin pieces 0 s → ⊥
-no_sets pieces s (line, le, says) = elim says [
-  | inl (m, is) ↦ let low = (says_low pieces line (Member s m) is).0 in absurd (omega arith)
-  | inr (path, is) ↦ let low = (says_low pieces line (Folder s path) is).0 in absurd (omega arith)
-]
+no_sets pieces s (line, le, selector, says) = let low = (says_low pieces line (Adds s selector) says).0 in absurd (omega arith)
 
 pub all_sets : (pieces : List (List ℕ)) (s : List ℕ) → IsSetWithin pieces (length pieces) s ↔ IsSet pieces s
 all_sets pieces s = (
-  λ (line, le, says). (line, says),
-  λ (line, says). (
-    line,
-    elim says [
-      | inl (m, is) ↦ (says_low pieces line (Member s m) is).1
-      | inr (path, is) ↦ (says_low pieces line (Folder s path) is).1
-    ],
-    says,
-  ),
+  λ (line, le, selector, says). (line, selector, says),
+  λ (line, selector, says). (line, (says_low pieces line (Adds s selector) says).1, selector, says),
 )
+
+pub piece_here : (pieces : List (List ℕ)) (count : ℕ) (piece : List ℕ) → slice_get pieces count ≡ Some piece → IsPieceAt pieces (count + 1) piece
+piece_here pieces count piece there = record { place = count; number = refl; there = there }

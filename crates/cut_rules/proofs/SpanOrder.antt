@@ -1,5 +1,5 @@
 -- Sorted spans, each once.
-use Rattle.std.proofs.Common.{◌≡◌, ℕ, ◌<◌, ◌≤◌, ◌&&◌, eqb, Bool, true, inl, inr, List, get_or, refl, ap, ◌∙◌, subst, arith, Ordering}
+use Rattle.std.proofs.Common.{◌≡◌, ℕ, ◌<◌, ◌≤◌, ◌&&◌, eqb, Bool, true, inl, inr, List, length, get_or, refl, ap, ◌∙◌, subst, arith, Ordering}
 use Rattle.std.specs.Prelude.{Contains, IsPermutation, ◌↔◌}
 use Rattle.std.specs.List.{dedup}
 use Rattle.std.specs.List.Sorted.{IsSorted}
@@ -11,8 +11,8 @@ use Rattle.std.proofs.lemmas.Bool.Decides.{nat_tests}
 use Rattle.std.proofs.lemmas.List.Sorted.{IsPermutation-sym, Contains-permutation}
 use Rattle.std.proofs.lemmas.List.Kept.{IsStrictlySortedBy-dedup, Contains-dedup, Contains-from_dedup}
 use Rattle.std.proofs.lemmas.Map.Keys.{Less-from_sorted}
-use Rattle.cut_rules.specs.declared.draft.Span.{Span}
-use Rattle.cut_rules.specs.Outcomes.{AreByName}
+use Rattle.cut_rules.specs.declared.table.Span.{Span}
+use Rattle.cut_rules.specs.Tables.{AreByName, AreByStart}
 
 abbrev pub key_of : Span → ℕ × ℕ × ℕ
 key_of s = (s.name, s.from, s.to)
@@ -49,14 +49,27 @@ laws = record {
 less_first : (a b c d e f : ℕ) → ordering_then (ordering_then (nat_cmp a d) (nat_cmp b e)) (nat_cmp c f) ≡ Less → a ≤ d
 less_first a b c d e f h = grind (arith, nat_tests)
 
+less_second : (a b c d e f : ℕ) → a ≡ d → ordering_then (ordering_then (nat_cmp a d) (nat_cmp b e)) (nat_cmp c f) ≡ Less → b ≤ e
+less_second a b c d e f same h = grind (arith, nat_tests)
+
+-- of two of the spans the first is less
+strictly : (sorted new : List Span) → new ≡ dedup same_span sorted → IsSorted span_cmp sorted → (i j : ℕ) (d : Span) → i < j → j < length new → span_cmp (get_or new i d) (get_or new j d) ≡ Less
+strictly sorted new e h i j d lt l =
+    let strict = IsStrictlySortedBy-dedup total (λ s t. tie s.name s.from s.to t.name t.from t.to) sorted h in
+    rw e (Less-from_sorted span_cmp (dedup same_span sorted) i j d strict lt (rw e at l))
+
 pub spans_by_name : (sorted new : List Span) → new ≡ dedup same_span sorted → IsSorted span_cmp sorted → AreByName new
 spans_by_name sorted new e h i j d le l = elim (cases_eq i j) [
   | inl same ↦ subst (λ (k : ℕ). (get_or new i d).name ≤ (get_or new k d).name) same (omega arith)
   | inr differs ↦
-      let lt : i < j = omega (arith, differs) in
-      let strict = IsStrictlySortedBy-dedup total (λ s t. tie s.name s.from s.to t.name t.from t.to) sorted h in
-      let less : span_cmp (get_or new i d) (get_or new j d) ≡ Less = rw e (Less-from_sorted span_cmp (dedup same_span sorted) i j d strict lt (rw e at l)) in
-      less_first (get_or new i d).name (get_or new i d).from (get_or new i d).to (get_or new j d).name (get_or new j d).from (get_or new j d).to less
+      less_first (get_or new i d).name (get_or new i d).from (get_or new i d).to (get_or new j d).name (get_or new j d).from (get_or new j d).to (strictly sorted new e h i j d (omega (arith, differs)) l)
+]
+
+pub spans_by_start : (sorted new : List Span) → new ≡ dedup same_span sorted → IsSorted span_cmp sorted → AreByStart new
+spans_by_start sorted new e h i j d le l named = elim (cases_eq i j) [
+  | inl same ↦ subst (λ (k : ℕ). (get_or new i d).from ≤ (get_or new k d).from) same (omega arith)
+  | inr differs ↦
+      less_second (get_or new i d).name (get_or new i d).from (get_or new i d).to (get_or new j d).name (get_or new j d).from (get_or new j d).to named (strictly sorted new e h i j d (omega (arith, differs)) l)
 ]
 
 pub spans_same : (old sorted new : List Span) → new ≡ dedup same_span sorted → IsPermutation old sorted → (s : Span) → Contains new s ↔ Contains old s

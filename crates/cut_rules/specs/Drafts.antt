@@ -1,21 +1,29 @@
--- Rules that are read line by line. A name has a number: a module its own, and a set its place among the sets, behind those of all modules.
+-- Rules that are read line by line. A name has a number: a module its own, and a set its index among the sets, after the numbers of all modules.
 use Rattle.std.specs.Prelude.{◌≡◌, ◌↔◌, ◌⊎◌, ℕ, ◌+◌, ◌<◌, ◌≤◌, Bool, true, false, List, [], length, Option, Some, None, Result, Ok, Err, String, option_map, slice_get, slice_index_or, AllPairs, Contains}
+use Rattle.std.specs.BTreeSet.{BTreeSet, contains_by}
+use Rattle.std.specs.Cmp.Lexicographic.{slice_cmp}
+use Rattle.std.specs.Ordering.{nat_cmp, ordering_then}
 use Rattle.digraph.specs.Marks.{marked}
 use Rattle.cut_net.specs.Network.{Network, index_of, name_of, none_there, texts, unpinned}
 use Rattle.cut_rules.specs.declared.draft.Draft.{Draft}
-use Rattle.cut_rules.specs.declared.draft.Rule.{Rule}
-use Rattle.cut_rules.specs.declared.draft.Span.{Span}
-use Rattle.cut_rules.specs.declared.fault.LineFault.{LineFault}
-use Rattle.cut_rules.specs.declared.fault.LineFault.TheVariants as faults
+use Rattle.cut_rules.specs.declared.draft.LineContext.{LineContext}
+use Rattle.cut_rules.specs.declared.fault.RulesFault.{RulesFault}
 use Rattle.cut_rules.specs.declared.file.File.{File}
-use Rattle.cut_rules.specs.RuleLines.{RuleLine, Member, Folder, Forbid, Allow, Says}
-use Rattle.cut_rules.specs.Rules.{rank, HasFault, IsSet, IsUnder, IsWrong, LiesIn}
+use Rattle.cut_rules.specs.declared.rule.Rule.{Rule}
+use Rattle.cut_rules.specs.declared.rule.RuleKind.{RuleKind}
+use Rattle.cut_rules.specs.declared.rule.StaleAllow.{StaleAllow}
+use Rattle.cut_rules.specs.declared.table.MarkedSet.{MarkedSet}
+use Rattle.cut_rules.specs.declared.table.SetTable.{SetTable}
+use Rattle.cut_rules.specs.declared.table.Span.{Span}
+use Rattle.cut_rules.specs.RuleLines.{RuleLine, Selector, Module, Folder, Named, Tree, Adds, Restricts, Allow, Says}
+use Rattle.cut_rules.specs.Faults.{IsRefusal, UnlessMemory}
+use Rattle.cut_rules.specs.Rules.{LineFault, HasFault, HasPattern, IsSet, IsStale, Selects}
 
--- one of the first so many lines says something of the set
+-- one of the first lines, up to this number, adds modules to the set
 abbrev pub IsSetWithin : List (List ℕ) → ℕ → List ℕ → Type 0
-IsSetWithin pieces count s = (line : ℕ) × (line ≤ count) × (((m : List ℕ) × Says pieces line (Member s m)) ⊎ ((path : List ℕ) × Says pieces line (Folder s path)))
+IsSetWithin pieces count s = (line : ℕ) × (line ≤ count) × (selector : Selector) × Says pieces line (Adds s selector)
 
--- the number of the module, or that of the set behind so many modules
+-- the number of the module, or that of the set after this many modules
 abbrev pub number_by : ℕ → Option ℕ → Option ℕ → Option ℕ
 number_by nodes (Some m) set = Some m
 number_by nodes None set = option_map (λ k. nodes + k) set
@@ -24,121 +32,138 @@ number_by nodes None set = option_map (λ k. nodes + k) set
 abbrev pub number_of : Network → List (List ℕ) → List ℕ → Option ℕ
 number_of net sets name = number_by (length net.names) (index_of net name) (index_of (unpinned sets []) name)
 
--- ---- spans: places among the files, and behind these all modules
+-- the names are those of the sets
+abbrev pub AreSets : {Z : Type 0} → List (String Z) → List (List ℕ) → Type 0
+AreSets names pieces = (s : List ℕ) → Contains (texts names) s ↔ IsSet pieces s
 
--- this module stands at the place
+-- ---- members of sets
+
+-- the index is that of a file of the module, or, after the indices of all files, the module's own
 abbrev pub IsAtPlace : List File → ℕ → ℕ → Type 0
 IsAtPlace files k m = ((f : File) × (slice_get files k ≡ Some f) × (f.module ≡ m)) ⊎ (k ≡ length files + m)
 
--- it stands at a place from the one up to the other
+-- it has an index from the one up to the other
 abbrev pub HasPlace : List File → ℕ → ℕ → ℕ → Type 0
 HasPlace files from to m = (k : ℕ) × (from ≤ k) × (k < to) × IsAtPlace files k m
 
--- the module is in the set of this number, by the spans
+-- a span of the set of this number has the module
 abbrev pub InSpans : List File → List Span → ℕ → ℕ → Type 0
 InSpans files spans name m = (span : Span) × Contains spans span × (span.name ≡ name) × HasPlace files span.from span.to m
 
--- by one of the first so many lines the module is in the set of this name
-abbrev pub IsListedWithin : Network → List File → List (List ℕ) → ℕ → List ℕ → ℕ → Type 0
-IsListedWithin net files pieces count x m =
-    (line : ℕ) × (line ≤ count) × (Says pieces line (Member x (name_of net m)) ⊎ ((path : List ℕ) × Says pieces line (Folder x path) × IsUnder files path m))
+-- the module is marked for the set of this number
+abbrev pub InMarks : List MarkedSet → ℕ → ℕ → Type 0
+InMarks entries name m = (entry : MarkedSet) × Contains entries entry × (entry.name ≡ name) × (marked entry.marks.items m ≡ true)
 
--- the spans are those of the first so many lines
-pub record AreSpans (net : Network) (files : List File) (sets pieces : List (List ℕ)) (count : ℕ) (spans : List Span) : Type 0 where
-  pub within : (span : Span) → Contains spans span → span.to ≤ length files + length net.names
-  pub are : (x : List ℕ) (number m : ℕ) → m < length net.names → number_of net sets x ≡ Some number → InSpans files spans number m ↔ IsListedWithin net files pieces count x m
+-- the table has the module in the set of this number
+abbrev pub IsMember : List File → SetTable → ℕ → ℕ → Type 0
+IsMember files table name m = InSpans files table.spans.items name m ⊎ InMarks table.marked.items name m
 
--- the line forbids chains between the names of these numbers
-abbrev pub IsForbid : Network → List (List ℕ) → List (List ℕ) → Rule → Type 0
-IsForbid net sets pieces r = (x y : List ℕ) × Says pieces r.line (Forbid x y) × (number_of net sets x ≡ Some r.first) × (number_of net sets y ≡ Some r.second)
+-- one of the first lines adds the module to the set of this name
+abbrev pub IsAddedWithin : Network → List File → List (List ℕ) → ℕ → List ℕ → ℕ → Type 0
+IsAddedWithin net files pieces count x m = (line : ℕ) × (line ≤ count) × (selector : Selector) × Says pieces line (Adds x selector) × Selects net files selector m
 
--- the rules are those of the first so many lines, in order
-pub record AreForbids (net : Network) (sets pieces : List (List ℕ)) (count : ℕ) (rules : List Rule) : Type 0 where
-  pub each : (r : Rule) → Contains rules r → (r.line ≤ count) × IsForbid net sets pieces r
-  pub all : (line : ℕ) (x y : List ℕ) → line ≤ count → Says pieces line (Forbid x y) → (r : Rule) × Contains rules r × (r.line ≡ line)
+-- there is such a module
+abbrev pub SelectsAny : Network → List File → Selector → Type 0
+SelectsAny net files selector = (m : ℕ) × Selects net files selector m
+
+-- each entry has a mark for each of this many modules
+abbrev pub AreSized : ℕ → List MarkedSet → Type 0
+AreSized nodes entries = (entry : MarkedSet) → Contains entries entry → length entry.marks.items ≡ nodes
+
+-- how many patterns the selector has
+abbrev pub pattern_count : Selector → ℕ
+pattern_count (Module m) = 0
+pattern_count (Folder path) = 0
+pattern_count (Named pattern) = 1
+pattern_count Tree = 0
+
+-- with the selected modules in the set of this number the one table is the other; it is returned whether there is any
+pub record IsAddition (net : Network) (files : List File) (old : SetTable) (name : ℕ) (selector : Selector) (any : Bool) (new : SetTable) : Type 0 where
+  pub any_is : (any ≡ true) ↔ SelectsAny net files selector
+  pub added : (number m : ℕ) → m < length net.names → IsMember files new number m ↔ (IsMember files old number m ⊎ ((name ≡ number) × Selects net files selector m))
+  pub patterns : new.patterns ≡ old.patterns + pattern_count selector
+  pub sized : AreSized (length net.names) new.marked.items
+
+-- these are the first lines with the property, in order
+pub record AreLinesOf (P : ℕ → Type 0) (count : ℕ) (lines : List ℕ) : Type 0 where
+  pub each : (l : ℕ) → Contains lines l → (l ≤ count) × P l
+  pub all : (l : ℕ) → l ≤ count → P l → Contains lines l
+  pub ascending : AllPairs (λ i j. i < j) lines
+
+-- the table has the sets of the first lines, and counts their patterns
+pub record IsTable (net : Network) (files : List File) (sets pieces : List (List ℕ)) (count : ℕ) (table : SetTable) : Type 0 where
+  pub are : (x : List ℕ) (number m : ℕ) → m < length net.names → number_of net sets x ≡ Some number → IsMember files table number m ↔ IsAddedWithin net files pieces count x m
+  pub patterns : (lines : List ℕ) × AreLinesOf (HasPattern pieces) count lines × (length lines ≡ table.patterns)
+  pub few : table.patterns ≤ 4096
+  pub sized : AreSized (length net.names) table.marked.items
+
+-- ---- rules
+
+-- the line of the rule states it of the names of these numbers
+abbrev pub IsRuleOf : Network → List (List ℕ) → List (List ℕ) → Rule → Type 0
+IsRuleOf net sets pieces r = (x y : List ℕ) × Says pieces r.line (Restricts r.kind x y) × (number_of net sets x ≡ Some r.first) × (number_of net sets y ≡ Some r.second)
+
+-- the rules are those of the first lines, in order
+pub record AreRules (net : Network) (sets pieces : List (List ℕ)) (count : ℕ) (rules : List Rule) : Type 0 where
+  pub each : (r : Rule) → Contains rules r → (r.line ≤ count) × IsRuleOf net sets pieces r
+  pub all : (line : ℕ) (kind : RuleKind) (x y : List ℕ) → line ≤ count → Says pieces line (Restricts kind x y) → (r : Rule) × Contains rules r × (r.line ≡ line)
   pub ascending : AllPairs (λ (r s : Rule). r.line < s.line) rules
   pub few : length rules ≤ 4096
 
--- the marks are of the imports that the first so many lines allow
+-- ---- allowed imports
+
+-- the marks are of the imports that the first lines allow
 pub record AreAllowed (net : Network) (pieces : List (List ℕ)) (count : ℕ) (allowed : List Bool) : Type 0 where
   pub size : length allowed ≡ length net.imports
   pub are : (k : ℕ) → k < length net.imports →
       (marked allowed k ≡ true) ↔
       ((line : ℕ) × (line ≤ count) × Says pieces line (Allow (name_of net (slice_index_or net.imports k none_there).from) (name_of net (slice_index_or net.imports k none_there).to)))
 
--- the first so many lines have no fault, and this is what they say
+-- these are the stale ones of the first lines, in order
+pub record AreStale (net : Network) (pieces : List (List ℕ)) (count : ℕ) (stale : List StaleAllow) : Type 0 where
+  pub each : (s : StaleAllow) → Contains stale s → (s.line ≤ count) × IsStale net pieces s.line s.importer.now s.imported.now
+  pub all : (line : ℕ) (m n : List ℕ) → line ≤ count → IsStale net pieces line m n → (s : StaleAllow) × Contains stale s × (s.line ≡ line)
+  pub ascending : AllPairs (λ (s t : StaleAllow). s.line < t.line) stale
+
+-- the keys, each of two names, are those that the first lines allow
+abbrev pub ArePairs : {K : Type 0} → BTreeSet K → (K → List ℕ) → (K → List ℕ) → List (List ℕ) → ℕ → Type 0
+ArePairs keys first second pieces count =
+    (m n : List ℕ) → (contains_by (λ key. ordering_then (slice_cmp nat_cmp m (first key)) (slice_cmp nat_cmp n (second key))) keys ≡ true) ↔ ((line : ℕ) × (line ≤ count) × Says pieces line (Allow m n))
+
+-- ---- lines
+
+-- the first lines have no fault, and the builder has what they state
 pub record IsDraft (net : Network) (files : List File) (sets pieces : List (List ℕ)) (count : ℕ) (draft : Draft) : Type 0 where
   pub sound : (line : ℕ) (fault : LineFault) → line ≤ count → HasFault net files pieces line fault → ⊥
-  pub spans : AreSpans net files sets pieces count draft.spans.items
-  pub rules : AreForbids net sets pieces count draft.rules.items
+  pub table : IsTable net files sets pieces count draft.table
+  pub rules : AreRules net sets pieces count draft.rules.items
   pub allowed : AreAllowed net pieces count draft.allowed.items
+  pub stale : AreStale net pieces count draft.stale.items
+  pub pairs : ArePairs draft.pairs (λ key. key.0.now) (λ key. key.1.now) pieces count
 
--- ---- what came of a line
+-- the line of this number is the builder's last one, or this is the first fault of the text
+abbrev pub Takes : Network → List File → List (List ℕ) → List (List ℕ) → ℕ → Result (Unit {0}) RulesFault → Draft → Type 0
+Takes net files sets pieces line (Ok _) draft = IsDraft net files sets pieces line draft
+Takes net files sets pieces line (Err fault) draft = UnlessMemory fault (IsRefusal net files pieces fault)
 
--- the fact holds, but where the fault is want of memory nothing is said
-abbrev pub UnlessMemory : LineFault → Type 0 → Type 0
-UnlessMemory faults.BadLine P = P
-UnlessMemory faults.SetIsModule P = P
-UnlessMemory faults.NoSuchModule P = P
-UnlessMemory faults.NoSuchImport P = P
-UnlessMemory faults.TwiceAllowed P = P
-UnlessMemory faults.EmptySet P = P
-UnlessMemory faults.TooMany P = P
-UnlessMemory faults.Memory P = Unit {0}
-
-module _ (net : Network) (files : List File) (pieces : List (List ℕ)) (line : ℕ) where
-  -- of what is wrong with what the line says this is the first
-  pub record IsFirstWrong (fault : LineFault) (said : RuleLine) : Type 0 where
-    pub wrong : IsWrong net files pieces line fault said
-    pub first : (other : LineFault) → IsWrong net files pieces line other said → rank fault ≤ rank other
-
-  -- nothing is wrong with it
-  abbrev pub IsRight : RuleLine → Type 0
-  IsRight said = (fault : LineFault) → IsWrong net files pieces line fault said → ⊥
-
-  -- of the faults of the line this is the first
-  pub record IsFirstHere (fault : LineFault) : Type 0 where
-    pub has : HasFault net files pieces line fault
-    pub first : (other : LineFault) → HasFault net files pieces line other → rank fault ≤ rank other
-
--- with one more line the draft is of so many, or this is the line's first fault
-abbrev pub Takes : Network → List File → List (List ℕ) → List (List ℕ) → ℕ → Result (Unit {0}) LineFault → Draft → Type 0
-Takes net files sets pieces count (Ok _) draft = IsDraft net files sets pieces count draft
-Takes net files sets pieces count (Err fault) draft = UnlessMemory fault (IsFirstHere net files pieces count fault)
-
--- ---- what a line gives
-
--- the span of one module
-pub record IsMemberSpan (net : Network) (files : ℕ) (sets : List (List ℕ)) (set member : List ℕ) (span : Span) : Type 0 where
-  pub no_module : index_of net set ≡ None
-  pub name : number_of net sets set ≡ Some span.name
-  pub number : ℕ
-  pub is : index_of net member ≡ Some number
-  pub from : span.from ≡ files + number
-  pub to : span.to ≡ span.from + 1
-
--- the span of a folder
-pub record IsFolderSpan (net : Network) (files : List File) (sets : List (List ℕ)) (set folder : List ℕ) (span : Span) : Type 0 where
-  pub no_module : index_of net set ≡ None
-  pub name : number_of net sets set ≡ Some span.name
-  pub within : span.to ≤ length files
-  pub are : (k : ℕ) (f : File) → slice_get files k ≡ Some f → ((span.from ≤ k) × (k < span.to)) ↔ LiesIn folder f.path.now
-
--- the names are those of the sets
-abbrev pub AreSets : {Z : Type 0} → List (String Z) → List (List ℕ) → Type 0
-AreSets names pieces = (s : List ℕ) → Contains (texts names) s ↔ IsSet pieces s
-
--- the line of this number is the piece, and those before it make the draft
-pub record IsTextSoFar {Z : Type 0} (net : Network) (files : List File) (sets : List (String Z)) (pieces : List (List ℕ)) (line : ℕ) (piece : List ℕ) (draft : Draft) : Type 0 where
+-- the builder has the lines before that of the context
+pub record IsTextSoFar (context : LineContext) (pieces : List (List ℕ)) (draft : Draft) : Type 0 where
   pub place : ℕ
-  pub number : line ≡ place + 1
-  pub there : slice_get pieces place ≡ Some piece
-  pub sets_are : AreSets sets pieces
-  pub drafted : IsDraft net files (texts sets) pieces place draft
+  pub number : context.line ≡ place + 1
+  pub sets_are : AreSets context.sets.now pieces
+  pub drafted : IsDraft context.net.now context.files.now (texts context.sets.now) pieces place draft
 
--- the draft of no line
+-- and this is what the line states
+abbrev pub IsStated : LineContext → List (List ℕ) → RuleLine → Draft → Type 0
+IsStated context pieces content draft = IsTextSoFar context pieces draft × Says pieces context.line content
+
+-- the builder of no line
 pub record IsEmptyFor (net : Network) (draft : Draft) : Type 0 where
-  pub spans : draft.spans.items ≡ []
+  pub spans : draft.table.spans.items ≡ []
+  pub entries : draft.table.marked.items ≡ []
+  pub patterns : draft.table.patterns ≡ 0
   pub rules : draft.rules.items ≡ []
   pub size : length draft.allowed.items ≡ length net.imports
   pub none : (k : ℕ) → marked draft.allowed.items k ≡ false
+  pub stale : draft.stale.items ≡ []
+  pub pairs : draft.pairs.keys ≡ []

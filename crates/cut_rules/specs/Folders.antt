@@ -1,6 +1,7 @@
 -- Files in the order of their paths.
 use Rattle.std.specs.Prelude.{ℕ, ◌||◌, Bool, List, nat_eq}
 use Rattle.std.specs.List.{starts_with}
+use Rattle.std.specs.List.Sorted.{IsSorted}
 use Rattle.std.specs.declared.cmp.Ordering.{Ordering}
 use Rattle.std.specs.Ordering.{is_lt, nat_cmp}
 use Rattle.std.specs.Cmp.Lexicographic.{slice_cmp}
@@ -17,3 +18,7 @@ is_before text f = is_lt (slice_cmp nat_cmp f.path.now text)
 -- it does, or begins with it
 abbrev pub is_not_behind : List ℕ → File → Bool
 is_not_behind text f = is_before text f || starts_with nat_eq f.path.now text
+
+-- the files are sorted by the bytes of their paths
+abbrev pub ArePathsInOrder : List File → Type 0
+ArePathsInOrder files = IsSorted path_cmp files

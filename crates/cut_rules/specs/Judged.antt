@@ -1,78 +1,122 @@
--- How rules are judged.
-use Rattle.std.specs.Prelude.{◌≡◌, ◌↔◌, ◌⊎◌, ℕ, ◌<◌, Bool, false, List, length, slice_index_or, AllPairs, Contains}
-use Rattle.std.specs.List.{flat_map}
-use Rattle.digraph.specs.Levels.{AreChainInto, IsLeastChainInto}
-use Rattle.cut_rules.specs.Verdicts.{broken_line, first_of, Broken, ComesBefore}
-use Rattle.cut_rules.specs.declared.draft.Rule.{Rule}
-use Rattle.cut_rules.specs.declared.draft.Span.{Span}
-use Rattle.cut_rules.specs.declared.file.File.{File}
-use Rattle.cut_rules.specs.Drafts.{InSpans}
+-- How rules are judged: the modules of names by their numbers, and the search for one rule.
+use Rattle.std.specs.Prelude.{◌≡◌, ◌↔◌, ◌⊎◌, ℕ, ◌<◌, ◌≤◌, Bool, true, false, List, length, slice_get, slice_index_or, Some, All, AllPairs, Contains}
 use Rattle.digraph.specs.declared.edge.Edge.{Edge}
+use Rattle.digraph.specs.Edges.{Leads}
+use Rattle.digraph.specs.Graphs.{IsGraph}
+use Rattle.digraph.specs.declared.graph.Graph.{Graph}
 use Rattle.digraph.specs.Marks.{marked}
 use Rattle.cut_net.specs.Lines.{edge_of}
 use Rattle.cut_net.specs.Network.{Network, none_there}
+use Rattle.digraph.specs.Search.{IsSearch}
+use Rattle.digraph.specs.ShortestPaths.{IsPathAround}
+use Rattle.cut_rules.specs.Drafts.{IsMember}
+use Rattle.cut_rules.specs.declared.file.File.{File}
+use Rattle.cut_rules.specs.declared.reading.Rules.{Rules}
+use Rattle.cut_rules.specs.declared.rule.Rule.{Rule}
+use Rattle.cut_rules.specs.declared.rule.RuleKind.{RuleKind}
+use Rattle.cut_rules.specs.declared.rule.RuleKind.TheVariants as kinds
+use Rattle.cut_rules.specs.declared.rule_search.RuleSearch.{RuleSearch}
+use Rattle.cut_rules.specs.Verdicts.{Breaks, ComesBefore, IsForbidden, IsViolation, Violation}
 
--- it is the edge of one of the first so many imports, which has no mark
+-- ---- imports that count
+
+-- it is the edge of one of the first imports, and that one isn't marked
 abbrev pub IsCountedBefore : Network → List Bool → ℕ → Edge → Type 0
 IsCountedBefore net allowed count p = (k : ℕ) × (k < count) × (marked allowed k ≡ false) × (edge_of (slice_index_or net.imports k none_there) ≡ p)
 
--- it is the edge of an import without a mark
+-- it is the edge of an import that isn't marked
 abbrev pub IsCounted : Network → List Bool → Edge → Type 0
 IsCounted net allowed p = IsCountedBefore net allowed (length net.imports) p
 
--- these are the least chains into the ends from the modules from which there is one, for the rule of a line
-pub record AreTold (leads : ℕ → ℕ → Type 0) (ends : List ℕ) (line : ℕ) (members : List ℕ) (told : List Broken) : Type 0 where
-  pub each : (b : Broken) → Contains told b → (b.line ≡ line) × Contains members (first_of b) × IsLeastChainInto leads (first_of b) ends b.chain
-  pub ascending : AllPairs (λ b c. first_of b < first_of c) told
-  pub all : (m : ℕ) (chain : List ℕ) → Contains members m → AreChainInto leads m ends chain → (b : Broken) × Contains told b × (first_of b ≡ m)
+-- ---- modules of names
 
--- each of them is such a chain
-abbrev pub AreSome : (ℕ → ℕ → Type 0) → List ℕ → ℕ → List ℕ → List Broken → Type 0
-AreSome leads ends line members told = (b : Broken) → Contains told b → (b.line ≡ line) × Contains members (first_of b) × IsLeastChainInto leads (first_of b) ends b.chain
+-- the module has the name of this number, or is in the set whose name has it
+abbrev pub IsNamed : Rules → ℕ → ℕ → Type 0
+IsNamed rules number m = (number ≡ m) ⊎ IsMember rules.files.now rules.table number m
 
--- these are the first of such chains: in order, and none that comes before one of them is left out
-pub record AreFirst (leads : ℕ → ℕ → Type 0) (ends : List ℕ) (line : ℕ) (members : List ℕ) (told : List Broken) : Type 0 where
-  pub each : AreSome leads ends line members told
-  pub ascending : AllPairs (λ b c. first_of b < first_of c) told
-  pub before : (b : Broken) (m : ℕ) (chain : List ℕ) → Contains told b → m < first_of b → Contains members m → AreChainInto leads m ends chain → (c : Broken) × Contains told c × (first_of c ≡ m)
+-- a node among these has the value now, and any other has what it had
+abbrev pub IsMarkSet : List ℕ → Bool → List Bool → List Bool → ℕ → Type 0
+IsMarkSet nodes value old new v = (Contains nodes v × (marked new v ≡ value)) ⊎ ((Contains nodes v → ⊥) × (marked new v ≡ marked old v))
 
--- the lines of chains
-abbrev pub told_text : Network → List Broken → List ℕ
-told_text net told = flat_map (broken_line net) told
+-- the rule is a `may` of this name
+abbrev pub IsMayOf : Rule → ℕ → Type 0
+IsMayOf r first = (r.kind ≡ kinds.May) × (r.first ≡ first)
 
--- these are the modules of the name of this number
-pub record AreNamed (files : List File) (spans : List Span) (nodes name : ℕ) (members : List ℕ) : Type 0 where
-  pub within : (m : ℕ) → Contains members m → m < nodes
-  pub are : (m : ℕ) → m < nodes → Contains members m ↔ ((name ≡ m) ⊎ InSpans files spans name m)
+-- the rule is a `may`, and one of an earlier line has the same first name
+abbrev pub IsRepeated : List Rule → Rule → Type 0
+IsRepeated rules r = (r.kind ≡ kinds.May) × (s : Rule) × Contains rules s × (s.line < r.line) × IsMayOf s r.first
 
--- the chain is the least from a module of the rule's first name into its second
-pub record IsTold (leads : ℕ → ℕ → Type 0) (files : List File) (spans : List Span) (nodes : ℕ) (r : Rule) (b : Broken) : Type 0 where
-  pub line : b.line ≡ r.line
-  pub ends : List ℕ
-  pub are_ends : AreNamed files spans nodes r.second ends
-  pub members : List ℕ
-  pub are_members : AreNamed files spans nodes r.first members
-  pub member : Contains members (first_of b)
-  pub least : IsLeastChainInto leads (first_of b) ends b.chain
+-- the module is neither of the name nor of another one that these `may` rules of it name
+abbrev pub IsOutsiderOf : Rules → List Rule → ℕ → ℕ → Type 0
+IsOutsiderOf rules some first n = (IsNamed rules first n → ⊥) × ((r : Rule) → Contains some r → IsMayOf r first → IsNamed rules r.second n → ⊥)
 
--- each is told of one of the rules
-abbrev pub AreSomeOf : (ℕ → ℕ → Type 0) → List File → List Span → ℕ → List Rule → List Broken → Type 0
-AreSomeOf leads files spans nodes rules told = (b : Broken) → Contains told b → (r : Rule) × Contains rules r × IsTold leads files spans nodes r b
+abbrev pub IsOutsider : Rules → ℕ → ℕ → Type 0
+IsOutsider rules first n = IsOutsiderOf rules rules.rules.items first n
 
--- these are told of the rules
-pub record AreToldOf (leads : ℕ → ℕ → Type 0) (files : List File) (spans : List Span) (nodes : ℕ) (rules : List Rule) (told : List Broken) : Type 0 where
-  pub each : AreSomeOf leads files spans nodes rules told
-  pub ascending : AllPairs ComesBefore told
-  pub all : (r : Rule) (m : ℕ) (ends chain : List ℕ) → Contains rules r → m < nodes → (r.first ≡ m) ⊎ InSpans files spans r.first m → AreNamed files spans nodes r.second ends → AreChainInto leads m ends chain →
-      (b : Broken) × Contains told b × (b.line ≡ r.line) × (first_of b ≡ m)
+-- a rule of this kind forbids to import the module
+abbrev pub IsTargetBy : Rules → Rule → RuleKind → ℕ → Type 0
+IsTargetBy rules r kinds.Forbid n = IsNamed rules r.second n
+IsTargetBy rules r kinds.ForbidImport n = IsNamed rules r.second n
+IsTargetBy rules r kinds.May n = IsOutsider rules r.first n
 
--- a chain from the module for the rule of the line comes before this one
-abbrev pub IsEarlier : ℕ → ℕ → Broken → Type 0
-IsEarlier line m b = (line < b.line) ⊎ ((line ≡ b.line) × (m < first_of b))
+abbrev pub IsTarget : Rules → Rule → ℕ → Type 0
+IsTarget rules r n = IsTargetBy rules r r.kind n
 
--- these are the first that are told of the rules: in order, and none that comes before one of them is left out
-pub record AreFirstOf (leads : ℕ → ℕ → Type 0) (files : List File) (spans : List Span) (nodes : ℕ) (rules : List Rule) (told : List Broken) : Type 0 where
-  pub each : AreSomeOf leads files spans nodes rules told
-  pub ascending : AllPairs ComesBefore told
-  pub before : (b : Broken) (r : Rule) (m : ℕ) (ends chain : List ℕ) → Contains told b → IsEarlier r.line m b → Contains rules r → m < nodes → (r.first ≡ m) ⊎ InSpans files spans r.first m → AreNamed files spans nodes r.second ends
-      → AreChainInto leads m ends chain → (c : Broken) × Contains told c × (c.line ≡ r.line) × (first_of c ≡ m)
+-- no path of a rule of this kind enters the module after its start
+abbrev pub IsBarredBy : Rules → Rule → RuleKind → ℕ → Type 0
+IsBarredBy rules r kinds.Forbid n = IsNamed rules r.second n
+IsBarredBy rules r kinds.ForbidImport n = Unit {0}
+IsBarredBy rules r kinds.May n = Unit {0}
+
+-- the search for a rule: from the modules of its first name around what is barred
+pub record IsRuleSearch (rules : Rules) (nodes : ℕ) (edges : List Edge) (r : Rule) (found : RuleSearch) : Type 0 where
+  pub starts : List ℕ
+  pub barrier : List Bool
+  pub search : IsSearch edges starts barrier found.search
+  pub starts_within : (m : ℕ) → Contains starts m → m < nodes
+  pub starts_are : (m : ℕ) → m < nodes → Contains starts m ↔ IsNamed rules r.first m
+  pub barrier_are : (m : ℕ) → m < nodes → (marked barrier m ≡ true) ↔ IsBarredBy rules r r.kind m
+  pub size : length found.targets.items ≡ nodes
+  pub targets_are : (n : ℕ) → n < nodes → (marked found.targets.items n ≡ true) ↔ IsTarget rules r n
+
+-- the graph of the imports that no line allows
+pub record IsCountedGraph (net : Network) (rules : Rules) (graph : Graph) : Type 0 where
+  pub is_graph : IsGraph graph
+  pub nodes : length graph.after.items ≡ length net.names
+  pub counted : (p : Edge) → Contains graph.edges.now p ↔ IsCounted net rules.allowed.items p
+
+-- one of the rules, and no `may` that isn't the first of its name
+abbrev pub IsFirstRule : List Rule → Rule → Type 0
+IsFirstRule rules r = Contains rules r × (IsRepeated rules r → ⊥)
+
+-- the first rules, and no others, stand in lines before this one
+pub record IsBound (rules : List Rule) (count bound : ℕ) : Type 0 where
+  pub before : (k : ℕ) (r : Rule) → k < count → slice_get rules k ≡ Some r → r.line < bound
+  pub after : (k : ℕ) (r : Rule) → count ≤ k → slice_get rules k ≡ Some r → bound ≤ r.line
+
+-- ---- violations of some rules
+
+module _ (net : Network) (files : List File) (pieces : List (List ℕ)) where
+  -- a search finds exactly the paths that the rule of the line forbids
+  pub record IsSearchFor (line : ℕ) (found : RuleSearch) : Type 0 where
+    pub edges : List Edge
+    pub starts : List ℕ
+    pub barrier : List Bool
+    pub search : IsSearch edges starts barrier found.search
+    pub within : (m : ℕ) (path : List ℕ) → IsPathAround (Leads edges) starts barrier m path → All (λ v. v < length net.names) path
+    pub size : length found.targets.items ≡ length net.names
+    pub forbidden : (m n : ℕ) (path : List ℕ) → m < length net.names → n < length net.names →
+        (IsPathAround (Leads edges) starts barrier m path × (marked found.targets.items n ≡ true)) ↔ IsForbidden net files pieces line m n path
+
+  -- exactly the violations of the rule of the line by imports from the one number up to the other
+  pub record AreOfRule (line low high : ℕ) (violations : List Violation) : Type 0 where
+    pub each : (v : Violation) → Contains violations v → IsViolation net files pieces v × (v.line ≡ line) × (v.import_number < high)
+    pub all : (k : ℕ) (path : List ℕ) → low ≤ k → k < high → Breaks net files pieces line k path → (v : Violation) × Contains violations v × (v.import_number ≡ k)
+    pub least : (v : Violation) → Contains violations v → low ≤ v.import_number
+    pub ascending : AllPairs ComesBefore violations
+
+  -- exactly the violations of rules of lines before this one
+  pub record AreBelow (bound : ℕ) (violations : List Violation) : Type 0 where
+    pub each : (v : Violation) → Contains violations v → IsViolation net files pieces v × (v.line < bound)
+    pub all : (line k : ℕ) (path : List ℕ) → line < bound → Breaks net files pieces line k path → (v : Violation) × Contains violations v × (v.line ≡ line) × (v.import_number ≡ k)
+    pub ascending : AllPairs ComesBefore violations

@@ -1,8 +1,10 @@
 pub mod RuleLines
 pub mod Rules
 pub mod LineReading
-pub mod Outcomes
+pub mod Faults
 pub mod Folders
+pub mod Tables
 pub mod Drafts
+pub mod Outcomes
 pub mod Verdicts
 pub mod Judged

@@ -1,47 +1,84 @@
 -- Reading a line of a rules text.
-use Rattle.std.specs.Prelude.{ℕ, List, codes, Option, Some, None, option_map, option_and_then, if◌then◌else◌}
-use Rattle.std.specs.Str.{bytes_eq}
+use Rattle.std.specs.Prelude.{ℕ, ◌==◌, Bool, true, false, List, [], ◌∷◌, codes, drop, take, Option, Some, None, option_map, option_and_then, if◌then◌else◌}
+use Rattle.std.specs.List.{position_or_len}
+use Rattle.std.specs.Str.{bytes_eq, is_utf8}
 use Rattle.texts.specs.Fields.{cut_at, named}
-use Rattle.cut_rules.specs.RuleLines.{RuleLine, Member, Folder, Forbid, Allow}
+use Rattle.cut_rules.specs.RuleLines.{RuleLine, Selector, Module, Folder, Named, Tree, Adds, Restricts, Allow, is_blank}
+use Rattle.cut_rules.specs.declared.rule.RuleKind.{RuleKind}
+use Rattle.cut_rules.specs.declared.rule.RuleKind.TheVariants as kinds
 use Rattle.cut_rules.specs.declared.line.Line.{Line}
 use Rattle.cut_rules.specs.declared.line.Line.TheVariants as lines
+use Rattle.cut_rules.specs.declared.line.Selector as declared
+use Rattle.cut_rules.specs.declared.line.Selector.TheVariants as selectors
 
--- what a line that was read says
-abbrev pub line_said : Line → RuleLine
-line_said (lines.Member s m) = Member s.now m.now
-line_said (lines.Folder s path) = Folder s.now path.now
-line_said (lines.Forbid x y) = Forbid x.now y.now
-line_said (lines.Allow m n) = Allow m.now n.now
+-- what a selector that was read is
+abbrev pub selector_content : declared.Selector → Selector
+selector_content (selectors.Module m) = Module m.now
+selector_content (selectors.Folder path) = Folder path.now
+selector_content (selectors.Named pattern) = Named pattern.now
+selector_content selectors.Tree = Tree
 
--- two names
-unfoldable pub names_of : List ℕ → Option (List ℕ × List ℕ)
-names_of fields = option_and_then (λ parts. option_and_then (λ m. option_map (λ n. (m, n)) (named parts.1)) (named parts.0)) (cut_at 32 fields)
+-- what a line that was read states
+abbrev pub line_content : Line → RuleLine
+line_content (lines.Adds s selector) = Adds s.now (selector_content selector)
+line_content (lines.Restricts kind x y) = Restricts kind x.now y.now
+line_content (lines.Allow m n) = Allow m.now n.now
 
--- a name, and what stands behind it
-unfoldable pub folder_of : List ℕ → Option RuleLine
-folder_of fields = option_and_then (λ parts. option_map (λ s. Folder s parts.1) (named parts.0)) (cut_at 32 fields)
+-- whether the bytes are a comment
+unfoldable pub is_comment : List ℕ → Bool
+is_comment [] = false
+is_comment (b ∷ bytes) = if is_blank b then is_comment bytes else b == 35
 
--- the line of two names behind a word
-abbrev pub line_by : List ℕ → List ℕ → List ℕ → Option RuleLine
-line_by word m n =
-    if bytes_eq word (codes "set") then Some (Member m n)
-    else (if bytes_eq word (codes "forbid") then Some (Forbid m n) else (if bytes_eq word (codes "allow") then Some (Allow m n) else None))
+-- whether they state nothing
+abbrev pub is_idle : List ℕ → Bool
+is_idle [] = true
+is_idle (b ∷ bytes) = is_comment (b ∷ bytes)
 
--- the line of the fields behind a word
-unfoldable pub line_under : List ℕ → List ℕ → Option RuleLine
-line_under word fields = if bytes_eq word (codes "folder") then folder_of fields else option_and_then (λ x. line_by word x.0 x.1) (names_of fields)
+-- the bytes, if they are UTF-8
+unfoldable pub text_of : List ℕ → Option (List ℕ)
+text_of bytes = if is_utf8 bytes then Some bytes else None
 
--- the line that a piece spells
+-- the name that is all of the fields but for a comment after a blank
+unfoldable pub last_name_of : List ℕ → Option (List ℕ)
+last_name_of fields =
+    let end = position_or_len is_blank fields in
+    if is_idle (drop end fields) then named (take end fields) else None
+
+-- the kind of rule that a keyword begins
+abbrev pub kind_of : List ℕ → Option RuleKind
+kind_of word =
+    if bytes_eq word (codes "forbid") then Some kinds.Forbid
+    else (if bytes_eq word (codes "forbid-import") then Some kinds.ForbidImport else (if bytes_eq word (codes "may") then Some kinds.May else None))
+
+-- the line of a keyword and two names
+abbrev pub line_of_names : List ℕ → List ℕ → List ℕ → Option RuleLine
+line_of_names word m n =
+    if bytes_eq word (codes "set") then Some (Adds m (Module n))
+    else (if bytes_eq word (codes "allow") then Some (Allow m n) else option_map (λ kind. Restricts kind m n) (kind_of word))
+
+-- the line of a keyword, a name and the last field
+unfoldable pub line_after : List ℕ → List ℕ → List ℕ → Option RuleLine
+line_after word first last =
+    if bytes_eq word (codes "folder") then option_map (λ path. Adds first (Folder path)) (text_of last)
+    else
+    (if bytes_eq word (codes "named") then option_map (λ pattern. Adds first (Named pattern)) (text_of last) else option_and_then (λ second. line_of_names word first second) (last_name_of last))
+
+-- the line of a keyword and its fields
+unfoldable pub line_of_fields : List ℕ → List ℕ → Option RuleLine
+line_of_fields word fields =
+    if bytes_eq word (codes "tree") then option_map (λ s. Adds s Tree) (last_name_of fields)
+    else option_and_then (λ parts. option_and_then (λ first. line_after word first parts.1) (named parts.0)) (cut_at 32 fields)
+
+-- the line that the bytes spell
 unfoldable pub rule_line_of : List ℕ → Option RuleLine
-rule_line_of piece = option_and_then (λ parts. line_under parts.0 parts.1) (cut_at 32 piece)
+rule_line_of piece = option_and_then (λ parts. line_of_fields parts.0 parts.1) (cut_at 32 piece)
 
--- the set of which a line says something
+-- the set to which a line adds modules
 abbrev pub set_in : RuleLine → Option (List ℕ)
-set_in (Member s m) = Some s
-set_in (Folder s path) = Some s
-set_in (Forbid x y) = None
+set_in (Adds s selector) = Some s
+set_in (Restricts kind x y) = None
 set_in (Allow m n) = None
 
--- the set of which a piece says something
+-- the set to which the bytes of a line add modules
 unfoldable pub set_of : List ℕ → Option (List ℕ)
 set_of piece = option_and_then set_in (rule_line_of piece)

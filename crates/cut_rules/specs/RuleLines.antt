@@ -1,38 +1,101 @@
--- The lines of a rules text, and what each says. Lines are numbered from 1.
-use Rattle.std.specs.Prelude.{◌≡◌, ℕ, ◌+◌, ◌==◌, Bool, not, true, false, List, [], ◌∷◌, Some, slice_get, codes}
-use Rattle.std.specs.List.{slice_split}
+-- The lines of a rules text. Lines are numbered from 1.
+use Rattle.std.specs.Prelude.{◌≡◌, ◌⊎◌, ℕ, ◌+◌, ◌==◌, ◌||◌, Bool, true, List, [], ◌∷◌, ◌++◌, Some, slice_get, codes}
+use Rattle.std.specs.List.{list_all, slice_split}
+use Rattle.std.specs.Str.{IsUtf8}
 use Rattle.texts.specs.Fields.{is_name, line_of}
+use Rattle.cut_rules.specs.declared.rule.RuleKind.{RuleKind}
+use Rattle.cut_rules.specs.declared.rule.RuleKind.TheVariants as kinds
 
--- what a line says: a module is in a set, each module whose file lies in a folder is in a set, no chain may lead from the one to the other,
--- the import of the second module by the first is known
+-- which modules a line adds to a set: the module of a name, those whose file is below a folder, those whose name matches a pattern, those that have a file
+pub data Selector : Type 0 where
+  Module : List ℕ → Selector
+  Folder : List ℕ → Selector
+  Named : List ℕ → Selector
+  Tree : Selector
+
+-- a line adds modules to a set, restricts the imports between two names by a rule of this kind, or allows the import of the second module by the first
 pub data RuleLine : Type 0 where
-  Member : List ℕ → List ℕ → RuleLine
-  Folder : List ℕ → List ℕ → RuleLine
-  Forbid : List ℕ → List ℕ → RuleLine
+  Adds : List ℕ → Selector → RuleLine
+  Restricts : RuleKind → List ℕ → List ℕ → RuleLine
   Allow : List ℕ → List ℕ → RuleLine
 
--- how it is spelled
+-- the three kinds of rules
+abbrev pub Forbid : List ℕ → List ℕ → RuleLine
+Forbid x y = Restricts kinds.Forbid x y
+
+abbrev pub ForbidImport : List ℕ → List ℕ → RuleLine
+ForbidImport x y = Restricts kinds.ForbidImport x y
+
+abbrev pub May : List ℕ → List ℕ → RuleLine
+May x y = Restricts kinds.May x y
+
+-- the keyword of a kind
+abbrev pub keyword : RuleKind → List ℕ
+keyword kinds.Forbid = codes "forbid"
+keyword kinds.ForbidImport = codes "forbid-import"
+keyword kinds.May = codes "may"
+
+-- the line without a comment
 abbrev pub rule_line : RuleLine → List ℕ
-rule_line (Member s m) = line_of (codes "set" ∷ s ∷ m ∷ [])
-rule_line (Folder s path) = line_of (codes "folder" ∷ s ∷ path ∷ [])
-rule_line (Forbid x y) = line_of (codes "forbid" ∷ x ∷ y ∷ [])
+rule_line (Adds s (Module m)) = line_of (codes "set" ∷ s ∷ m ∷ [])
+rule_line (Adds s (Folder path)) = line_of (codes "folder" ∷ s ∷ path ∷ [])
+rule_line (Adds s (Named pattern)) = line_of (codes "named" ∷ s ∷ pattern ∷ [])
+rule_line (Adds s Tree) = line_of (codes "tree" ∷ s ∷ [])
+rule_line (Restricts kind x y) = line_of (keyword kind ∷ x ∷ y ∷ [])
 rule_line (Allow m n) = line_of (codes "allow" ∷ m ∷ n ∷ [])
 
--- names are names; a path has any bytes
+-- names are identifiers; a path and a pattern are UTF-8
 abbrev pub IsRuleLine : RuleLine → Type 0
-IsRuleLine (Member s m) = (is_name s ≡ true) × (is_name m ≡ true)
-IsRuleLine (Folder s path) = is_name s ≡ true
-IsRuleLine (Forbid x y) = (is_name x ≡ true) × (is_name y ≡ true)
+IsRuleLine (Adds s (Module m)) = (is_name s ≡ true) × (is_name m ≡ true)
+IsRuleLine (Adds s (Folder path)) = (is_name s ≡ true) × IsUtf8 path
+IsRuleLine (Adds s (Named pattern)) = (is_name s ≡ true) × IsUtf8 pattern
+IsRuleLine (Adds s Tree) = is_name s ≡ true
+IsRuleLine (Restricts kind x y) = (is_name x ≡ true) × (is_name y ≡ true)
 IsRuleLine (Allow m n) = (is_name m ≡ true) × (is_name n ≡ true)
 
--- what stands between the line ends; after the last line end stands one more piece, which may be empty
+-- ---- comments
+
+-- a space or a tab
+abbrev pub is_blank : ℕ → Bool
+is_blank b = b == 32 || b == 9
+
+-- a comment begins with `#`; the blanks before it belong to it
+pub record IsComment (text : List ℕ) : Type 0 where
+  pub blanks : List ℕ
+  pub rest : List ℕ
+  pub are_blank : list_all is_blank blanks ≡ true
+  pub whole : text ≡ blanks ++ 35 ∷ rest
+
+-- a comment after a rule begins with a blank
+abbrev pub EndsRule : List ℕ → Type 0
+EndsRule [] = Unit {0}
+EndsRule (b ∷ text) = (is_blank b ≡ true) × IsComment (b ∷ text)
+
+-- what may follow a rule on its line: nothing follows a path or a pattern, which is the rest of the line
+abbrev pub MayFollow : RuleLine → List ℕ → Type 0
+MayFollow (Adds s (Module m)) text = EndsRule text
+MayFollow (Adds s (Folder path)) text = text ≡ []
+MayFollow (Adds s (Named pattern)) text = text ≡ []
+MayFollow (Adds s Tree) text = EndsRule text
+MayFollow (Restricts kind x y) text = EndsRule text
+MayFollow (Allow m n) text = EndsRule text
+
+-- the bytes of a line state this
+pub record Spells (piece : List ℕ) (content : RuleLine) : Type 0 where
+  pub form : IsRuleLine content
+  pub comment : List ℕ
+  pub follows : MayFollow content comment
+  pub whole : piece ≡ rule_line content ++ comment
+
+-- the bytes of a line state nothing: they are empty or a comment
+abbrev pub IsIdle : List ℕ → Type 0
+IsIdle piece = (piece ≡ []) ⊎ IsComment piece
+
+-- ---- texts
+
+-- the lines of a text; after the last line end there is one more, which may be empty
 abbrev pub pieces_of : List ℕ → List (List ℕ)
 pieces_of bytes = slice_split (λ c. c == 10) bytes
-
--- the piece is neither empty nor a comment, which begins with '#'
-abbrev pub is_written : List ℕ → Bool
-is_written [] = false
-is_written (b ∷ _) = not (b == 35)
 
 -- the text has this piece at the line of this number
 pub record IsPieceAt (pieces : List (List ℕ)) (line : ℕ) (piece : List ℕ) : Type 0 where
@@ -40,7 +103,8 @@ pub record IsPieceAt (pieces : List (List ℕ)) (line : ℕ) (piece : List ℕ) 
   pub number : line ≡ place + 1
   pub there : slice_get pieces place ≡ Some piece
 
--- the line of this number says this
-pub record Says (pieces : List (List ℕ)) (line : ℕ) (said : RuleLine) : Type 0 where
-  pub spelled : IsPieceAt pieces line (rule_line said)
-  pub form : IsRuleLine said
+-- the line of this number states this
+pub record Says (pieces : List (List ℕ)) (line : ℕ) (content : RuleLine) : Type 0 where
+  pub piece : List ℕ
+  pub at : IsPieceAt pieces line piece
+  pub spelled : Spells piece content

@@ -1,35 +1,56 @@
--- The rules that a text has for a tree, and what it is refused for. The tree is given by its network, and by the files of its modules.
-use Rattle.std.specs.Prelude.{◌≡◌, ◌≢◌, ◌⊎◌, ℕ, ◌<◌, true, List, ◌∷◌, ◌++◌, length, AllPairs, Contains}
+-- The rules that a text has for a tree, and its faults. The tree is given by its network, and by the files of its modules.
+use Rattle.std.specs.Prelude.{◌≡◌, ◌⊎◌, ℕ, ◌<◌, ◌==◌, true, List, [], ◌∷◌, ◌++◌, length, drop, nat_eq, AllPairs, Contains, if◌then◌else◌}
+use Rattle.std.specs.List.{ends_with, starts_with}
 use Rattle.cut_net.specs.declared.priced.Priced.{Priced}
 use Rattle.cut_net.specs.Network.{Network, name_of}
 use Rattle.cut_net.specs.Prices.{is_named}
+use Rattle.glob.specs.Globs.{Matches}
 use Rattle.cut_rules.specs.declared.file.File.{File}
-use Rattle.cut_rules.specs.declared.fault.LineFault.{LineFault}
-use Rattle.cut_rules.specs.declared.fault.LineFault.TheVariants.{BadLine, SetIsModule, NoSuchModule, NoSuchImport, TwiceAllowed, EmptySet, TooMany, Memory}
-use Rattle.cut_rules.specs.RuleLines.{RuleLine, Member, Folder, Forbid, Allow, rule_line, is_written, IsPieceAt, IsRuleLine, Says}
+use Rattle.cut_rules.specs.declared.rule.RuleKind.{RuleKind}
+use Rattle.cut_rules.specs.RuleLines.{RuleLine, Selector, Module, Folder, Named, Tree, Adds, Restricts, Allow, IsIdle, IsPieceAt, Says, Spells}
 
--- the path is one below the folder's
-abbrev pub LiesIn : List ℕ → List ℕ → Type 0
-LiesIn folder path = (rest : List ℕ) × (path ≡ folder ++ 47 ∷ rest)
+-- ---- sets
 
--- the file of this module lies in the folder, or in one below it
-pub record IsUnder (files : List File) (path : List ℕ) (m : ℕ) : Type 0 where
-  pub file : File
-  pub listed : Contains files file
-  pub module_is : file.module ≡ m
-  pub lies : LiesIn path file.path.now
+-- the path with a slash at its end
+abbrev pub closed : List ℕ → List ℕ
+closed path = if ends_with nat_eq path (47 ∷ []) then path else path ++ 47 ∷ []
 
--- a line says something of the set
+-- the path without a `./` before it
+abbrev pub without_dot : List ℕ → List ℕ
+without_dot path = if starts_with nat_eq path (46 ∷ 47 ∷ []) then drop 2 path else path
+
+-- what the path of each file below PATH begins with, so that `.` and `./` are the tree's own folder
+abbrev pub folder_prefix : List ℕ → List ℕ
+folder_prefix path = without_dot (closed path)
+
+-- the file is below the folder
+abbrev pub IsBelow : List ℕ → List ℕ → Type 0
+IsBelow path file = (rest : List ℕ) × (file ≡ folder_prefix path ++ rest)
+
+-- the module has such a file
+abbrev pub HasFile : List File → (List ℕ → Type 0) → ℕ → Type 0
+HasFile files P m = (file : File) × Contains files file × (file.module ≡ m) × P file.path.now
+
+module _ (net : Network) (files : List File) where
+  -- the selector is for this module
+  abbrev pub Selects : Selector → ℕ → Type 0
+  Selects (Module name) m = (m < length net.names) × (name_of net m ≡ name)
+  Selects (Folder path) m = HasFile files (IsBelow path) m
+  Selects (Named pattern) m = (m < length net.names) × Matches pattern (name_of net m)
+  Selects Tree m = HasFile files (λ path. Unit {0}) m
+
+-- a line adds modules to the set
 abbrev pub IsSet : List (List ℕ) → List ℕ → Type 0
-IsSet pieces s = (line : ℕ) × (((m : List ℕ) × Says pieces line (Member s m)) ⊎ ((path : List ℕ) × Says pieces line (Folder s path)))
+IsSet pieces s = (line : ℕ) × (selector : Selector) × Says pieces line (Adds s selector)
 
 -- the module is the one of this name, or it is in the set of this name
 pub data IsIn (net : Network) (files : List File) (pieces : List (List ℕ)) (x : List ℕ) (m : ℕ) : Type 0 where
   Itself : name_of net m ≡ x → IsIn net files pieces x m
-  Listed : (line : ℕ) → Says pieces line (Member x (name_of net m)) → IsIn net files pieces x m
-  Lies : (line : ℕ) (path : List ℕ) → Says pieces line (Folder x path) → IsUnder files path m → IsIn net files pieces x m
+  Added : (line : ℕ) (selector : Selector) → Says pieces line (Adds x selector) → Selects net files selector m → IsIn net files pieces x m
 
--- a line says that the import is known
+-- ---- allowed imports
+
+-- a line allows the import
 abbrev pub IsAllowed : Network → List (List ℕ) → Priced → Type 0
 IsAllowed net pieces i = (line : ℕ) × Says pieces line (Allow (name_of net i.from) (name_of net i.to))
 
@@ -37,71 +58,90 @@ IsAllowed net pieces i = (line : ℕ) × Says pieces line (Allow (name_of net i.
 abbrev pub Counts : Network → List (List ℕ) → ℕ → ℕ → Type 0
 Counts net pieces m n = (i : Priced) × Contains net.imports i × (i.from ≡ m) × (i.to ≡ n) × (IsAllowed net pieces i → ⊥)
 
--- ---- what a text is refused for
+-- the network has no import of the second module by the first
+abbrev pub LacksImport : Network → List ℕ → List ℕ → Type 0
+LacksImport net m n = (i : Priced) → Contains net.imports i → is_named net m n i ≡ true → ⊥
 
--- the line forbids something
-abbrev pub IsForbidding : List (List ℕ) → ℕ → Type 0
-IsForbidding pieces line = (x y : List ℕ) × Says pieces line (Forbid x y)
+-- the line allows an import that the network doesn't have
+abbrev pub IsStale : Network → List (List ℕ) → ℕ → List ℕ → List ℕ → Type 0
+IsStale net pieces line m n = Says pieces line (Allow m n) × LacksImport net m n
 
--- 4096 lines before this one forbid something
-pub record AreManyBefore (pieces : List (List ℕ)) (line : ℕ) : Type 0 where
+-- ---- faults
+
+-- what can be wrong with a line, with the names that are written
+pub data LineFault : Type 0 where
+  BadLine : LineFault
+  SetIsModule : List ℕ → LineFault
+  NoSuchModule : List ℕ → LineFault
+  TwiceAllowed : List ℕ → List ℕ → LineFault
+  EmptySet : List ℕ → LineFault
+  TooMany : LineFault
+
+-- 4096 lines before this one have the property
+pub record AreManyBefore (P : ℕ → Type 0) (line : ℕ) : Type 0 where
   pub lines : List ℕ
   pub many : length lines ≡ 4096
   pub ascending : AllPairs (λ i j. i < j) lines
-  pub each : (l : ℕ) → Contains lines l → (l < line) × IsForbidding pieces l
+  pub each : (l : ℕ) → Contains lines l → (l < line) × P l
 
--- what is wrong with what the line of this number says
+-- what a line writes as the modules that it adds
+abbrev pub selector_text : List ℕ → Selector → List ℕ
+selector_text s (Module m) = m
+selector_text s (Folder path) = path
+selector_text s (Named pattern) = pattern
+selector_text s Tree = s
+
+-- the fault of a line that adds no module to its set
+abbrev pub empty_fault : List ℕ → Selector → LineFault
+empty_fault s (Module m) = NoSuchModule m
+empty_fault s (Folder path) = EmptySet path
+empty_fault s (Named pattern) = EmptySet pattern
+empty_fault s Tree = EmptySet s
+
+-- the line is a rule
+abbrev pub IsRule : List (List ℕ) → ℕ → Type 0
+IsRule pieces line = (kind : RuleKind) × (x y : List ℕ) × Says pieces line (Restricts kind x y)
+
+-- the line has a pattern
+abbrev pub HasPattern : List (List ℕ) → ℕ → Type 0
+HasPattern pieces line = (s pattern : List ℕ) × Says pieces line (Adds s (Named pattern))
+
 module _ (net : Network) (files : List File) (pieces : List (List ℕ)) where
   abbrev pub IsModule : List ℕ → Type 0
   IsModule name = Contains net.names name
 
-  -- it is neither a module nor a set
+  -- the name is neither that of a module nor that of a set
   abbrev pub IsUnknown : List ℕ → Type 0
   IsUnknown name = (IsModule name → ⊥) × (IsSet pieces name → ⊥)
 
-  abbrev pub IsWrong : ℕ → LineFault → RuleLine → Type 0
-  IsWrong line BadLine said = ⊥
-  IsWrong line SetIsModule (Member s m) = IsModule s
-  IsWrong line SetIsModule (Folder s path) = IsModule s
-  IsWrong line SetIsModule (Forbid x y) = ⊥
-  IsWrong line SetIsModule (Allow m n) = ⊥
-  IsWrong line NoSuchModule (Member s m) = IsModule m → ⊥
-  IsWrong line NoSuchModule (Folder s path) = ⊥
-  IsWrong line NoSuchModule (Forbid x y) = IsUnknown x ⊎ IsUnknown y
-  IsWrong line NoSuchModule (Allow m n) = (IsModule m → ⊥) ⊎ (IsModule n → ⊥)
-  IsWrong line NoSuchImport (Member s m) = ⊥
-  IsWrong line NoSuchImport (Folder s path) = ⊥
-  IsWrong line NoSuchImport (Forbid x y) = ⊥
-  IsWrong line NoSuchImport (Allow m n) = (i : Priced) → Contains net.imports i → is_named net m n i ≡ true → ⊥
-  IsWrong line TwiceAllowed (Member s m) = ⊥
-  IsWrong line TwiceAllowed (Folder s path) = ⊥
-  IsWrong line TwiceAllowed (Forbid x y) = ⊥
-  IsWrong line TwiceAllowed (Allow m n) = (before : ℕ) × (before < line) × Says pieces before (Allow m n)
-  IsWrong line EmptySet (Member s m) = ⊥
-  IsWrong line EmptySet (Folder s path) = (m : ℕ) → IsUnder files path m → ⊥
-  IsWrong line EmptySet (Forbid x y) = ⊥
-  IsWrong line EmptySet (Allow m n) = ⊥
-  IsWrong line TooMany (Member s m) = ⊥
-  IsWrong line TooMany (Folder s path) = ⊥
-  IsWrong line TooMany (Forbid x y) = AreManyBefore pieces line
-  IsWrong line TooMany (Allow m n) = ⊥
-  IsWrong line Memory said = ⊥
+  -- this is the first unknown name of the two
+  abbrev pub IsFirstUnknown : List ℕ → List ℕ → List ℕ → Type 0
+  IsFirstUnknown name x y = ((name ≡ x) × IsUnknown x) ⊎ ((name ≡ y) × IsUnknown y × (IsUnknown x → ⊥))
 
-  -- the line is neither empty nor a comment, and no rule is spelled so
+  -- a line with this content has the fault
+  abbrev pub IsWrong : ℕ → LineFault → RuleLine → Type 0
+  IsWrong line (SetIsModule name) (Adds s selector) = (name ≡ s) × IsModule s
+  IsWrong line (NoSuchModule name) (Adds s (Module m)) = (name ≡ m) × (IsModule m → ⊥)
+  IsWrong line (NoSuchModule name) (Restricts kind x y) = IsFirstUnknown name x y
+  IsWrong line (TwiceAllowed m n) (Allow importer imported) = (m ≡ importer) × (n ≡ imported) × (before : ℕ) × (before < line) × Says pieces before (Allow importer imported)
+  IsWrong line (EmptySet text) (Adds s selector) = (text ≡ selector_text s selector) × ((m : ℕ) → Selects net files selector m → ⊥)
+  IsWrong line TooMany (Adds s (Named pattern)) = AreManyBefore (HasPattern pieces) line
+  IsWrong line TooMany (Restricts kind x y) = AreManyBefore (IsRule pieces) line
+  IsWrong line fault content = ⊥
+
+  -- the line states something, and nothing that has a form
   abbrev pub IsNoLine : ℕ → Type 0
-  IsNoLine line = (piece : List ℕ) × IsPieceAt pieces line piece × (is_written piece ≡ true) × ((said : RuleLine) → IsRuleLine said → rule_line said ≢ piece)
+  IsNoLine line = (piece : List ℕ) × IsPieceAt pieces line piece × (IsIdle piece → ⊥) × ((content : RuleLine) → Spells piece content → ⊥)
 
   -- the line of this number has this fault
   abbrev pub HasFault : ℕ → LineFault → Type 0
-  HasFault line fault = (IsNoLine line × (fault ≡ BadLine)) ⊎ ((said : RuleLine) × Says pieces line said × IsWrong line fault said)
+  HasFault line fault = (IsNoLine line × (fault ≡ BadLine)) ⊎ ((content : RuleLine) × Says pieces line content × IsWrong line fault content)
 
--- the order in which faults of a line are looked for
+-- the order in which the faults of a line are looked for
 abbrev pub rank : LineFault → ℕ
 rank BadLine = 0
-rank SetIsModule = 1
-rank NoSuchModule = 2
-rank NoSuchImport = 3
-rank TwiceAllowed = 4
-rank EmptySet = 5
-rank TooMany = 6
-rank Memory = 7
+rank (SetIsModule name) = 1
+rank (NoSuchModule name) = 2
+rank (TwiceAllowed m n) = 3
+rank (EmptySet text) = 4
+rank TooMany = 5

@@ -1,78 +1,141 @@
--- What is answered of rules: yes, or the chains that break them.
-use Rattle.std.specs.Prelude.{◌≡◌, ◌↔◌, ◌⊎◌, ℕ, ◌<◌, Bool, false, true, List, [], ◌∷◌, ◌++◌, length, map, slice_index_or, AllPairs, Contains, Option, codes}
+-- What is written of rules: the imports that break them and the stale allow lines, or yes.
+use Rattle.std.specs.Prelude.{◌≡◌, ◌⊎◌, ℕ, ◌<◌, Bool, true, false, List, [], ◌∷◌, ◌++◌, length, map, slice_get, slice_index_or, AllPairs, Contains, Option, Some, None, if◌then◌else◌, codes}
 use Rattle.std.specs.List.{flat_map}
 use Rattle.std.specs.Fmt.{decimal}
-use Rattle.byte_sink.specs.Sinks.{AppendsFront}
-use Rattle.digraph.specs.Levels.{AreChainInto, IsLeastChainInto}
-use Rattle.cut_net.specs.Network.{Network, name_of}
+use Rattle.digraph.specs.Chains.{IsChain}
+use Rattle.digraph.specs.ShortestPaths.{IsLeastOf}
+use Rattle.text_escape.specs.Places.{Style, location_text}
+use Rattle.cut_net.specs.declared.priced.Priced.{Priced}
+use Rattle.cut_net.specs.Network.{Network, name_of, none_there}
 use Rattle.cut_rules.specs.declared.file.File.{File}
-use Rattle.cut_rules.specs.RuleLines.{Forbid, Says}
-use Rattle.cut_rules.specs.Rules.{Counts, IsIn}
+use Rattle.cut_rules.specs.declared.rule.StaleAllow.{StaleAllow}
+use Rattle.cut_rules.specs.declared.site.Site.{Site}
+use Rattle.cut_rules.specs.RuleLines.{Forbid, ForbidImport, May, Says}
+use Rattle.cut_rules.specs.Rules.{Counts, IsAllowed, IsIn, IsStale}
 
--- a chain that breaks the rule of a line, by the numbers of its modules
-pub record Broken : Type 0 where
+-- ---- imports that break a rule
+
+-- a path to the module m from a source, which enters no barred module after its start
+module _ (Leads : ℕ → ℕ → Type 0) (IsSource IsBarred : ℕ → Type 0) (m : ℕ) where
+  abbrev pub IsEntryPath : List ℕ → Type 0
+  IsEntryPath [] = ⊥
+  IsEntryPath (start ∷ more) = IsSource start × IsChain Leads start more m × ((n : ℕ) → Contains more n → IsBarred n → ⊥)
+
+-- the line is the first `may` line of X
+pub record IsFirstMay (pieces : List (List ℕ)) (line : ℕ) (x : List ℕ) : Type 0 where
+  pub target : List ℕ
+  pub says : Says pieces line (May x target)
+  pub first : (before : ℕ) (y : List ℕ) → before < line → Says pieces before (May x y) → ⊥
+
+module _ (net : Network) (files : List File) (pieces : List (List ℕ)) (line m n : ℕ) where
+  -- the rule of the line forbids that m imports n at the end of this path
+  pub data IsForbidden (path : List ℕ) : Type 0 where
+    ByForbid : (x y : List ℕ) → Says pieces line (Forbid x y) → IsIn net files pieces y n → IsEntryPath (Counts net pieces) (IsIn net files pieces x) (IsIn net files pieces y) m path → IsForbidden path
+    ByForbidImport : (x y : List ℕ) → Says pieces line (ForbidImport x y) → IsIn net files pieces x m → IsIn net files pieces y n → path ≡ m ∷ [] → IsForbidden path
+    ByMay : (x : List ℕ) → IsFirstMay pieces line x → IsIn net files pieces x m → (IsIn net files pieces x n → ⊥)
+        → ((other : ℕ) (y : List ℕ) → Says pieces other (May x y) → IsIn net files pieces y n → ⊥) → path ≡ m ∷ [] → IsForbidden path
+
+-- an import that breaks the rule of a line: the number of the import in the network, and the path to its importing module
+pub record Violation : Type 0 where
   pub line : ℕ
-  pub chain : List ℕ
+  pub import_number : ℕ
+  pub path : List ℕ
 
--- the first module of the chain
-abbrev pub first_of : Broken → ℕ
-first_of b = slice_index_or b.chain 0 0
+abbrev pub import_at : Network → ℕ → Priced
+import_at net k = slice_index_or net.imports k none_there
 
--- each with a blank before it
+module _ (net : Network) (files : List File) (pieces : List (List ℕ)) where
+  -- no line allows the import, and the rule of the line forbids it at the end of this path
+  pub record Breaks (line k : ℕ) (path : List ℕ) : Type 0 where
+    pub within : k < length net.imports
+    pub counted : IsAllowed net pieces (import_at net k) → ⊥
+    pub forbidden : IsForbidden net files pieces line (import_at net k).from (import_at net k).to path
+
+  -- the path is the one with the fewest imports, and of those the one with the smallest names, from the first on
+  abbrev pub IsViolation : Violation → Type 0
+  IsViolation v = IsLeastOf (Breaks v.line v.import_number) v.path
+
+-- by the line, then by the names of the two modules
+abbrev pub ComesBefore : Violation → Violation → Type 0
+ComesBefore v w = (v.line < w.line) ⊎ ((v.line ≡ w.line) × (v.import_number < w.import_number))
+
+-- exactly the imports that break the rules, each once for each rule, in order
+pub record AreViolations (net : Network) (files : List File) (pieces : List (List ℕ)) (violations : List Violation) : Type 0 where
+  pub each : (v : Violation) → Contains violations v → IsViolation net files pieces v
+  pub all : (line k : ℕ) (path : List ℕ) → Breaks net files pieces line k path → (v : Violation) × Contains violations v × (v.line ≡ line) × (v.import_number ≡ k)
+  pub ascending : AllPairs ComesBefore violations
+
+-- ---- stale lines
+
+-- an allow line whose import the network doesn't have
+pub record Stale : Type 0 where
+  pub line : ℕ
+  pub importer : List ℕ
+  pub imported : List ℕ
+
+abbrev pub stale_of : StaleAllow → Stale
+stale_of s = record { line = s.line; importer = s.importer.now; imported = s.imported.now }
+
+-- exactly these lines, in order
+pub record AreStaleLines (net : Network) (pieces : List (List ℕ)) (stale : List Stale) : Type 0 where
+  pub each : (s : Stale) → Contains stale s → IsStale net pieces s.line s.importer s.imported
+  pub all : (line : ℕ) (m n : List ℕ) → IsStale net pieces line m n → (s : Stale) × Contains stale s × (s.line ≡ line)
+  pub ascending : AllPairs (λ (s t : Stale). s.line < t.line) stale
+
+-- ---- the text
+
+-- each after a space
 abbrev pub spaced : List (List ℕ) → List ℕ
 spaced names = flat_map (λ (name : List ℕ). 32 ∷ name) names
 
--- the line of a chain: the number of the rule's line, and the names of the modules
-abbrev pub broken_line : Network → Broken → List ℕ
-broken_line net b = codes "no " ++ (decimal b.line ++ (spaced (map (name_of net) b.chain) ++ 10 ∷ []))
+-- where an import is
+abbrev pub site_text : Style → Option Site → List ℕ
+site_text style None = []
+site_text style (Some site) = location_text style site.path.now site.line site.column
 
--- the lines of chains, or yes where there is none
-abbrev pub verdict_text : Network → List Broken → List ℕ
-verdict_text net [] = codes "yes" ++ 10 ∷ []
-verdict_text net (b ∷ others) = flat_map (broken_line net) (b ∷ others)
+-- PATH:LINE:COL: no LINE A .. M N
+abbrev pub violation_line : Style → Network → List Site → Violation → List ℕ
+violation_line style net sites v =
+    site_text style (slice_get sites v.import_number) ++ (codes ": no " ++ (decimal v.line ++ (spaced (map (name_of net) (v.path ++ (import_at net v.import_number).to ∷ [])) ++ 10 ∷ [])))
 
--- these are the modules of the name
-abbrev pub AreMembers : Network → List File → List (List ℕ) → List ℕ → List ℕ → Type 0
-AreMembers net files pieces x members = (m : ℕ) → Contains members m ↔ ((m < length net.names) × IsIn net files pieces x m)
+-- stale LINE M N
+abbrev pub stale_line : Stale → List ℕ
+stale_line s = codes "stale " ++ (decimal s.line ++ (spaced (s.importer ∷ s.imported ∷ []) ++ 10 ∷ []))
 
--- the line forbids chains from this module of its first name into these, the modules of its second name
-pub record IsForbidden (net : Network) (files : List File) (pieces : List (List ℕ)) (line m : ℕ) (ends : List ℕ) : Type 0 where
-  pub first : List ℕ
-  pub second : List ℕ
-  pub says : Says pieces line (Forbid first second)
-  pub low : m < length net.names
-  pub is_in : IsIn net files pieces first m
-  pub are_ends : AreMembers net files pieces second ends
+-- the lines of both, one after the other
+abbrev pub lines_text : Style → Network → List Site → List Violation → List Stale → List ℕ
+lines_text style net sites violations stale = flat_map (violation_line style net sites) violations ++ flat_map stale_line stale
 
--- the chain is the least of those of one or more imports that aren't allowed that lead from its first module to where none may lead
-pub record Breaks (net : Network) (files : List File) (pieces : List (List ℕ)) (b : Broken) : Type 0 where
-  pub ends : List ℕ
-  pub forbidden : IsForbidden net files pieces b.line (first_of b) ends
-  pub least : IsLeastChainInto (Counts net pieces) (first_of b) ends b.chain
-
--- the one comes before the other: by the line, then by the first module
-abbrev pub ComesBefore : Broken → Broken → Type 0
-ComesBefore b c = (b.line < c.line) ⊎ ((b.line ≡ c.line) × (first_of b < first_of c))
-
--- these are all chains that are told: in order, each the least from its first module, and one for each module from which there is one
-pub record AreBroken (net : Network) (files : List File) (pieces : List (List ℕ)) (broken : List Broken) : Type 0 where
-  pub each : (b : Broken) → Contains broken b → Breaks net files pieces b
-  pub ascending : AllPairs ComesBefore broken
-  pub all : (line m : ℕ) (ends chain : List ℕ) → IsForbidden net files pieces line m ends → AreChainInto (Counts net pieces) m ends chain → (b : Broken) × Contains broken b × (b.line ≡ line) × (first_of b ≡ m)
-
--- these are the first that are told: in order, and none that comes before one of them is left out
-pub record AreFirstBroken (net : Network) (files : List File) (pieces : List (List ℕ)) (broken : List Broken) : Type 0 where
-  pub each : (b : Broken) → Contains broken b → Breaks net files pieces b
-  pub ascending : AllPairs ComesBefore broken
-  pub before : (b c : Broken) → Contains broken b → Breaks net files pieces c → ComesBefore c b → Contains broken c
-
--- whether there is none
-abbrev pub is_none : List Broken → Bool
+-- whether the list is empty
+abbrev pub is_none : {X : Type 0} → List X → Bool
 is_none [] = true
 is_none (_ ∷ _) = false
 
--- a sink that stopped has a front of the lines of the first chains that are told, or of yes, where none is
-abbrev pub PutsSome : Network → List File → List (List ℕ) → Option (List ℕ) → Option (List ℕ) → Type 0
-PutsSome net files pieces old new =
-    ((broken : List Broken) × AreFirstBroken net files pieces broken × AppendsFront old new (flat_map (broken_line net) broken))
-    ⊎ (AreBroken net files pieces [] × AppendsFront old new (verdict_text net []))
+-- whether nothing breaks a rule and no line is stale
+abbrev pub is_clean : List Violation → List Stale → Bool
+is_clean violations stale = if is_none violations then is_none stale else false
+
+-- the lines, or yes if there is none
+abbrev pub verdict_text : Style → Network → List Site → List Violation → List Stale → List ℕ
+verdict_text style net sites violations stale = if is_clean violations stale then codes "yes" ++ 10 ∷ [] else lines_text style net sites violations stale
+
+-- ---- what the violations of a rule are
+
+module _ (net : Network) (files : List File) (pieces : List (List ℕ)) (line : ℕ) where
+  -- a path of imports that no line allows, which the rule of the line forbids: of one or more imports for `forbid`, of one for the other two kinds
+  pub data IsForbiddenPath : List ℕ → Type 0 where
+    PathByForbid : (x y : List ℕ) (start next : ℕ) (more : List ℕ) (end : ℕ) → Says pieces line (Forbid x y) → IsIn net files pieces x start → IsChain (Counts net pieces) start (next ∷ more) end → IsIn net files pieces y end
+        → IsForbiddenPath (start ∷ next ∷ more)
+    PathByForbidImport : (x y : List ℕ) (m n : ℕ) → Says pieces line (ForbidImport x y) → IsIn net files pieces x m → Counts net pieces m n → IsIn net files pieces y n → IsForbiddenPath (m ∷ n ∷ [])
+    PathByMay : (x : List ℕ) (m n : ℕ) → IsFirstMay pieces line x → IsIn net files pieces x m → Counts net pieces m n → (IsIn net files pieces x n → ⊥)
+        → ((other : ℕ) (y : List ℕ) → Says pieces other (May x y) → IsIn net files pieces y n → ⊥) → IsForbiddenPath (m ∷ n ∷ [])
+
+-- the import is one of the path's
+pub record IsOnPath (net : Network) (path : List ℕ) (k : ℕ) : Type 0 where
+  pub before : List ℕ
+  pub after : List ℕ
+  pub whole : path ≡ before ++ (import_at net k).from ∷ (import_at net k).to ∷ after
+
+-- it breaks the rule of the line
+abbrev pub BreaksRule : Network → List File → List (List ℕ) → ℕ → ℕ → Type 0
+BreaksRule net files pieces line k = (path : List ℕ) × Breaks net files pieces line k path

@@ -1,9 +1,9 @@
-//! Where the modules of a tree lie.
+//! The files of a tree's modules.
 
 /// The file of a module.
 #[derive(Clone, Copy)]
 pub struct File<'a> {
-    /// Where it lies below the tree's folder, with `/` between the names.
+    /// Its path below the tree's folder, with `/` between the names.
     pub path: &'a str,
     /// The number of its module in the network.
     pub module: u32,

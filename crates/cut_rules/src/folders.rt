@@ -1,32 +1,14 @@
-//! The files of a tree in the order of their paths, in which those of a folder stand together.
-ghost use Rattle.std.specs.Prelude.{◌≡◌, ◌↔◌, ◌<◌, ◌≤◌, ◌++◌, ◌∷◌, [], ◌||◌, ℕ, IfOk, IsPermutation, Some, length, slice_get, nat_eq};
+//! The files of a tree in the order of their paths, in which those of a folder are adjacent.
+ghost use Rattle.std.specs.Prelude.{◌≡◌, ◌↔◌, ◌<◌, ◌≤◌, ◌||◌, ℕ, IfOk, List, Some, length, slice_get, nat_eq};
 ghost use Rattle.std.specs.List.{starts_with};
-ghost use Rattle.std.specs.List.Sorted.{IsSorted};
 ghost use Rattle.std.specs.Ordering.{is_lt, nat_cmp};
 ghost use Rattle.std.specs.Cmp.Lexicographic.{slice_cmp};
-ghost use Rattle.cut_rules.specs.Folders.{is_before, is_not_behind, path_cmp};
-ghost use Rattle.cut_rules.specs.Rules.{LiesIn};
+ghost use Rattle.cut_rules.specs.Folders.{is_before, is_not_behind, ArePathsInOrder};
+ghost use Rattle.cut_rules.specs.Rules.{closed, without_dot, IsBelow};
 ghost use Rattle.cut_rules.specs.declared.file.File.{File as TreeFile};
 
 use crate::File;
 use std::alloc::{AllocError, Global};
-use std::cmp::Ordering;
-
-fn compare(file: &File<'_>, other: &File<'_>) -> Ordering
-    ensures { result ≡ path_cmp file.now other.now }
-{
-    file.path.as_bytes().cmp(other.path.as_bytes())
-}
-
-/// The files in the order of their paths.
-pub(crate) fn by_path<'a>(alloc: Global, files: &[File<'a>]) -> Result<Vec<File<'a>>, AllocError>
-    ensures sorted { IfOk result (λ sorted. IsSorted path_cmp sorted.items) }
-    ensures same { IfOk result (λ sorted. IsPermutation files.now sorted.items) }
-{
-    let mut sorted = Vec::from_slice(alloc, files)?;
-    sorted.sort_unstable_by(|file, other| compare(file, other));
-    Ok(sorted)
-}
 
 /// Whether the file's path comes before this text.
 fn is_before(file: &File<'_>, text: &[u8]) -> bool
@@ -42,20 +24,37 @@ fn is_not_behind(file: &File<'_>, text: &[u8]) -> bool
     is_before(file, text) || file.path.as_bytes().starts_with(text)
 }
 
-/// From where to where stand the files that lie in the folder, or in one below it. The files stand in the order of their paths.
-pub(crate) fn places_under(
+/// The path with a slash at its end.
+fn closed(alloc: Global, path: &[u8]) -> Result<Vec<u8>, AllocError>
+    ensures { IfOk result (λ v. v.items ≡ closed path.now) }
+{
+    let mut closed = Vec::from_slice(alloc, path)?;
+    if !path.ends_with(b"/") {
+        closed.push(b'/')?;
+    }
+    Ok(closed)
+}
+
+/// The path without a `./` before it.
+fn without_dot(path: &[u8]) -> &[u8]
+    ensures { result.now ≡ without_dot path.now }
+{
+    path.strip_prefix(b"./").unwrap_or(path)
+}
+
+/// The indices of the files below the folder, from the first up to the second, which is excluded.
+pub(crate) fn places_below(
     alloc: Global,
     files: &[File<'_>],
-    folder: &[u8],
+    path: &[u8],
 ) -> Result<(usize, usize), AllocError>
-    requires { IsSorted path_cmp files.now }
+    requires { ArePathsInOrder files.now }
     ensures within { IfOk result (λ places. places.1 ≤ length files.now) }
-    ensures are { IfOk result (λ places. (k : ℕ) (f : TreeFile) → slice_get files.now k ≡ Some f → ((places.0 ≤ k) × (k < places.1)) ↔ LiesIn folder.now f.path.now) }
+    ensures are { IfOk result (λ places. (k : ℕ) (f : TreeFile) → slice_get files.now k ≡ Some f → ((places.0 ≤ k) × (k < places.1)) ↔ IsBelow path.now f.path.now) }
 {
-    let mut front = Vec::from_slice(alloc, folder)?;
-    front.push(b'/')?;
-    let front = front.as_slice();
-    let from = files.partition_point(|file| is_before(file, front));
-    let to = files.partition_point(|file| is_not_behind(file, front));
+    let closed = closed(alloc, path)?;
+    let prefix = without_dot(closed.as_slice());
+    let from = files.partition_point(|file| is_before(file, prefix));
+    let to = files.partition_point(|file| is_not_behind(file, prefix));
     Ok((from, to))
 }

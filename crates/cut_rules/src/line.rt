@@ -1,87 +1,148 @@
 //! The lines of a rules text.
 ghost use Rattle.std.specs.Prelude.{◌≡◌, option_map};
-ghost use Rattle.cut_rules.specs.LineReading.{folder_of, line_by, line_said, line_under, names_of, rule_line_of};
-ghost use Rattle.cut_rules.specs.RuleLines.{is_written};
+ghost use Rattle.std.specs.List.{position};
+ghost use Rattle.cut_rules.specs.LineReading.{is_comment, is_idle, kind_of, last_name_of, line_after, line_content, line_of_fields, rule_line_of, text_of};
+ghost use Rattle.cut_rules.specs.RuleLines.{is_blank};
 
+use crate::rule::RuleKind;
 use texts::fields::{cut_at_byte, name_in};
 
-/// What a line says.
+/// Which modules a line adds to a set.
+#[derive(Clone, Copy)]
+pub(crate) enum Selector<'a> {
+    /// The module of this name.
+    Module(&'a str),
+    /// Each module whose file is below this folder.
+    Folder(&'a str),
+    /// Each module whose name matches this pattern.
+    Named(&'a str),
+    /// Each module that has a file.
+    Tree,
+}
+
+/// What a line states.
 #[derive(Clone, Copy)]
 pub(crate) enum Line<'a> {
-    /// The module is in the set.
-    Member(&'a str, &'a str),
-    /// Each module whose file lies in the folder is in the set.
-    Folder(&'a str, &'a [u8]),
-    /// No chain may lead from the one to the other.
-    Forbid(&'a str, &'a str),
-    /// The import of the second module by the first is known.
+    /// The modules are in the set of this name.
+    Adds(&'a str, Selector<'a>),
+    /// A rule between two names.
+    Restricts(RuleKind, &'a str, &'a str),
+    /// The import of the second module by the first counts for no rule.
     Allow(&'a str, &'a str),
 }
 
-/// Two names.
-#[tactic(auto, unfolding(crate::specs::LineReading::names_of))]
-fn names_in(fields: &[u8]) -> Option<(&str, &str)>
-    ensures { option_map (λ x. (x.0.now, x.1.now)) result ≡ names_of fields.now }
+/// Whether the byte is a space or a tab.
+fn is_blank(byte: u8) -> bool
+    ensures { result ≡ is_blank byte }
 {
-    let (first, second) = cut_at_byte(fields, b' ')?;
-    let first = name_in(first)?;
-    let second = name_in(second)?;
-    Some((first, second))
+    byte == b' ' || byte == b'\t'
 }
 
-/// A name, and what stands behind it.
-#[tactic(auto, unfolding(crate::specs::LineReading::folder_of))]
-fn folder_in(fields: &[u8]) -> Option<Line<'_>>
-    ensures { option_map line_said result ≡ folder_of fields.now }
+/// Whether the bytes are a comment: blanks, if any, and then a `#`.
+fn is_comment(bytes: &[u8]) -> bool
+    ensures { result ≡ is_comment bytes.now }
 {
-    let (set, path) = cut_at_byte(fields, b' ')?;
-    let set = name_in(set)?;
-    Some(Line::Folder(set, path))
-}
-
-/// The line of two names behind a word.
-fn line_by<'a>(word: &[u8], first: &'a str, second: &'a str) -> Option<Line<'a>>
-    ensures { option_map line_said result ≡ line_by word.now first.now second.now }
-{
-    if word == b"set".as_slice() {
-        return Some(Line::Member(first, second));
+    for byte in bytes {
+        if !is_blank(*byte) {
+            return *byte == b'#';
+        }
     }
+    false
+}
+
+/// The index of the first space or tab.
+fn blank_index(bytes: &[u8]) -> Option<usize>
+    ensures { result ≡ position is_blank bytes.now }
+{
+    bytes
+        .iter()
+        .position(|byte| *byte == b' ' || *byte == b'\t')
+}
+
+/// Whether the bytes of a line state nothing: they are empty or a comment.
+pub(crate) fn is_idle(piece: &[u8]) -> bool
+    ensures { result ≡ is_idle piece.now }
+{
+    piece.is_empty() || is_comment(piece)
+}
+
+/// The name that is all of the fields but for a comment after a blank.
+fn last_name(fields: &[u8]) -> Option<&str>
+    ensures { option_map (λ name. name.now) result ≡ last_name_of fields.now }
+{
+    let end = blank_index(fields).unwrap_or(fields.len());
+    let (name, rest) = fields.split_at(end);
+    if !is_idle(rest) {
+        return None;
+    }
+    name_in(name)
+}
+
+/// The kind of rule that a keyword begins.
+fn kind_of(word: &[u8]) -> Option<RuleKind>
+    ensures { result ≡ kind_of word.now }
+{
     if word == b"forbid".as_slice() {
-        return Some(Line::Forbid(first, second));
+        return Some(RuleKind::Forbid);
     }
-    if word == b"allow".as_slice() {
-        return Some(Line::Allow(first, second));
+    if word == b"forbid-import".as_slice() {
+        return Some(RuleKind::ForbidImport);
+    }
+    if word == b"may".as_slice() {
+        return Some(RuleKind::May);
     }
     None
 }
 
-/// The line of the fields behind a word.
-#[tactic(auto, unfolding(crate::specs::LineReading::line_under))]
-fn line_under<'a>(word: &[u8], fields: &'a [u8]) -> Option<Line<'a>>
-    ensures { option_map line_said result ≡ line_under word.now fields.now }
+/// The line of a keyword, a name and the last field, which is a path or a pattern after `folder` and `named`, and else a name.
+#[tactic(auto, unfolding(crate::specs::LineReading::line_after))]
+fn line_after<'a>(word: &[u8], first: &'a str, last: &'a [u8]) -> Option<Line<'a>>
+    ensures { option_map line_content result ≡ line_after word.now first.now last.now }
 {
     if word == b"folder".as_slice() {
-        return folder_in(fields);
+        return Some(Line::Adds(first, Selector::Folder(text_in(last)?)));
     }
-    let (first, second) = names_in(fields)?;
-    line_by(word, first, second)
+    if word == b"named".as_slice() {
+        return Some(Line::Adds(first, Selector::Named(text_in(last)?)));
+    }
+    let second = last_name(last)?;
+    if word == b"set".as_slice() {
+        return Some(Line::Adds(first, Selector::Module(second)));
+    }
+    if word == b"allow".as_slice() {
+        return Some(Line::Allow(first, second));
+    }
+    let kind = kind_of(word)?;
+    Some(Line::Restricts(kind, first, second))
 }
 
-/// The line that the bytes between two line ends spell.
+/// The bytes as text, or none if they aren't UTF-8.
+fn text_in(bytes: &[u8]) -> Option<&str>
+    ensures { option_map (λ text. text.now) result ≡ text_of bytes.now }
+{
+    match std::str::from_utf8(bytes) {
+        Ok(text) => Some(text),
+        Err(_) => None,
+    }
+}
+
+/// The line of a keyword and its fields.
+#[tactic(auto, unfolding(crate::specs::LineReading::line_of_fields))]
+fn line_of_fields<'a>(word: &[u8], fields: &'a [u8]) -> Option<Line<'a>>
+    ensures { option_map line_content result ≡ line_of_fields word.now fields.now }
+{
+    if word == b"tree".as_slice() {
+        return Some(Line::Adds(last_name(fields)?, Selector::Tree));
+    }
+    let (first, last) = cut_at_byte(fields, b' ')?;
+    line_after(word, name_in(first)?, last)
+}
+
+/// What the bytes of a line state, or none if they have no form.
 #[tactic(auto, unfolding(crate::specs::LineReading::rule_line_of))]
 pub(crate) fn line_in(piece: &[u8]) -> Option<Line<'_>>
-    ensures { option_map line_said result ≡ rule_line_of piece.now }
+    ensures { option_map line_content result ≡ rule_line_of piece.now }
 {
     let (word, fields) = cut_at_byte(piece, b' ')?;
-    line_under(word, fields)
-}
-
-/// Whether the bytes between two line ends are neither empty nor a comment.
-pub(crate) fn is_written(piece: &[u8]) -> bool
-    ensures { result ≡ is_written piece.now }
-{
-    match piece.first() {
-        None => false,
-        Some(first) => *first != b'#',
-    }
+    line_of_fields(word, fields)
 }

@@ -1,86 +1,123 @@
 //! Reading the rules of a tree from their text.
-ghost use Rattle.std.specs.Prelude.{IfErr, IfOk, length};
-ghost use Rattle.std.specs.List.Sorted.{IsSorted};
+ghost use Rattle.std.specs.Prelude.{◌≡◌, ◌+◌, IfErr, IfOk, length};
 ghost use Rattle.cut_net.specs.Network.{texts};
 ghost use Rattle.cut_net.specs.WellFormed.{AreNamesInOrder};
 ghost use Rattle.cut_rules.specs.Drafts.{AreSets, IsDraft, IsEmptyFor};
-ghost use Rattle.cut_rules.specs.Folders.{path_cmp};
-ghost use Rattle.cut_rules.specs.Outcomes.{AreRulesOf, IsRefusal, UnlessMemory};
+ghost use Rattle.cut_rules.specs.Faults.{IsRefusal, UnlessMemory};
+ghost use Rattle.cut_rules.specs.Folders.{ArePathsInOrder};
+ghost use Rattle.cut_rules.specs.Outcomes.{AreRulesOf};
 ghost use Rattle.cut_rules.specs.RuleLines.{pieces_of};
 
-use crate::draft::{Draft, Known, put_in_order};
-use crate::folders::by_path;
+use crate::draft::{Draft, LineContext};
+use crate::rule::{Rule, StaleAllow};
 use crate::sets::sets_of;
+use crate::table::{SetTable, sort_spans};
 use crate::{File, RulesFault};
 use cut_net::Net;
 use std::alloc::{AllocError, Global};
+use std::collections::BTreeSet;
 
 /// The rules that a text has for a tree.
 #[derive(Drop)]
 pub struct Rules<'a> {
-    pub(crate) files: Vec<File<'a>>,
+    pub(crate) files: &'a [File<'a>],
     pub(crate) sets: Vec<String>,
-    pub(crate) draft: Draft,
+    pub(crate) table: SetTable,
+    /// In the order of their lines.
+    pub(crate) rules: Vec<Rule>,
+    /// For each import of the network whether a line allows it.
+    pub(crate) allowed: Vec<bool>,
+    /// In the order of their lines.
+    pub(crate) stale: Vec<StaleAllow<'a>>,
 }
 
-/// The draft of no line.
-fn empty(alloc: Global, net: &Net) -> Result<Draft, AllocError>
+/// The builder before the first line.
+fn empty<'a>(alloc: Global, net: &Net) -> Result<Draft<'a>, AllocError>
     ensures { IfOk result (IsEmptyFor net.now) }
 {
     Ok(Draft {
-        spans: Vec::new(alloc),
+        table: SetTable {
+            spans: Vec::new(alloc),
+            marked: Vec::new(alloc),
+            patterns: 0,
+        },
         rules: Vec::new(alloc),
         allowed: vec![in alloc; false; net.imports().len()]?,
+        stale: Vec::new(alloc),
+        pairs: BTreeSet::new(alloc),
     })
 }
 
-/// What all lines say, or the fault of the first line that has one.
-fn draft_of(alloc: Global, known: &Known<'_>, bytes: &[u8]) -> Result<Draft, RulesFault>
-    requires ascending { AreNamesInOrder (texts known.now.sets.now) }
-    requires sorted { IsSorted path_cmp known.now.files.now }
-    requires sets { AreSets known.now.sets.now (pieces_of bytes.now) }
-    ensures drafted { IfOk result (IsDraft known.now.net.now known.now.files.now (texts known.now.sets.now) (pieces_of bytes.now) (length (pieces_of bytes.now))) }
-    ensures fault { IfErr result (λ fault. UnlessMemory fault (IsRefusal known.now.net.now known.now.files.now (pieces_of bytes.now) fault)) }
+/// What all lines state, or the fault of the first line that has one.
+fn draft_of<'a>(context: &LineContext<'_>, bytes: &'a [u8]) -> Result<Draft<'a>, RulesFault>
+    requires ascending { AreNamesInOrder (texts context.now.sets.now) }
+    requires sorted { ArePathsInOrder context.now.files.now }
+    requires sets { AreSets context.now.sets.now (pieces_of bytes.now) }
+    ensures drafted { IfOk result (IsDraft context.now.net.now context.now.files.now (texts context.now.sets.now) (pieces_of bytes.now) (length (pieces_of bytes.now))) }
+    ensures fault { IfErr result (λ fault. UnlessMemory fault (IsRefusal context.now.net.now context.now.files.now (pieces_of bytes.now) fault)) }
 {
-    let mut draft = empty(alloc, known.net)?;
+    let mut draft = empty(context.alloc, context.net)?;
     let mut line = 0;
     for piece in bytes.split(|b| *b == b'\n') {
         line += 1;
-        if let Err(fault) = draft.take(alloc, known, line, piece) {
-            return Err(fault.at(line));
-        }
+        draft.take(&LineContext { line, ..*context }, piece)?;
     }
     Ok(draft)
 }
 
 impl Rules<'_> {
-    /// The rules that the bytes spell for the network of a tree whose modules lie in these files, or their first fault: of the first line that has one the
-    /// first in the order of `RulesFault`. Memory where a growth was refused.
+    /// The rules that the bytes spell for the network of a tree whose modules have these files, sorted by path; or the first fault of the bytes: of the first line
+    /// that has one, the first in the order of `RulesFault`. `Memory` if an allocation failed.
     ///
-    /// Each line is `set S M`, by which the module M is in the set S, `folder S PATH`, by which each module whose file's path begins with PATH and a `/` is in S,
-    /// `forbid X Y`, by which no chain of imports may lead from a module of X to one of Y, each a set or else a module, or `allow M N`, by which the import of N by
-    /// M counts for no rule. Fields are parted by one space, and names are identifiers (Oberon-07 report, section 3); PATH is the rest of its line. Empty lines
-    /// are skipped, and so are those that begin with `#`; the last line end may be missing. Lines stand in any order.
+    /// The forms of lines, with fields separated by one space:
+    ///
+    /// - `set S M`: the module M is in the set S.
+    /// - `folder S PATH`: each module whose file is below PATH is in S.
+    /// - `named S PATTERN`: each module whose name matches PATTERN is in S. `*` denotes any letters and digits.
+    /// - `tree S`: each module that has a file is in S.
+    /// - `forbid X Y`, `forbid-import X Y`, `may X Y`: a rule between X and Y, each a set or else a module (`RuleKind`).
+    /// - `allow M N`: the import of N by M counts for no rule.
+    ///
+    /// Names are identifiers (Oberon-07 report, section 3). PATH and PATTERN are the rest of their lines, in UTF-8. A comment is a `#` and the rest of the line, at
+    /// the line's start or, but for `folder` and `named`, after blanks, which belong to it. Empty lines are skipped. The last line end may be missing. Lines are in
+    /// any order.
     pub fn read<'a>(
         alloc: Global,
-        net: &Net,
-        files: &[File<'a>],
-        bytes: &[u8],
+        net: &'a Net,
+        files: &'a [File<'a>],
+        bytes: &'a [u8],
     ) -> Result<Rules<'a>, RulesFault>
+        // The files are sorted by their paths.
+        requires { ArePathsInOrder files.now }
         // The text has no fault, and the rules are its rules.
         ensures rules { IfOk result (AreRulesOf net.now files.now (pieces_of bytes.now)) }
         // The fault is the text's first one.
         ensures fault { IfErr result (λ fault. UnlessMemory fault (IsRefusal net.now files.now (pieces_of bytes.now) fault)) }
     {
-        let files = by_path(alloc, files)?;
         let sets = sets_of(alloc, bytes)?;
-        let known = Known {
-            net,
-            files: files.as_slice(),
+        let context = LineContext {
+            alloc,
+            net: &*net,
+            files: &*files,
             sets: sets.as_slice(),
+            line: 0,
         };
-        let mut draft = draft_of(alloc, &known, bytes)?;
-        put_in_order(&mut draft.spans);
-        Ok(Rules { files, sets, draft })
+        let draft = draft_of(&context, bytes)?;
+        let Draft {
+            mut table,
+            rules,
+            allowed,
+            stale,
+            ..
+        } = draft;
+        sort_spans(&mut table.spans);
+        Ok(Rules {
+            files,
+            sets,
+            table,
+            rules,
+            allowed,
+            stale,
+        })
     }
 }

@@ -18,9 +18,8 @@ fn set_in(piece: &[u8]) -> Option<&str>
     ensures { option_map (λ name. name.now) result ≡ set_of piece.now }
 {
     match line_in(piece)? {
-        Line::Member(set, _) => Some(set),
-        Line::Folder(set, _) => Some(set),
-        Line::Forbid(_, _) | Line::Allow(_, _) => None,
+        Line::Adds(set, _) => Some(set),
+        Line::Restricts(_, _, _) | Line::Allow(_, _) => None,
     }
 }
 

@@ -1,31 +1,49 @@
-//! Whether rules are kept, and the chains that break them.
-ghost use Rattle.std.specs.Prelude.{◌≡◌, ◌↔◌, ◌<◌, ◌++◌, ◌∷◌, [], ℕ, All, AllPairs, Contains, IfErr, IfOk, List, OnOk, codes, length, map, not};
+//! Whether the rules hold, and the imports that break them.
+ghost use Rattle.std.specs.Prelude.{◌≡◌, ◌↔◌, ◌<◌, ◌≤◌, ◌+◌, ◌++◌, ◌∷◌, [], ℕ, All, Contains, IfErr, IfOk, List, OnOk, length, map, not, slice_get, slice_index_or, Some, codes, if◌then◌else◌};
 ghost use Rattle.std.specs.Fmt.{decimal};
+ghost use Rattle.std.specs.List.{flat_map};
 ghost use Rattle.std.specs.String.{string_bytes};
-ghost use Rattle.byte_sink.specs.Sinks.{failures_after, AppendsFront};
 ghost use Rattle.std.specs.Io.KnownBytes.{Appends};
-ghost use Rattle.cut_rules.specs.declared.file.File.{File as TreeFile};
+ghost use Rattle.byte_sink.specs.Sinks.{failures_after, AppendsFront};
 ghost use Rattle.text_pieces.specs.Pieces.{PutsAllBut};
+ghost use Rattle.text_escape.specs.Places.{style_of, writer_style};
 ghost use Rattle.digraph.specs.declared.edge.Edge.{Edge as GraphEdge};
-ghost use Rattle.digraph.specs.Edges.{IsAscending, Leads};
+ghost use Rattle.digraph.specs.Edges.{IsAscending};
 ghost use Rattle.digraph.specs.Graphs.{IsGraph};
-ghost use Rattle.digraph.specs.Ways.{AreWays};
 ghost use Rattle.cut_net.specs.Network.{name_of};
-ghost use Rattle.cut_rules.specs.Verdicts.{broken_line, is_none, spaced, verdict_text, AreBroken, Broken, PutsSome};
-ghost use Rattle.cut_rules.specs.Outcomes.{AreByName, AreRulesOf};
-ghost use Rattle.cut_rules.specs.Judged.{told_text, AreFirst, AreFirstOf, AreTold, AreToldOf, IsCounted};
+ghost use Rattle.cut_rules.specs.declared.file.File.{File as TreeFile};
+ghost use Rattle.cut_rules.specs.Judged.{AreOfRule, IsCounted, IsCountedGraph, IsFirstRule, IsSearchFor};
+ghost use Rattle.cut_rules.specs.Outcomes.{AreRulesOf};
+ghost use Rattle.cut_rules.specs.Verdicts.{import_at, is_clean, is_none, lines_text, spaced, stale_line, stale_of, verdict_text, violation_line, AreStaleLines, AreViolations, Stale, Violation};
 
-use crate::Rules;
-use crate::draft::Rule;
-use crate::members::members_of;
+use crate::rule::{Rule, StaleAllow};
+use crate::rule_search::RuleSearch;
+use crate::{Rules, Site};
 use byte_sink::{Sink, SinkFault, put_all};
 use cut_net::Net;
-use digraph::{Edge, Graph, Ways, graph_of, put_in_order};
+use digraph::{Edge, Graph, graph_of, put_in_order};
 use std::alloc::{AllocError, Global};
 use std::fmt::Write;
+use text_escape::{PlaceStyle, PlaceWriter};
 use text_pieces::put_enough;
 
-/// The imports that no line allows, as edges in order.
+/// The rules of a network, and where its imports are.
+#[derive(Clone, Copy)]
+struct Judgement<'a, 'r> {
+    net: &'a Net,
+    rules: &'r Rules<'a>,
+    /// For each import of the network.
+    sites: &'a [Site<'a>],
+}
+
+/// Lines that are gathered, and written in pieces.
+#[derive(Drop)]
+struct Lines<'a> {
+    places: PlaceWriter<'a>,
+    text: String,
+}
+
+/// The imports that no line allows, as edges in ascending order.
 fn counted_edges(alloc: Global, net: &Net, allowed: &[bool]) -> Result<Vec<Edge>, AllocError>
     requires { length allowed.now ≡ length net.now.imports }
     ensures ascending { IfOk result (λ edges. IsAscending edges.items) }
@@ -45,230 +63,263 @@ fn counted_edges(alloc: Global, net: &Net, allowed: &[bool]) -> Result<Vec<Edge>
     Ok(edges)
 }
 
-/// Gathers what the line of a chain begins with: the number of the rule's line.
-fn push_start<S: Sink>(text: &mut String, line: u64, sink: &mut S) -> Result<(), SinkFault>
-    ensures gathered { OnOk result (PutsAllBut (S.taken sink.old) (S.taken sink.new) (string_bytes text.old ++ (codes "no " ++ decimal line)) (string_bytes text.new)) }
-    ensures broken { IfErr result (λ _. AppendsFront (S.taken sink.old) (S.taken sink.new) (string_bytes text.old ++ (codes "no " ++ decimal line))) }
-    ensures failures { S.failures sink.new ≡ failures_after result (S.failures sink.old) }
+/// Appends a name after a space.
+fn push_name(text: &mut String, name: &str) -> Result<(), AllocError>
+    ensures { OnOk result (string_bytes text.new ≡ string_bytes text.old ++ 32 ∷ name.now) }
 {
-    write!(text, "no {line}").map_err(|_| SinkFault::Memory)?;
-    put_enough(text, sink)
+    text.push(' ')?;
+    text.push_str(name)
 }
 
-/// Gathers the end of a line.
-fn push_end<S: Sink>(text: &mut String, sink: &mut S) -> Result<(), SinkFault>
-    ensures gathered { OnOk result (PutsAllBut (S.taken sink.old) (S.taken sink.new) (string_bytes text.old ++ 10 ∷ []) (string_bytes text.new)) }
-    ensures broken { IfErr result (λ _. AppendsFront (S.taken sink.old) (S.taken sink.new) (string_bytes text.old ++ 10 ∷ [])) }
-    ensures failures { S.failures sink.new ≡ failures_after result (S.failures sink.old) }
+/// Appends the names of modules, each after a space.
+fn push_names(text: &mut String, net: &Net, modules: &[u32]) -> Result<(), AllocError>
+    requires { All (λ m. m < length net.now.names) modules.now }
+    ensures { OnOk result (string_bytes text.new ≡ string_bytes text.old ++ spaced (map (name_of net.now) modules.now)) }
 {
-    writeln!(text).map_err(|_| SinkFault::Memory)?;
-    put_enough(text, sink)
-}
-
-/// Gathers a name behind the text, with a blank before it; pieces of the text are put.
-fn push_name<S: Sink>(text: &mut String, name: &str, sink: &mut S) -> Result<(), SinkFault>
-    ensures gathered { OnOk result (PutsAllBut (S.taken sink.old) (S.taken sink.new) (string_bytes text.old ++ 32 ∷ name.now) (string_bytes text.new)) }
-    ensures broken { IfErr result (λ _. AppendsFront (S.taken sink.old) (S.taken sink.new) (string_bytes text.old ++ 32 ∷ name.now)) }
-    ensures failures { S.failures sink.new ≡ failures_after result (S.failures sink.old) }
-{
-    write!(text, " {name}").map_err(|_| SinkFault::Memory)?;
-    put_enough(text, sink)
-}
-
-/// Gathers the names of modules.
-fn push_names<S: Sink>(
-    text: &mut String,
-    net: &Net,
-    chain: &[u32],
-    sink: &mut S,
-) -> Result<(), SinkFault>
-    requires { All (λ m. m < length net.now.names) chain.now }
-    ensures gathered { OnOk result (PutsAllBut (S.taken sink.old) (S.taken sink.new) (string_bytes text.old ++ spaced (map (name_of net.now) chain.now)) (string_bytes text.new)) }
-    ensures broken { IfErr result (λ _. AppendsFront (S.taken sink.old) (S.taken sink.new) (string_bytes text.old ++ spaced (map (name_of net.now) chain.now))) }
-    ensures failures { S.failures sink.new ≡ failures_after result (S.failures sink.old) }
-{
-    for module in chain {
-        push_name(text, net.name(*module), sink)?;
+    for module in modules {
+        push_name(text, net.name(*module))?;
     }
     Ok(())
 }
 
-/// Gathers the line of a chain that breaks the rule of a line.
-fn push_broken<S: Sink>(
-    text: &mut String,
-    net: &Net,
-    line: u64,
-    chain: &[u32],
-    sink: &mut S,
-) -> Result<(), SinkFault>
-    requires { All (λ m. m < length net.now.names) chain.now }
-    ensures gathered { OnOk result (PutsAllBut (S.taken sink.old) (S.taken sink.new) (string_bytes text.old ++ broken_line net.now (record { line = line; chain = chain.now })) (string_bytes text.new)) }
-    ensures broken { IfErr result (λ _. AppendsFront (S.taken sink.old) (S.taken sink.new) (string_bytes text.old ++ broken_line net.now (record { line = line; chain = chain.now }))) }
-    ensures failures { S.failures sink.new ≡ failures_after result (S.failures sink.old) }
+/// Appends the line of a stale allow.
+fn push_stale(text: &mut String, stale: &StaleAllow<'_>) -> Result<(), AllocError>
+    ensures { OnOk result (string_bytes text.new ≡ string_bytes text.old ++ stale_line (stale_of stale.now)) }
 {
-    push_start(text, line, sink)?;
-    push_names(text, net, chain, sink)?;
-    push_end(text, sink)?;
-    Ok(())
+    writeln!(
+        text,
+        "stale {} {} {}",
+        stale.line, stale.importer, stale.imported
+    )
 }
 
-/// Gathers the line of the least chain from a module, and tells whether there is one.
-fn push_chain<S: Sink>(
-    text: &mut String,
-    net: &Net,
-    graph: &Graph<'_>,
-    ways: &Ways,
-    line: u64,
-    node: u32,
-    sink: &mut S,
-) -> Result<bool, SinkFault>
-    requires graph { IsGraph graph.now }
-    requires nodes { length graph.now.before.items ≡ length net.now.names }
-    requires ways { (ends : List ℕ) × AreWays graph.now.edges.now ends ways.now }
-    requires node { node < length net.now.names }
-    ensures told { IfOk result (λ any. (ends : List ℕ) → AreWays graph.now.edges.now ends ways.now → (told : List Broken) × AreTold (Leads graph.now.edges.now) ends line (node ∷ []) told
-        × (any ≡ not (is_none told)) × PutsAllBut (S.taken sink.old) (S.taken sink.new) (string_bytes text.old ++ told_text net.now told) (string_bytes text.new)) }
-    ensures broken { IfErr result (λ _. (ends : List ℕ) → AreWays graph.now.edges.now ends ways.now → (told : List Broken) × AreFirst (Leads graph.now.edges.now) ends line (node ∷ []) told
-        × AppendsFront (S.taken sink.old) (S.taken sink.new) (string_bytes text.old ++ told_text net.now told)) }
-    ensures failures { S.failures sink.new ≡ failures_after result (S.failures sink.old) }
-{
-    let alloc = *text.allocator();
-    let Ok(found) = graph.least_chain_into(alloc, ways, node) else {
-        return Err(SinkFault::Memory);
-    };
-    let Some(chain) = found else {
-        return Ok(false);
-    };
-    push_broken(text, net, line, chain.as_slice(), sink)?;
-    Ok(true)
-}
-
-/// Gathers the lines of the least chains from some modules, and tells whether there is any.
-fn push_chains<S: Sink>(
-    text: &mut String,
-    net: &Net,
-    graph: &Graph<'_>,
-    ways: &Ways,
-    line: u64,
-    members: &[u32],
-    sink: &mut S,
-) -> Result<bool, SinkFault>
-    requires graph { IsGraph graph.now }
-    requires nodes { length graph.now.before.items ≡ length net.now.names }
-    requires ways { (ends : List ℕ) × AreWays graph.now.edges.now ends ways.now }
-    requires members { All (λ m. m < length net.now.names) members.now }
-    requires ascending { AllPairs (λ v w. v < w) members.now }
-    ensures told { IfOk result (λ any. (ends : List ℕ) → AreWays graph.now.edges.now ends ways.now → (told : List Broken) × AreTold (Leads graph.now.edges.now) ends line members.now told
-        × (any ≡ not (is_none told)) × PutsAllBut (S.taken sink.old) (S.taken sink.new) (string_bytes text.old ++ told_text net.now told) (string_bytes text.new)) }
-    ensures broken { IfErr result (λ _. (ends : List ℕ) → AreWays graph.now.edges.now ends ways.now → (told : List Broken) × AreFirst (Leads graph.now.edges.now) ends line members.now told
-        × AppendsFront (S.taken sink.old) (S.taken sink.new) (string_bytes text.old ++ told_text net.now told)) }
-    ensures failures { S.failures sink.new ≡ failures_after result (S.failures sink.old) }
-{
-    let mut any = false;
-    for member in members {
-        any |= push_chain(text, net, graph, ways, line, *member, sink)?;
+impl<'a> Lines<'a> {
+    /// Appends the line of an import that breaks the rule of a line, with the path to its importing module.
+    fn push_violation(
+        &mut self,
+        judgement: &Judgement<'a, '_>,
+        line: u64,
+        import: usize,
+        path: &[u32],
+    ) -> Result<(), AllocError>
+        requires import { import < length judgement.now.net.now.imports }
+        requires sites { length judgement.now.sites.now ≡ length judgement.now.net.now.imports }
+        requires path { All (λ m. m < length judgement.now.net.now.names) path.now }
+        ensures appended { OnOk result (string_bytes self.new.text ≡ string_bytes self.old.text
+            ++ violation_line (writer_style self.old.places) judgement.now.net.now judgement.now.sites.now (record { line = line; import_number = import; path = path.now })) }
+        ensures style { writer_style self.new.places ≡ writer_style self.old.places }
+    {
+        let net = judgement.net;
+        net.keeps();
+        let site = judgement.sites[import];
+        self.places
+            .push_start(&mut self.text, site.path, site.line, site.column)?;
+        write!(self.text, ": no {line}")?;
+        push_names(&mut self.text, net, path)?;
+        push_name(&mut self.text, net.name(net.imports()[import].to))?;
+        self.text.push('\n')
     }
-    Ok(any)
 }
 
-/// Gathers the lines of the chains that break a rule, and tells whether there is any.
-fn push_rule<S: Sink>(
-    text: &mut String,
-    net: &Net,
-    rules: &Rules<'_>,
-    graph: &Graph<'_>,
-    rule: Rule,
-    sink: &mut S,
-) -> Result<bool, SinkFault>
-    requires graph { IsGraph graph.now }
-    requires nodes { length graph.now.before.items ≡ length net.now.names }
-    requires by_name { AreByName rules.now.draft.spans.items }
-    ensures told { IfOk result (λ any. (told : List Broken) × AreToldOf (Leads graph.now.edges.now) rules.now.files.items rules.now.draft.spans.items (length net.now.names) (rule ∷ []) told
-        × (any ≡ not (is_none told)) × PutsAllBut (S.taken sink.old) (S.taken sink.new) (string_bytes text.old ++ told_text net.now told) (string_bytes text.new)) }
-    ensures broken { IfErr result (λ _. (told : List Broken) × AreFirstOf (Leads graph.now.edges.now) rules.now.files.items rules.now.draft.spans.items (length net.now.names) (rule ∷ []) told
-        × AppendsFront (S.taken sink.old) (S.taken sink.new) (string_bytes text.old ++ told_text net.now told)) }
-    ensures failures { S.failures sink.new ≡ failures_after result (S.failures sink.old) }
-{
-    net.keeps();
-    let alloc = *text.allocator();
-    let files = rules.files.as_slice();
-    let spans = rules.draft.spans.as_slice();
-    let nodes = net.nodes() as usize;
-    let Ok(ends) = members_of(alloc, files, spans, nodes, rule.second) else {
-        return Err(SinkFault::Memory);
-    };
-    let Ok(members) = members_of(alloc, files, spans, nodes, rule.first) else {
-        return Err(SinkFault::Memory);
-    };
-    let Ok(found) = graph.ways_into(alloc, ends.as_slice(), members.as_slice()) else {
-        return Err(SinkFault::Memory);
-    };
-    let Some(ways) = found else {
-        return Ok(false);
-    };
-    let any = push_chains(text, net, graph, &ways, rule.line, members.as_slice(), sink)?;
-    Ok(any)
-}
-
-/// Gathers the lines of the chains that break the rules, and tells whether there is any.
-fn push_rules<S: Sink>(
-    text: &mut String,
-    net: &Net,
-    rules: &Rules<'_>,
-    graph: &Graph<'_>,
-    sink: &mut S,
-) -> Result<bool, SinkFault>
-    requires graph { IsGraph graph.now }
-    requires nodes { length graph.now.before.items ≡ length net.now.names }
-    requires by_name { AreByName rules.now.draft.spans.items }
-    requires ascending { AllPairs (λ r s. r.line < s.line) rules.now.draft.rules.items }
-    ensures told { IfOk result (λ any. (told : List Broken) × AreToldOf (Leads graph.now.edges.now) rules.now.files.items rules.now.draft.spans.items (length net.now.names) rules.now.draft.rules.items told
-        × (any ≡ not (is_none told)) × PutsAllBut (S.taken sink.old) (S.taken sink.new) (string_bytes text.old ++ told_text net.now told) (string_bytes text.new)) }
-    ensures broken { IfErr result (λ _. (told : List Broken) × AreFirstOf (Leads graph.now.edges.now) rules.now.files.items rules.now.draft.spans.items (length net.now.names) rules.now.draft.rules.items told
-        × AppendsFront (S.taken sink.old) (S.taken sink.new) (string_bytes text.old ++ told_text net.now told)) }
-    ensures failures { S.failures sink.new ≡ failures_after result (S.failures sink.old) }
-{
-    let mut any = false;
-    for rule in rules.draft.rules.as_slice() {
-        any |= push_rule(text, net, rules, graph, *rule, sink)?;
+impl<'a> Judgement<'a, '_> {
+    /// Writes the line of an import if it breaks the rule of a line, and returns whether it does.
+    fn write_import<S: Sink>(
+        &self,
+        lines: &mut Lines<'a>,
+        search: &RuleSearch,
+        line: u64,
+        import: usize,
+        sink: &mut S,
+    ) -> Result<bool, SinkFault>
+        requires import { import < length self.now.net.now.imports }
+        requires sites { length self.now.sites.now ≡ length self.now.net.now.imports }
+        requires judged { (files : List TreeFile) × (pieces : List (List ℕ)) × AreRulesOf self.now.net.now files pieces self.now.rules.now × IsSearchFor self.now.net.now files pieces line search.now }
+        ensures written { IfOk result (λ broken. (files : List TreeFile) (pieces : List (List ℕ)) → AreRulesOf self.now.net.now files pieces self.now.rules.now → IsSearchFor self.now.net.now files pieces line search.now
+            → (violations : List Violation) × AreOfRule self.now.net.now files pieces line import (import + 1) violations × (broken ≡ not (is_none violations))
+            × PutsAllBut (S.taken sink.old) (S.taken sink.new) (string_bytes lines.old.text ++ flat_map (violation_line (writer_style lines.old.places) self.now.net.now self.now.sites.now) violations) (string_bytes lines.new.text)) }
+        ensures prefix { IfErr result (λ _. (files : List TreeFile) (pieces : List (List ℕ)) → AreRulesOf self.now.net.now files pieces self.now.rules.now → IsSearchFor self.now.net.now files pieces line search.now
+            → (high : ℕ) × (violations : List Violation) × (import ≤ high) × AreOfRule self.now.net.now files pieces line import high violations
+            × AppendsFront (S.taken sink.old) (S.taken sink.new) (string_bytes lines.old.text ++ flat_map (violation_line (writer_style lines.old.places) self.now.net.now self.now.sites.now) violations)) }
+        ensures style { writer_style lines.new.places ≡ writer_style lines.old.places }
+        ensures failures { S.failures sink.new ≡ failures_after result (S.failures sink.old) }
+    {
+        self.net.keeps();
+        let ends = self.net.imports()[import];
+        if self.rules.allowed[import] || !search.targets[ends.to as usize] {
+            return Ok(false);
+        }
+        let alloc = *lines.text.allocator();
+        let Ok(found) = search.search.path_to(alloc, ends.from) else {
+            return Err(SinkFault::Memory);
+        };
+        let Some(path) = found else {
+            return Ok(false);
+        };
+        if lines
+            .push_violation(self, line, import, path.as_slice())
+            .is_err()
+        {
+            return Err(SinkFault::Memory);
+        }
+        put_enough(&mut lines.text, sink)?;
+        Ok(true)
     }
-    Ok(any)
+
+    /// Writes the lines of the imports that break the rule of a line, and returns whether there is one.
+    fn write_imports<S: Sink>(
+        &self,
+        lines: &mut Lines<'a>,
+        search: &RuleSearch,
+        line: u64,
+        sink: &mut S,
+    ) -> Result<bool, SinkFault>
+        requires sites { length self.now.sites.now ≡ length self.now.net.now.imports }
+        requires judged { (files : List TreeFile) × (pieces : List (List ℕ)) × AreRulesOf self.now.net.now files pieces self.now.rules.now × IsSearchFor self.now.net.now files pieces line search.now }
+        ensures written { IfOk result (λ broken. (files : List TreeFile) (pieces : List (List ℕ)) → AreRulesOf self.now.net.now files pieces self.now.rules.now → IsSearchFor self.now.net.now files pieces line search.now
+            → (violations : List Violation) × AreOfRule self.now.net.now files pieces line 0 (length self.now.net.now.imports) violations × (broken ≡ not (is_none violations))
+            × PutsAllBut (S.taken sink.old) (S.taken sink.new) (string_bytes lines.old.text ++ flat_map (violation_line (writer_style lines.old.places) self.now.net.now self.now.sites.now) violations) (string_bytes lines.new.text)) }
+        ensures prefix { IfErr result (λ _. (files : List TreeFile) (pieces : List (List ℕ)) → AreRulesOf self.now.net.now files pieces self.now.rules.now → IsSearchFor self.now.net.now files pieces line search.now
+            → (high : ℕ) × (violations : List Violation) × AreOfRule self.now.net.now files pieces line 0 high violations
+            × AppendsFront (S.taken sink.old) (S.taken sink.new) (string_bytes lines.old.text ++ flat_map (violation_line (writer_style lines.old.places) self.now.net.now self.now.sites.now) violations)) }
+        ensures style { writer_style lines.new.places ≡ writer_style lines.old.places }
+        ensures failures { S.failures sink.new ≡ failures_after result (S.failures sink.old) }
+    {
+        let mut any = false;
+        for import in 0..self.net.imports().len() {
+            any |= self.write_import(lines, search, line, import, sink)?;
+        }
+        Ok(any)
+    }
+
+    /// Writes the lines of the imports that break a rule, and returns whether there is one.
+    fn write_rule<S: Sink>(
+        &self,
+        lines: &mut Lines<'a>,
+        graph: &Graph<'_>,
+        rule: Rule,
+        sink: &mut S,
+    ) -> Result<bool, SinkFault>
+        requires sites { length self.now.sites.now ≡ length self.now.net.now.imports }
+        requires graph { IsCountedGraph self.now.net.now self.now.rules.now graph.now }
+        requires rule { IsFirstRule self.now.rules.now.rules.items rule }
+        requires judged { (files : List TreeFile) × (pieces : List (List ℕ)) × AreRulesOf self.now.net.now files pieces self.now.rules.now }
+        ensures written { IfOk result (λ broken. (files : List TreeFile) (pieces : List (List ℕ)) → AreRulesOf self.now.net.now files pieces self.now.rules.now
+            → (violations : List Violation) × AreOfRule self.now.net.now files pieces rule.line 0 (length self.now.net.now.imports) violations × (broken ≡ not (is_none violations))
+            × PutsAllBut (S.taken sink.old) (S.taken sink.new) (string_bytes lines.old.text ++ flat_map (violation_line (writer_style lines.old.places) self.now.net.now self.now.sites.now) violations) (string_bytes lines.new.text)) }
+        ensures prefix { IfErr result (λ _. (files : List TreeFile) (pieces : List (List ℕ)) → AreRulesOf self.now.net.now files pieces self.now.rules.now
+            → (high : ℕ) × (violations : List Violation) × AreOfRule self.now.net.now files pieces rule.line 0 high violations
+            × AppendsFront (S.taken sink.old) (S.taken sink.new) (string_bytes lines.old.text ++ flat_map (violation_line (writer_style lines.old.places) self.now.net.now self.now.sites.now) violations)) }
+        ensures style { writer_style lines.new.places ≡ writer_style lines.old.places }
+        ensures failures { S.failures sink.new ≡ failures_after result (S.failures sink.old) }
+    {
+        self.net.keeps();
+        let alloc = *lines.text.allocator();
+        let Ok(search) = self.rules.search(alloc, self.net, graph, rule) else {
+            return Err(SinkFault::Memory);
+        };
+        let any = self.write_imports(lines, &search, rule.line, sink)?;
+        Ok(any)
+    }
+
+    /// Writes the lines of the imports that break the rules, and returns whether there is one.
+    fn write_rules<S: Sink>(
+        &self,
+        lines: &mut Lines<'a>,
+        graph: &Graph<'_>,
+        sink: &mut S,
+    ) -> Result<bool, SinkFault>
+        requires sites { length self.now.sites.now ≡ length self.now.net.now.imports }
+        requires graph { IsCountedGraph self.now.net.now self.now.rules.now graph.now }
+        requires judged { (files : List TreeFile) × (pieces : List (List ℕ)) × AreRulesOf self.now.net.now files pieces self.now.rules.now }
+        ensures written { IfOk result (λ broken. (files : List TreeFile) (pieces : List (List ℕ)) → AreRulesOf self.now.net.now files pieces self.now.rules.now
+            → (violations : List Violation) × AreViolations self.now.net.now files pieces violations × (broken ≡ not (is_none violations))
+            × PutsAllBut (S.taken sink.old) (S.taken sink.new) (string_bytes lines.old.text ++ flat_map (violation_line (writer_style lines.old.places) self.now.net.now self.now.sites.now) violations) (string_bytes lines.new.text)) }
+        ensures prefix { IfErr result (λ _. (files : List TreeFile) (pieces : List (List ℕ)) → AreRulesOf self.now.net.now files pieces self.now.rules.now → (violations : List Violation) → AreViolations self.now.net.now files pieces violations
+            → AppendsFront (S.taken sink.old) (S.taken sink.new) (string_bytes lines.old.text ++ flat_map (violation_line (writer_style lines.old.places) self.now.net.now self.now.sites.now) violations)) }
+        ensures style { writer_style lines.new.places ≡ writer_style lines.old.places }
+        ensures failures { S.failures sink.new ≡ failures_after result (S.failures sink.old) }
+    {
+        self.net.keeps();
+        let mut any = false;
+        for rule in self.rules.rules.as_slice() {
+            if !self.rules.is_repeated(*rule) {
+                any |= self.write_rule(lines, graph, *rule, sink)?;
+            }
+        }
+        Ok(any)
+    }
+
+    /// Writes the lines of the stale allows.
+    fn write_stale<S: Sink>(&self, lines: &mut Lines<'a>, sink: &mut S) -> Result<(), SinkFault>
+        ensures written { OnOk result (PutsAllBut (S.taken sink.old) (S.taken sink.new) (string_bytes lines.old.text ++ flat_map stale_line (map stale_of self.now.rules.now.stale.items)) (string_bytes lines.new.text)) }
+        ensures prefix { IfErr result (λ _. AppendsFront (S.taken sink.old) (S.taken sink.new) (string_bytes lines.old.text ++ flat_map stale_line (map stale_of self.now.rules.now.stale.items))) }
+        ensures failures { S.failures sink.new ≡ failures_after result (S.failures sink.old) }
+    {
+        for stale in self.rules.stale.as_slice() {
+            if push_stale(&mut lines.text, stale).is_err() {
+                return Err(SinkFault::Memory);
+            }
+            put_enough(&mut lines.text, sink)?;
+        }
+        Ok(())
+    }
 }
 
-/// Puts `yes` where no rule is broken, and else a line `no LINE A .. B` for each chain that is told: for each broken rule, in order, and each module of its first
-/// name from which a chain of one or more imports that no line allows leads into its second name, by name, the least such chain: the fewest imports, then the
-/// least names. Tells whether all rules are kept. Refuses with `Device` and `Memory`; the sink has then taken a front of such lines, or of `yes`.
-pub fn write_verdict<S: Sink>(
+/// What is still to be written: `yes` if no line was, else the gathered lines.
+fn rest_of(clean: bool, text: &str) -> &[u8]
+    ensures { result.now ≡ (if clean then codes "yes" ++ 10 ∷ [] else text.now) }
+{
+    if clean { b"yes\n" } else { text.as_bytes() }
+}
+
+/// Writes a line `PATH:LINE:COL: no LINE A .. M N` for each import that breaks a rule, by the line of the rule and then by the names of the import's two modules,
+/// and then a line `stale LINE M N` for each `allow` of an import that the network doesn't have, by line; or `yes` if there is none, which is the result.
+///
+/// An import of N by M that no line allows breaks
+/// - `forbid X Y` if N is in Y, and M in X or at the end of a path of such imports from a module of X that enters no module of Y after its start;
+/// - `forbid-import X Y` if M is in X and N in Y;
+/// - `may X Y`, and is written at the first such line of X, if M is in X, and N neither in X nor in any such Y.
+///
+/// PATH:LINE:COL is the import's site in this style. A .. M is the shortest such path, with the smallest names from the first on, and M alone for the other two
+/// kinds. Errors are `Device` and `Memory`; the sink has then taken a prefix of the text.
+pub fn write_verdict<'a, S: Sink>(
     alloc: Global,
-    net: &Net,
-    rules: &Rules<'_>,
+    net: &'a Net,
+    rules: &Rules<'a>,
+    sites: &'a [Site<'a>],
+    style: PlaceStyle<'a>,
     sink: &mut S,
 ) -> Result<bool, SinkFault>
-    requires { (files : List TreeFile) × (pieces : List (List ℕ)) × AreRulesOf net.now files pieces rules.now }
-    // The chains that are told are all that break the rules, and they are kept exactly where there is none.
-    ensures told { IfOk result (λ kept. (files : List TreeFile) (pieces : List (List ℕ)) → AreRulesOf net.now files pieces rules.now → (broken : List Broken) × AreBroken net.now files pieces broken
-        × (kept ≡ is_none broken) × Appends (S.taken sink.old) (S.taken sink.new) (verdict_text net.now broken)) }
-    // After a refusal a front of the lines of the first such chains is taken, or of yes where there is none.
-    ensures broken { IfErr result (λ _. (files : List TreeFile) (pieces : List (List ℕ)) → AreRulesOf net.now files pieces rules.now → PutsSome net.now files pieces (S.taken sink.old) (S.taken sink.new)) }
-    // It is a front of the text of all that are told.
-    ensures front { IfErr result (λ _. (files : List TreeFile) (pieces : List (List ℕ)) → AreRulesOf net.now files pieces rules.now → (broken : List Broken) → AreBroken net.now files pieces broken
-        → AppendsFront (S.taken sink.old) (S.taken sink.new) (verdict_text net.now broken)) }
-    // Device is answered where the sink counted a failure, and nowhere else.
+    // The rules are those of a text.
+    requires rules { (files : List TreeFile) × (pieces : List (List ℕ)) × AreRulesOf net.now files pieces rules.now }
+    // Each import has a site.
+    requires sites { length sites.now ≡ length net.now.imports }
+    // The text has a line for exactly the imports that break the rules and exactly the stale lines; the result is whether it has none.
+    ensures exact { IfOk result (λ clean. (files : List TreeFile) (pieces : List (List ℕ)) → AreRulesOf net.now files pieces rules.now
+        → (violations : List Violation) × (stale : List Stale) × AreViolations net.now files pieces violations × AreStaleLines net.now pieces stale
+        × (clean ≡ is_clean violations stale) × Appends (S.taken sink.old) (S.taken sink.new) (verdict_text (style_of style.entry) net.now sites.now violations stale)) }
+    // After an error the sink has taken a prefix of it.
+    ensures prefix { IfErr result (λ _. (files : List TreeFile) (pieces : List (List ℕ)) → AreRulesOf net.now files pieces rules.now
+        → (violations : List Violation) (stale : List Stale) → AreViolations net.now files pieces violations → AreStaleLines net.now pieces stale
+        → AppendsFront (S.taken sink.old) (S.taken sink.new) (verdict_text (style_of style.entry) net.now sites.now violations stale)) }
+    // Device is returned if the sink counted a failure, and nowhere else.
     ensures failures { S.failures sink.new ≡ failures_after result (S.failures sink.old) }
 {
     net.keeps();
-    let Ok(edges) = counted_edges(alloc, net, rules.draft.allowed.as_slice()) else {
+    let Ok(edges) = counted_edges(alloc, net, rules.allowed.as_slice()) else {
         return Err(SinkFault::Memory);
     };
     let Ok(graph) = graph_of(alloc, edges.as_slice(), net.nodes() as usize) else {
         return Err(SinkFault::Memory);
     };
-    let mut text = String::new(alloc);
-    let any = push_rules(&mut text, net, rules, &graph, sink)?;
-    if !any {
-        put_all(sink, b"yes\n")?;
-        return Ok(true);
-    }
-    put_all(sink, text.as_bytes())?;
-    Ok(false)
+    let judgement = Judgement { net, rules, sites };
+    let mut lines = Lines {
+        places: PlaceWriter::new(style),
+        text: String::new(alloc),
+    };
+    let broken = judgement.write_rules(&mut lines, &graph, sink)?;
+    judgement.write_stale(&mut lines, sink)?;
+    let clean = !broken && rules.stale.is_empty();
+    put_all(sink, rest_of(clean, lines.text.as_str()))?;
+    Ok(clean)
 }

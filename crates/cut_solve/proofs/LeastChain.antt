@@ -9,7 +9,7 @@ use Rattle.std.proofs.lemmas.Bool.{cases_eq, cases_lt}
 use Rattle.digraph.specs.declared.edge.Edge.{Edge}
 use Rattle.digraph.specs.Chains.{Chain, IsChain}
 use Rattle.digraph.specs.Edges.{Leads}
-use Rattle.digraph.specs.Levels.{AreChain, HasChain, IsLeastChain}
+use Rattle.digraph.specs.ShortestPaths.{AreChain, HasChain, IsLeastChain}
 use Rattle.digraph.proofs.Members.{first_member, first_or_later, later_member, no_member}
 
 abbrev Decided : Type 0 → Type 0

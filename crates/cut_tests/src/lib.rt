@@ -33,6 +33,8 @@ mod preflows;
 #[cfg(test)]
 mod put_nets;
 #[cfg(test)]
+mod rule_files;
+#[cfg(test)]
 mod rules;
 #[cfg(test)]
 mod sinks;

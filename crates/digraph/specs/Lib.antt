@@ -3,9 +3,9 @@ pub mod Chains
 pub mod Cycle
 pub mod Edges
 pub mod Graphs
-pub mod Levels
 pub mod Marks
 pub mod Ranks
+pub mod Search
+pub mod ShortestPaths
 pub mod Spreading
 pub mod Trails
-pub mod Ways

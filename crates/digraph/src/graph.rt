@@ -1,4 +1,4 @@
-//! Graphs by the neighbours of each node.
+//! Graphs by the successors of each node.
 ghost use Rattle.std.specs.Prelude.{◌≡◌, ◌≤◌, IfOk, vec_len, ℕ};
 ghost use Rattle.digraph.specs.Edges.{successors, AreBetween, IsAscending};
 ghost use Rattle.digraph.specs.Graphs.{IsGraph};
@@ -8,13 +8,11 @@ use crate::Edge;
 use crate::rows::{flipped, rows_of};
 use std::alloc::{AllocError, Global};
 
-/// The edges of a graph, with the neighbours of each node, so that many chains are found in it.
+/// The edges of a graph, with the successors of each node, so that it is searched more than once.
 #[derive(Drop)]
 pub struct Graph<'a> {
     /// The edges, in ascending order.
     pub edges: &'a [Edge],
-    /// Per node those with an edge to it.
-    pub before: Vec<Vec<u32>>,
     /// Per node those to which it has an edge.
     pub after: Vec<Vec<u32>>,
 }
@@ -37,13 +35,8 @@ pub fn graph_of(alloc: Global, edges: &[Edge], nodes: usize) -> Result<Graph<'_>
     requires few_nodes { nodes ≤ 8192 }
     ensures graph { IfOk result IsGraph }
     ensures edges { IfOk result (λ graph. graph.edges.now ≡ edges.now) }
-    ensures nodes { IfOk result (λ graph. vec_len graph.before ≡ nodes) }
+    ensures nodes { IfOk result (λ graph. vec_len graph.after ≡ nodes) }
 {
-    let before = rows_of(alloc, edges, nodes)?;
     let after = successors_of(alloc, edges, nodes)?;
-    Ok(Graph {
-        edges,
-        before,
-        after,
-    })
+    Ok(Graph { edges, after })
 }

@@ -1,8 +1,8 @@
-//! Directed graphs: edges between numbered nodes, chains of them, the least chain between two nodes or from a node into some ends, the one cycle that is
-//! named where a chain comes back, and trails of what stands at a node.
+//! Directed graphs: edges between numbered nodes, breadth-first search from some nodes around others, the least chain between two nodes, the one cycle that
+//! is named where a chain comes back, and trails of what stands at a node.
 //! Stands on std alone.
-//! Its contract: a cycle is named exactly where a chain of edges comes back, and at most one is; a chain is found exactly where one leads, and none has
-//! fewer edges; a chain into ends has one edge or more; a trail has exactly the things that stand on it.
+//! Its contract: a cycle is named exactly where a chain of edges comes back, and at most one is; a search finds a path exactly where one leads, and no path
+//! is shorter; a trail has exactly the things that stand on it.
 #![tactic(auto)]
 
 mod arrivals;
@@ -11,13 +11,12 @@ mod endless;
 mod graph;
 pub mod laws;
 mod least;
-mod levels;
 mod named;
 mod on_trails;
 mod ranks;
 mod rows;
+mod search;
 mod walk;
-mod ways;
 
 pub use edge::Edge;
 pub use endless::is_marked;
@@ -27,4 +26,4 @@ pub use named::cycle;
 pub use on_trails::{Trails, trails_of};
 pub use ranks::{put_in_order, ranks_of, renumbered};
 pub use rows::{flipped, rows_of};
-pub use ways::Ways;
+pub use search::Search;

@@ -3,6 +3,7 @@ use Rattle.std.proofs.Common.{◌≡◌, ℕ, List, ◌++◌, Option, Some, None
 use Rattle.std.specs.Prelude.{codes}
 use Rattle.hex.specs.Hex.{encode_lower}
 use Rattle.ob_board.proofs.OneIndex.{one_index, one_unresolved}
+use Rattle.text_escape.specs.Places.{Style}
 use Rattle.index_run.specs.IndexRuns.{unresolved_lines, IsHexText, IsIndexText, IsUnresolvedText, PutsText}
 use Rattle.oscip_tree.specs.declared.source.Source.{Source}
 use Rattle.scip_index.specs.Written.{written}
@@ -21,5 +22,5 @@ module _ (sources : List Source) where
   hex_once package_name root text other a b =
       a.text_is ∙ ap (λ (bytes : List ℕ). encode_lower bytes ++ codes "\n") (index_once package_name root a.bytes b.bytes a.is_index b.is_index) ∙ sym b.text_is
 
-  pub unresolved_once : (text other : List ℕ) → IsUnresolvedText sources text → IsUnresolvedText sources other → text ≡ other
-  unresolved_once text other a b = a.text_is ∙ ap unresolved_lines (one_unresolved sources a.rows b.rows a.are_rows b.are_rows) ∙ sym b.text_is
+  pub unresolved_once : (style : Style) (text other : List ℕ) → IsUnresolvedText style sources text → IsUnresolvedText style sources other → text ≡ other
+  unresolved_once style text other a b = a.text_is ∙ ap (unresolved_lines style) (one_unresolved sources a.rows b.rows a.are_rows b.are_rows) ∙ sym b.text_is

@@ -1,18 +1,16 @@
--- What a run on the modules of a folder reads and puts. Answers are the answers of the reader.
-use Rattle.std.specs.Prelude.{◌≡◌, ◌⊎◌, ℕ, Bool, true, List, Option, Result, IfOk}
+-- What a run on the modules of a tree reads and writes. Answers are the answers of the reader.
+use Rattle.std.specs.Prelude.{ℕ, List, Option, Result}
 use Rattle.index_run.specs.IndexRuns.{IsUnresolvedRun}
-use Rattle.oscip_run.specs.FileRuns.{IsUnread}
+use Rattle.oscip_job.specs.declared.job.SourceTree.{SourceTree}
 use Rattle.oscip_run.specs.JobRuns.{without_answer}
-use Rattle.oscip_run.specs.Readings.{FolderOf, Reading, Refused}
+use Rattle.oscip_run.specs.Readings.{Reading}
+use Rattle.oscip_run.specs.TreeQuestionRuns.{NeverSaysNo}
+use Rattle.oscip_run.specs.Styles.{style_of_tree}
+use Rattle.oscip_run.specs.TreeRuns.{IsTreeRun}
 use Rattle.oscip_run.specs.declared.fault.RunFault.{RunFault}
-use Rattle.oscip_tree.specs.declared.source.Source.{Source}
+use Rattle.oscip_run.specs.declared.tree_run.TreeRun.{TreeRun}
 
--- the reader refuses the folder with this fault
-abbrev pub IsFolderNotGiven : (Reading → Type 0) → List ℕ → RunFault → Type 0
-IsFolderNotGiven Answers path fault = Answers (Refused path fault)
-
--- a run that tells what stands for nothing in the modules that the reader gave of the folder; lines that are put are no check that says no
-abbrev pub IsUnresolvedFolderRun : (Reading → Type 0) → List ℕ → Option (List ℕ) → Option (List ℕ) → Result Bool RunFault → Type 0
-IsUnresolvedFolderRun Answers path old new result =
-    IsUnread (IsFolderNotGiven Answers path) old new result
-    ⊎ ((sources : List Source) × Answers (FolderOf path sources) × IsUnresolvedRun sources old new (without_answer result) × IfOk result (λ agrees. agrees ≡ true))
+-- a run that lists the unresolved identifiers of a tree; a list is no check that says no
+abbrev pub IsUnresolvedRunOn : (Reading → Type 0) → SourceTree → Option (List ℕ) → Option (List ℕ) → Result TreeRun RunFault → Type 0
+IsUnresolvedRunOn Answers tree old new result =
+    IsTreeRun Answers tree (λ used ended. IsUnresolvedRun (style_of_tree tree) used old new (without_answer ended) × NeverSaysNo ended) old new result

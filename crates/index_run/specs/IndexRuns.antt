@@ -1,6 +1,5 @@
 -- What a run that indexes a tree reads and puts.
 use Rattle.std.specs.Prelude.{◌≡◌, ◌⊎◌, ℕ, List, ◌++◌, Option, Result, Ok, Err, codes}
-use Rattle.std.specs.Fmt.{decimal}
 use Rattle.std.specs.Io.KnownBytes.{Appends, Keeps}
 use Rattle.std.specs.List.{flat_map}
 use Rattle.std.specs.String.{string_bytes}
@@ -17,7 +16,7 @@ use Rattle.oscip_run.specs.declared.fault.RunFault.TheVariants.{CannotRead, Cann
 use Rattle.oscip_tree.specs.declared.source.Source.{Source}
 use Rattle.scip_index.specs.Plain.{PlainIndex}
 use Rattle.scip_index.specs.Written.{written}
-use Rattle.text_escape.specs.Escapes.{escaped}
+use Rattle.text_escape.specs.Places.{location_text, Style}
 
 -- the bytes are the written form of the index of the tree
 pub record IsIndexText (sources : List Source) (package_name root text : List ℕ) : Type 0 where
@@ -31,20 +30,19 @@ pub record IsHexText (sources : List Source) (package_name root text : List ℕ)
   pub is_index : IsIndexText sources package_name root bytes
   pub text_is : text ≡ encode_lower bytes ++ codes "\n"
 
--- PATH:LINE:COL NAME and the end of the line: an identifier that stands for nothing, and where it begins, with the path's control
--- characters written out
-abbrev pub unresolved_line : PlainUnresolved → List ℕ
-unresolved_line row = escaped row.path ++ codes ":" ++ decimal row.line ++ codes ":" ++ decimal row.column ++ codes " " ++ row.name ++ codes "\n"
+-- PATH:LINE:COL NAME and the end of the line: an identifier that can't be resolved, and where it begins, in this style
+abbrev pub unresolved_line : Style → PlainUnresolved → List ℕ
+unresolved_line style row = location_text style row.path row.line row.column ++ codes " " ++ row.name ++ codes "\n"
 
 -- a line for each of them, in their order
-abbrev pub unresolved_lines : List PlainUnresolved → List ℕ
-unresolved_lines rows = flat_map unresolved_line rows
+abbrev pub unresolved_lines : Style → List PlainUnresolved → List ℕ
+unresolved_lines style rows = flat_map (unresolved_line style) rows
 
 -- the text has exactly the lines of the identifiers of the tree that stand for nothing
-pub record IsUnresolvedText (sources : List Source) (text : List ℕ) : Type 0 where
+pub record IsUnresolvedText (style : Style) (sources : List Source) (text : List ℕ) : Type 0 where
   pub rows : List PlainUnresolved
   pub are_rows : AreUnresolved sources rows
-  pub text_is : text ≡ unresolved_lines rows
+  pub text_is : text ≡ unresolved_lines style rows
 
 -- the sink has the whole text
 abbrev pub PutsText : (List ℕ → Type 0) → Option (List ℕ) → Option (List ℕ) → Type 0
@@ -78,8 +76,8 @@ abbrev pub IsHexRun : List Source → List ℕ → List ℕ → Option (List ℕ
 IsHexRun sources package_name root = IsTextRun sources (IsHexText sources package_name root)
 
 -- one that tells what stands for nothing
-abbrev pub IsUnresolvedRun : List Source → Option (List ℕ) → Option (List ℕ) → Result (Unit {0}) RunFault → Type 0
-IsUnresolvedRun sources = IsTextRun sources (IsUnresolvedText sources)
+abbrev pub IsUnresolvedRun : Style → List Source → Option (List ℕ) → Option (List ℕ) → Result (Unit {0}) RunFault → Type 0
+IsUnresolvedRun style sources = IsTextRun sources (IsUnresolvedText style sources)
 
 -- a run with a package and a root, to where the index goes: into a file as it is, or to standard output as a line of digits
 abbrev pub IsRunTo : Output → List Source → List ℕ → List ℕ → Option (List ℕ) → Option (List ℕ) → Result (Unit {0}) RunFault → Type 0

@@ -1,4 +1,3 @@
 pub mod IndexRuns
 pub mod FolderRuns
 pub mod WriterFaults
-pub mod AcceptedRuns

@@ -8,6 +8,7 @@ ghost use Rattle.oscip_run.specs.Faults.{is_device};
 ghost use Rattle.index_run.specs.IndexRuns.{unresolved_line, unresolved_lines, IsHexRun, IsIndexingRun, IsIndexRun, IsUnresolvedRun};
 ghost use Rattle.oscip_tree.specs.Sources.{ArePathsInOrder};
 ghost use Rattle.scip_symbol.specs.Outcomes.{is_wrong_part};
+ghost use Rattle.text_escape.specs.Places.{style_of, writer_style};
 ghost use Rattle.text_pieces.specs.Pieces.{PutsAllBut};
 
 use crate::{hex_line, put_written};
@@ -22,7 +23,7 @@ use scip_index::laws::in_parts;
 use std::alloc::{AllocError, Global};
 use std::sync::Wait;
 use std::thread::Threads;
-use text_escape::EscapingWriter;
+use text_escape::{PlaceStyle, PlaceWriter};
 use text_pieces::put_enough;
 
 /// The gate of a board that lets every worker through at once.
@@ -132,64 +133,72 @@ pub fn answer_index<R: Threads + Wait + Sync, G: BoardGate + Sync, S: Sink>(
 
 /// Adds the line of an identifier that stands for nothing to the text.
 fn push_line<'a>(
-    paths: &mut EscapingWriter<'a>,
+    writer: &mut PlaceWriter<'a>,
     text: &mut String,
     row: &'a Unresolved,
 ) -> Result<(), AllocError>
-    ensures { IfOk result (λ _. string_bytes text.new ≡ string_bytes text.old ++ unresolved_line (plain_unresolved row.now)) }
+    ensures appended { IfOk result (λ _. string_bytes text.new ≡ string_bytes text.old ++ unresolved_line (writer_style writer.old) (plain_unresolved row.now)) }
+    ensures style { writer_style writer.new ≡ writer_style writer.old }
 {
     let (at, name) = (row.at, &row.name);
-    paths.push(text, row.path.as_str())?;
-    writeln!(text, ":{}:{} {name}", at.line, at.column)
+    writer.push_start(text, row.path.as_str(), at.line, at.column)?;
+    writeln!(text, " {name}")
 }
 
 /// Gathers the line of an identifier that stands for nothing, of which pieces are put.
 fn gather_line<'a, S: Sink>(
-    paths: &mut EscapingWriter<'a>,
+    writer: &mut PlaceWriter<'a>,
     text: &mut String,
     row: &'a Unresolved,
     sink: &mut S,
 ) -> Result<(), SinkFault>
     ensures gathered { OnOk result (PutsAllBut (S.taken sink.old) (S.taken sink.new)
-        (string_bytes text.old ++ unresolved_line (plain_unresolved row.now)) (string_bytes text.new)) }
+        (string_bytes text.old ++ unresolved_line (writer_style writer.old) (plain_unresolved row.now)) (string_bytes text.new)) }
     ensures broken { IfErr result (λ _. AppendsFront (S.taken sink.old) (S.taken sink.new)
-        (string_bytes text.old ++ unresolved_line (plain_unresolved row.now))) }
+        (string_bytes text.old ++ unresolved_line (writer_style writer.old) (plain_unresolved row.now))) }
+    ensures style { writer_style writer.new ≡ writer_style writer.old }
     ensures failures { S.failures sink.new ≡ failures_after result (S.failures sink.old) }
 {
-    push_line(paths, text, row).map_err(|_| SinkFault::Memory)?;
+    push_line(writer, text, row).map_err(|_| SinkFault::Memory)?;
     put_enough(text, sink)
 }
 
 /// Puts the lines of identifiers that stand for nothing, in their order, piece by piece. At a refusal a front of them is taken.
-fn put_lines<S: Sink>(alloc: Global, rows: &[Unresolved], sink: &mut S) -> Result<(), SinkFault>
-    ensures puts { Puts (S.taken sink.old) (S.taken sink.new) result (unresolved_lines (map plain_unresolved rows.now)) }
+fn put_lines<S: Sink>(
+    alloc: Global,
+    style: PlaceStyle<'_>,
+    rows: &[Unresolved],
+    sink: &mut S,
+) -> Result<(), SinkFault>
+    ensures puts { Puts (S.taken sink.old) (S.taken sink.new) result (unresolved_lines (style_of style.entry) (map plain_unresolved rows.now)) }
     ensures failures { S.failures sink.new ≡ failures_after result (S.failures sink.old) }
 {
-    let mut paths = EscapingWriter::new();
+    let mut writer = PlaceWriter::new(style);
     let mut text = String::new(alloc);
     for row in rows {
-        gather_line(&mut paths, &mut text, row, sink)?;
+        gather_line(&mut writer, &mut text, row, sink)?;
     }
     put_all(sink, text.as_bytes())
 }
 
-/// Puts a line for each identifier of a tree that stands for nothing and isn't predeclared, as `PATH:LINE:COL NAME`: where it
-/// begins, from 0, columns in bytes, in the order of the files and in each by start. Control characters of a path are written out.
-/// Refuses with `Tree`, `Device` or `Memory`.
+/// Writes a line for each identifier of a tree that can't be resolved and isn't predeclared, as `PATH:LINE:COL NAME`: where it begins,
+/// in this style, columns in bytes, in the order of the files and in each by start. Control characters of a path are written out.
+/// Its errors are `Tree`, `Device` and `Memory`.
 pub fn unresolved_to<R: Threads + Sync, S: Sink>(
     rt: &R,
     alloc: Global,
     sources: &[Source],
+    style: PlaceStyle<'_>,
     sink: &mut S,
 ) -> Result<(), RunFault>
     // The files stand in the order of their paths.
     requires { ArePathsInOrder sources.now }
     // What was read, and the lines that the sink took; after a refusal of the input it took nothing.
-    ensures run { IsUnresolvedRun sources.now (S.taken sink.old) (S.taken sink.new) result }
+    ensures run { IsUnresolvedRun (style_of style.entry) sources.now (S.taken sink.old) (S.taken sink.new) result }
     // Device is answered where the sink counted a failure, and nowhere else.
     ensures failures { S.failures sink.new ≡ failures_by is_device result (S.failures sink.old) }
 {
     let rows = unresolved_in_tree(rt, alloc, sources, READERS)?;
-    put_lines(alloc, rows.as_slice(), sink)?;
+    put_lines(alloc, style, rows.as_slice(), sink)?;
     Ok(())
 }

@@ -3,7 +3,6 @@
 //! Its contract: what an engine puts is what the definitions say of the tree, and nothing else.
 #![tactic(auto)]
 
-mod accepted;
 mod hexadecimal;
 mod indexing;
 pub mod laws;
@@ -11,9 +10,8 @@ mod putting;
 mod reading;
 mod records;
 
-pub use accepted::{AcceptedIndex, answer_index_of_accepted};
 pub use hexadecimal::hex_line;
 pub use indexing::{OpenBoard, answer_index, index_hex_to, index_to, unresolved_to};
 pub use putting::put_index;
-pub use reading::{run_unresolved, sources_to_index};
+pub use reading::run_unresolved;
 pub use records::put_written;

@@ -1,48 +1,57 @@
-//! The modules of a folder that a job names, from any reader.
+//! Runs that list the unresolved identifiers of a tree, over any reader.
 ghost use Rattle.std.specs.Prelude.{◌≡◌, IfErr, IfOk};
-ghost use Rattle.std.specs.String.{string_bytes};
 ghost use Rattle.byte_sink.specs.Sinks.{failures_by};
-ghost use Rattle.index_run.specs.FolderRuns.{IsFolderNotGiven, IsUnresolvedFolderRun};
-ghost use Rattle.oscip_run.specs.Faults.{is_device, IsReadFault};
-ghost use Rattle.oscip_run.specs.Readings.{FolderOf};
+ghost use Rattle.index_run.specs.FolderRuns.{IsUnresolvedRunOn};
+ghost use Rattle.index_run.specs.IndexRuns.{IsUnresolvedRun};
+ghost use Rattle.oscip_run.specs.JobRuns.{without_answer};
+ghost use Rattle.oscip_run.specs.TreeQuestionRuns.{NeverSaysNo};
 ghost use Rattle.oscip_tree.specs.Sources.{ArePathsInOrder};
+ghost use Rattle.text_escape.specs.Places.{style_of};
+ghost use Rattle.oscip_run.specs.Faults.{is_device};
 
 use crate::unresolved_to;
 use byte_sink::Sink;
-use oscip_job::Indexing;
-use oscip_run::{Reader, RunFault};
-use oscip_tree::Source;
+use oscip_job::SourceTree;
+use oscip_run::{READERS, Reader, RunFault, TreeRun, style_of_tree, tree_files};
+use oscip_tree::{PartedFiles, Source};
 use std::alloc::Global;
 use std::thread::Threads;
+use text_escape::PlaceStyle;
 
-/// The modules that the reader gives of the folder that a job indexes: what `answer_index` asks for. Refuses with the fault of the
-/// reader.
-pub fn sources_to_index<F: Reader>(reader: &F, indexing: &Indexing) -> Result<Vec<Source>, RunFault>
-    // They are the reader's, of the job's own folder.
-    ensures given { IfOk result (λ sources. F.answers reader.now (FolderOf (string_bytes indexing.now.folder) sources.items)) }
-    ensures order { IfOk result (λ sources. ArePathsInOrder sources.items) }
-    // Else that folder is refused.
-    ensures refused { IfErr result (IsFolderNotGiven (F.answers reader.now) (string_bytes indexing.now.folder)) }
-    ensures fault { IfErr result IsReadFault }
+/// Lists the unresolved identifiers of these modules.
+fn ask_unresolved<R: Threads + Sync, S: Sink>(
+    rt: &R,
+    alloc: Global,
+    sources: &[Source],
+    style: PlaceStyle<'_>,
+    sink: &mut S,
+) -> Result<bool, RunFault>
+    requires { ArePathsInOrder sources.now }
+    ensures run { IsUnresolvedRun (style_of style.entry) sources.now (S.taken sink.old) (S.taken sink.new) (without_answer result) }
+    ensures answer { NeverSaysNo result }
+    ensures failures { S.failures sink.new ≡ failures_by is_device result (S.failures sink.old) }
 {
-    reader.modules(indexing.folder.as_str())
+    unresolved_to(rt, alloc, sources, style, sink)?;
+    Ok(true)
 }
 
-/// Tells which identifiers stand for nothing in the modules that the reader gives of a folder. Nothing of it is a check that says no.
-/// Refuses with the fault of the reader, and then as `unresolved_to` does.
+/// Lists the unresolved identifiers of the modules that the reader gives of a tree. The list is no check that says no. Fails with the
+/// fault of the reader for the tree's folder, or with `Memory`, before anything is written.
 pub fn run_unresolved<R: Threads + Sync, F: Reader, S: Sink>(
     rt: &R,
     alloc: Global,
     reader: &F,
-    folder: &str,
+    tree: &SourceTree,
     sink: &mut S,
-) -> Result<bool, RunFault>
-    // Of what the reader gave the sink took the lines; where the folder can't be read it took nothing.
-    ensures run { IsUnresolvedFolderRun (F.answers reader.now) folder.now (S.taken sink.old) (S.taken sink.new) result }
-    // Device is answered where the sink counted a failure, and nowhere else.
-    ensures failures { S.failures sink.new ≡ failures_by is_device result (S.failures sink.old) }
+) -> Result<TreeRun, RunFault>
+    // Which files the run used, the faults of those that were left out, and what the run on the files did.
+    ensures run { IsUnresolvedRunOn (F.answers reader.now) tree.now (S.taken sink.old) (S.taken sink.new) result }
+    // That run ended with Device if the sink counted a failure, and only then.
+    ensures failures { IfOk result (λ run. S.failures sink.new ≡ failures_by is_device run.ended (S.failures sink.old)) }
+    // If there was no run, the sink didn't fail.
+    ensures failed { IfErr result (λ _. S.failures sink.new ≡ S.failures sink.old) }
 {
-    let sources = reader.modules(folder)?;
-    unresolved_to(rt, alloc, sources.as_slice(), sink)?;
-    Ok(true)
+    let PartedFiles { accepted, faults } = tree_files(rt, alloc, reader, tree, READERS)?;
+    let ended = ask_unresolved(rt, alloc, accepted.as_slice(), style_of_tree(tree), sink);
+    Ok(TreeRun { faults, ended })
 }

@@ -6,31 +6,32 @@ use Rattle.std.proofs.lemmas.Grind.{flat_map-append}
 use Rattle.std.proofs.lemmas.List.{map_more, map-append, take-append-drop}
 use Rattle.byte_sink.specs.declared.sink.SinkFault.{SinkFault}
 use Rattle.byte_sink.specs.Sinks.{AppendsFront, Puts}
+use Rattle.text_escape.specs.Places.{Style}
 use Rattle.index_store.specs.declared.place.Place.{Place}
 use Rattle.index_store.specs.Queries.{plain_place}
 use Rattle.index_store.specs.Lines.{place_line, place_lines}
 
 -- the lines of the places so far
-abbrev pub lines_to : List Place → ℕ → List ℕ
-lines_to places k = place_lines (map plain_place (take k places))
+abbrev pub lines_to : Style → List Place → ℕ → List ℕ
+lines_to style places k = place_lines style (map plain_place (take k places))
 
-abbrev pub all_lines : List Place → List ℕ
-all_lines places = place_lines (map plain_place places)
+abbrev pub all_lines : Style → List Place → List ℕ
+all_lines style places = place_lines style (map plain_place places)
 
 -- they are a front of all lines
-pub lines_front : (places : List Place) (k : ℕ) → all_lines places ≡ lines_to places k ++ place_lines (map plain_place (drop k places))
-lines_front places k =
-    ap all_lines (sym (take-append-drop k places)) ∙ ap place_lines (map-append plain_place (take k places) (drop k places))
-    ∙ flat_map-append place_line (map plain_place (take k places)) (map plain_place (drop k places))
+pub lines_front : (style : Style) (places : List Place) (k : ℕ) → all_lines style places ≡ lines_to style places k ++ place_lines style (map plain_place (drop k places))
+lines_front style places k =
+    ap (all_lines style) (sym (take-append-drop k places)) ∙ ap (place_lines style) (map-append plain_place (take k places) (drop k places))
+    ∙ flat_map-append (place_line style) (map plain_place (take k places)) (map plain_place (drop k places))
 
 -- one line more, and some of the lines that were gathered are put
-pub lines_more : (places : List Place) (k : ℕ) (d : Place) (done before moved gathered after : List ℕ) → k < length places → lines_to places k ≡ done ++ before → before ≡ moved ++ gathered
-    → after ≡ gathered ++ place_line (plain_place (get_or places k d)) → lines_to places (k + 1) ≡ (done ++ moved) ++ after
-lines_more places k d done before moved gathered after l so_far split more =
-    let line = place_line (plain_place (get_or places k d)) in
-    let one : lines_to places (k + 1) ≡ lines_to places k ++ (line ++ []) =
-    ap place_lines (map_more plain_place places k d l) ∙ flat_map-append place_line (map plain_place (take k places)) (plain_place (get_or places k d) ∷ []) in
-    one ∙ ap (λ (t : List ℕ). lines_to places k ++ t) (append-nil line) ∙ ap (λ (t : List ℕ). t ++ line) (so_far ∙ ap (λ (t : List ℕ). done ++ t) split)
+pub lines_more : (style : Style) (places : List Place) (k : ℕ) (d : Place) (done before moved gathered after : List ℕ) → k < length places → lines_to style places k ≡ done ++ before → before ≡ moved ++ gathered
+    → after ≡ gathered ++ place_line style (plain_place (get_or places k d)) → lines_to style places (k + 1) ≡ (done ++ moved) ++ after
+lines_more style places k d done before moved gathered after l so_far split more =
+    let line = place_line style (plain_place (get_or places k d)) in
+    let one : lines_to style places (k + 1) ≡ lines_to style places k ++ (line ++ []) =
+    ap (place_lines style) (map_more plain_place places k d l) ∙ flat_map-append (place_line style) (map plain_place (take k places)) (plain_place (get_or places k d) ∷ []) in
+    one ∙ ap (λ (t : List ℕ). lines_to style places k ++ t) (append-nil line) ∙ ap (λ (t : List ℕ). t ++ line) (so_far ∙ ap (λ (t : List ℕ). done ++ t) split)
     ∙ ap (λ (t : List ℕ). t ++ line) (sym (append_assoc done moved gathered)) ∙ append_assoc (done ++ moved) gathered line ∙ ap (λ (t : List ℕ). (done ++ moved) ++ t) (sym more)
 
 -- what was put, and then a front of what was gathered, is a front of all

@@ -7,6 +7,7 @@ use Rattle.byte_sink.specs.Sinks.{AppendsFront}
 use Rattle.proto_wire.specs.declared.fault.WireFault.{WireFault}
 use Rattle.proto_wire.specs.declared.fault.WireFault.TheVariants as wire
 use Rattle.proto_wire.specs.Faults.{UnlessMemory}
+use Rattle.text_escape.specs.Places.{Style}
 use Rattle.scip_index.specs.Meaning.{index_fault, IsIndexOutcome, Means}
 use Rattle.scip_index.specs.Plain.{PlainIndex}
 use Rattle.index_store.specs.declared.fault.StoreFault.{StoreFault}
@@ -32,26 +33,26 @@ refused_bytes bytes (wire.BadText at) h = h
 refused_bytes bytes wire.Device h = first_never index_fault index_never 0 bytes h
 refused_bytes bytes wire.Memory h = tt
 
-pub refused_index : (bytes path : List ℕ) (at : Position) (which : Which) (known : Option (List ℕ)) (fault : QueryFault) → IsRefusedIndex bytes fault → IsQueryRun bytes path at which known known (Err fault)
-refused_index bytes path at which known (Wire fault) h = (h, Keeps-refl known)
-refused_index bytes path at which known NoDocument h = absurd h
-refused_index bytes path at which known Device h = absurd h
-refused_index bytes path at which known Memory h = inl (Keeps-refl known)
+pub refused_index : (style : Style) (bytes path : List ℕ) (at : Position) (which : Which) (known : Option (List ℕ)) (fault : QueryFault) → IsRefusedIndex bytes fault → IsQueryRun style bytes path at which known known (Err fault)
+refused_index style bytes path at which known (Wire fault) h = (h, Keeps-refl known)
+refused_index style bytes path at which known NoDocument h = absurd h
+refused_index style bytes path at which known Device h = absurd h
+refused_index style bytes path at which known Memory h = inl (Keeps-refl known)
 
 -- a path that no document has
-pub refused_path : (bytes path : List ℕ) (at : Position) (which : Which) (known : Option (List ℕ)) (index : PlainIndex) → Means bytes index → (fault : StoreFault) → IsSymbolFound index path at (Err fault)
-    → IsQueryRun bytes path at which known known (Err (of_store fault))
-refused_path bytes path at which known index means store.NoDocument h = ((index, means, h), Keeps-refl known)
-refused_path bytes path at which known index means store.Memory h = inl (Keeps-refl known)
+pub refused_path : (style : Style) (bytes path : List ℕ) (at : Position) (which : Which) (known : Option (List ℕ)) (index : PlainIndex) → Means bytes index → (fault : StoreFault) → IsSymbolFound index path at (Err fault)
+    → IsQueryRun style bytes path at which known known (Err (of_store fault))
+refused_path style bytes path at which known index means store.NoDocument h = ((index, means, h), Keeps-refl known)
+refused_path style bytes path at which known index means store.Memory h = inl (Keeps-refl known)
 
 -- the lines of the places that are told
-pub answer : (bytes path : List ℕ) (at : Position) (which : Which) (index : PlainIndex) (symbol : Option (List ℕ)) (places : List PlainPlace) → Means bytes index
-    → IsSymbolFound index path at (Ok symbol) → places ≡ places_told which index path symbol → IsAnswerText bytes path at which (place_lines places)
-answer bytes path at which index symbol places means at_position told =
+pub answer : (style : Style) (bytes path : List ℕ) (at : Position) (which : Which) (index : PlainIndex) (symbol : Option (List ℕ)) (places : List PlainPlace) → Means bytes index
+    → IsSymbolFound index path at (Ok symbol) → places ≡ places_told which index path symbol → IsAnswerText style bytes path at which (place_lines style places)
+answer style bytes path at which index symbol places means at_position told =
     record { index = index; means = means; has_path = at_position.0; symbol = symbol; stands = at_position.1; lines = rw told refl }
 
 -- a sink that failed
-pub broken : (bytes path : List ℕ) (at : Position) (which : Which) (old new : Option (List ℕ)) (text : List ℕ) (fault : SinkFault) → IsAnswerText bytes path at which text → AppendsFront old new text
-    → IsQueryRun bytes path at which old new (Err (of_sink fault))
-broken bytes path at which old new text sink.Memory is front = inr (text, is, front)
-broken bytes path at which old new text sink.Device is front = (text, is, front)
+pub broken : (style : Style) (bytes path : List ℕ) (at : Position) (which : Which) (old new : Option (List ℕ)) (text : List ℕ) (fault : SinkFault) → IsAnswerText style bytes path at which text → AppendsFront old new text
+    → IsQueryRun style bytes path at which old new (Err (of_sink fault))
+broken style bytes path at which old new text sink.Memory is front = inr (text, is, front)
+broken style bytes path at which old new text sink.Device is front = (text, is, front)

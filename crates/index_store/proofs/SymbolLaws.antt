@@ -13,6 +13,7 @@ use Rattle.scip_index.specs.Meaning.{document_of, occurrence_of, Means}
 use Rattle.scip_index.specs.Plain.{PlainDocument, PlainIndex, PlainOccurrence}
 use Rattle.scip_index.proofs.OutcomeLaws.{no_fault}
 use Rattle.scip_index.proofs.CheckedLaws.{all_append, paths_are_texts, symbols_are_texts, HasPathText, HaveSymbolTexts}
+use Rattle.text_escape.specs.Places.{Style}
 use Rattle.index_store.specs.declared.span.Span.{Span}
 use Rattle.index_store.specs.Direct.{covering_of}
 use Rattle.index_store.specs.Queries.{PlacedOccurrence, IsSymbolAt, all_found, found_at, found_in, is_definition, is_local, place_given}
@@ -67,38 +68,38 @@ listed_symbol with_local o x e = elim (cases_Bool (is_definition o && (with_loca
   | inr passed ↦ let no : x ∷ [] ≡ [] = rw passed at e in absurd cc
 ]
 
-placed_line : (path symbol : List ℕ) (span : Option Span) → flat_map (line_at path) (covering_given span symbol) ≡ definition_lines (if not (bytes_eq symbol []) then map (defined_at symbol) (place_given path span) else [])
-placed_line path [] None = refl
-placed_line path [] (Some span) = refl
-placed_line path (b ∷ symbol) None = refl
-placed_line path (b ∷ symbol) (Some span) = refl
+placed_line : (style : Style) (path symbol : List ℕ) (span : Option Span) → flat_map (line_at style path) (covering_given span symbol) ≡ definition_lines style (if not (bytes_eq symbol []) then map (defined_at symbol) (place_given path span) else [])
+placed_line style path [] None = refl
+placed_line style path [] (Some span) = refl
+placed_line style path (b ∷ symbol) None = refl
+placed_line style path (b ∷ symbol) (Some span) = refl
 
-guarded : (defines named kept : Bool) (path : List ℕ) (spans : List (Span × List ℕ)) (definitions : List PlainDefinition) → flat_map (line_at path) spans ≡ definition_lines (if named then definitions else [])
-    → flat_map (line_at path) (if defines && kept then spans else []) ≡ definition_lines (if (defines && named) && kept then definitions else [])
-guarded true true true path spans definitions e = e
-guarded true true false path spans definitions e = refl
-guarded true false true path spans definitions e = e
-guarded true false false path spans definitions e = refl
-guarded false named kept path spans definitions e = refl
+guarded : (style : Style) (defines named kept : Bool) (path : List ℕ) (spans : List (Span × List ℕ)) (definitions : List PlainDefinition) → flat_map (line_at style path) spans ≡ definition_lines style (if named then definitions else [])
+    → flat_map (line_at style path) (if defines && kept then spans else []) ≡ definition_lines style (if (defines && named) && kept then definitions else [])
+guarded style true true true path spans definitions e = e
+guarded style true true false path spans definitions e = refl
+guarded style true false true path spans definitions e = e
+guarded style true false false path spans definitions e = refl
+guarded style false named kept path spans definitions e = refl
 
-one_line : (asked : Option (List ℕ)) (path : List ℕ) (o : PlainOccurrence) → is_asked asked path ≡ true
-    → lines_of_occurrence (is_some asked) path o ≡ definition_lines (if is_listed asked (found_at path o) then definition_of (found_at path o) else [])
-one_line None path o looked = guarded (is_definition o) (not (bytes_eq o.symbol [])) (not (is_local o.symbol)) path (covering_of o) (definition_of (found_at path o)) (placed_line path o.symbol (span_of o.range))
-one_line (Some asked) path o looked = rw looked (guarded (is_definition o) (not (bytes_eq o.symbol [])) true path (covering_of o) (definition_of (found_at path o)) (placed_line path o.symbol (span_of o.range)))
+one_line : (style : Style) (asked : Option (List ℕ)) (path : List ℕ) (o : PlainOccurrence) → is_asked asked path ≡ true
+    → lines_of_occurrence style (is_some asked) path o ≡ definition_lines style (if is_listed asked (found_at path o) then definition_of (found_at path o) else [])
+one_line style None path o looked = guarded style (is_definition o) (not (bytes_eq o.symbol [])) (not (is_local o.symbol)) path (covering_of o) (definition_of (found_at path o)) (placed_line style path o.symbol (span_of o.range))
+one_line style (Some asked) path o looked = rw looked (guarded style (is_definition o) (not (bytes_eq o.symbol [])) true path (covering_of o) (definition_of (found_at path o)) (placed_line style path o.symbol (span_of o.range)))
 
 -- ---- one document
 
-listed_here : (asked : Option (List ℕ)) (path : List ℕ) (occurrences : List PlainOccurrence) → is_asked asked path ≡ true
-    → lines_in (is_some asked) path occurrences ≡ definition_lines (flat_map definition_of (filter (is_listed asked) (map (found_at path) occurrences)))
-listed_here asked path [] looked = refl
-listed_here asked path (o ∷ occurrences) looked =
+listed_here : (style : Style) (asked : Option (List ℕ)) (path : List ℕ) (occurrences : List PlainOccurrence) → is_asked asked path ≡ true
+    → lines_in style (is_some asked) path occurrences ≡ definition_lines style (flat_map definition_of (filter (is_listed asked) (map (found_at path) occurrences)))
+listed_here style asked path [] looked = refl
+listed_here style asked path (o ∷ occurrences) looked =
     let behind = flat_map definition_of (filter (is_listed asked) (map (found_at path) occurrences)) in
-    let one = one_line asked path o looked in
+    let one = one_line style asked path o looked in
     elim (cases_Bool (is_listed asked (found_at path o))) [
-      | inl listed ↦ let line : lines_of_occurrence (is_some asked) path o ≡ definition_lines (definition_of (found_at path o)) = rw listed at one in
-          rw listed (ap₂ (λ (xs ys : List ℕ). xs ++ ys) line (listed_here asked path occurrences looked) ∙ sym (flat_map-append definition_line (definition_of (found_at path o)) behind))
-      | inr passed ↦ let none : lines_of_occurrence (is_some asked) path o ≡ [] = rw passed at one in
-          rw passed (ap₂ (λ (xs ys : List ℕ). xs ++ ys) none (listed_here asked path occurrences looked))
+      | inl listed ↦ let line : lines_of_occurrence style (is_some asked) path o ≡ definition_lines style (definition_of (found_at path o)) = rw listed at one in
+          rw listed (ap₂ (λ (xs ys : List ℕ). xs ++ ys) line (listed_here style asked path occurrences looked) ∙ sym (flat_map-append (definition_line style) (definition_of (found_at path o)) behind))
+      | inr passed ↦ let none : lines_of_occurrence style (is_some asked) path o ≡ [] = rw passed at one in
+          rw passed (ap₂ (λ (xs ys : List ℕ). xs ++ ys) none (listed_here style asked path occurrences looked))
     ]
 
 never : (x y : Bool) → y ≡ false → (x && y) ≡ false
@@ -109,32 +110,32 @@ unlisted : (asked : Option (List ℕ)) (path : List ℕ) (o : PlainOccurrence) �
 unlisted None path o past = absurd cc
 unlisted (Some asked) path o past = never (is_definition o && not (bytes_eq o.symbol [])) (bytes_eq path asked) past
 
-listed_nowhere : (asked : Option (List ℕ)) (path : List ℕ) (occurrences : List PlainOccurrence) → is_asked asked path ≡ false
-    → definition_lines (flat_map definition_of (filter (is_listed asked) (map (found_at path) occurrences))) ≡ []
-listed_nowhere asked path [] past = refl
-listed_nowhere asked path (o ∷ occurrences) past = rw (unlisted asked path o past) (listed_nowhere asked path occurrences past)
+listed_nowhere : (style : Style) (asked : Option (List ℕ)) (path : List ℕ) (occurrences : List PlainOccurrence) → is_asked asked path ≡ false
+    → definition_lines style (flat_map definition_of (filter (is_listed asked) (map (found_at path) occurrences))) ≡ []
+listed_nowhere style asked path [] past = refl
+listed_nowhere style asked path (o ∷ occurrences) past = rw (unlisted asked path o past) (listed_nowhere style asked path occurrences past)
 
-document_lines : (asked : Option (List ℕ)) (d : PlainDocument) → lines_of_document asked d ≡ definition_lines (flat_map definition_of (filter (is_listed asked) (found_in d)))
-document_lines asked d = elim (cases_Bool (is_asked asked d.relative_path)) [
-  | inl looked ↦ rw looked (listed_here asked d.relative_path d.occurrences looked)
-  | inr past ↦ rw past (sym (listed_nowhere asked d.relative_path d.occurrences past))
+document_lines : (style : Style) (asked : Option (List ℕ)) (d : PlainDocument) → lines_of_document style asked d ≡ definition_lines style (flat_map definition_of (filter (is_listed asked) (found_in d)))
+document_lines style asked d = elim (cases_Bool (is_asked asked d.relative_path)) [
+  | inl looked ↦ rw looked (listed_here style asked d.relative_path d.occurrences looked)
+  | inr past ↦ rw past (sym (listed_nowhere style asked d.relative_path d.occurrences past))
 ]
 
 -- ---- the index that the bytes mean
 
-all_lines : (asked : Option (List ℕ)) (documents : List PlainDocument) → flat_map (lines_of_document asked) documents ≡ definition_lines (flat_map definition_of (filter (is_listed asked) (flat_map found_in documents)))
-all_lines asked [] = refl
-all_lines asked (d ∷ documents) =
+all_lines : (style : Style) (asked : Option (List ℕ)) (documents : List PlainDocument) → flat_map (lines_of_document style asked) documents ≡ definition_lines style (flat_map definition_of (filter (is_listed asked) (flat_map found_in documents)))
+all_lines style asked [] = refl
+all_lines style asked (d ∷ documents) =
     let here = filter (is_listed asked) (found_in d) in
     let behind = filter (is_listed asked) (flat_map found_in documents) in
-    ap₂ (λ (xs ys : List ℕ). xs ++ ys) (document_lines asked d) (all_lines asked documents)
-    ∙ sym (flat_map-append definition_line (flat_map definition_of here) (flat_map definition_of behind))
-    ∙ ap definition_lines (sym (flat_map-append definition_of here behind))
-    ∙ ap (λ (fs : List PlacedOccurrence). definition_lines (flat_map definition_of fs)) (sym (filter_append (is_listed asked) (found_in d) (flat_map found_in documents)))
+    ap₂ (λ (xs ys : List ℕ). xs ++ ys) (document_lines style asked d) (all_lines style asked documents)
+    ∙ sym (flat_map-append (definition_line style) (flat_map definition_of here) (flat_map definition_of behind))
+    ∙ ap (definition_lines style) (sym (flat_map-append definition_of here behind))
+    ∙ ap (λ (fs : List PlacedOccurrence). definition_lines style (flat_map definition_of fs)) (sym (filter_append (is_listed asked) (found_in d) (flat_map found_in documents)))
 
-pub listed_there : (asked : Option (List ℕ)) (bytes : List ℕ) (index : PlainIndex) → Means bytes index
-    → flat_map (lines_of_document asked) (map document_of (each_of 2 records_inside (payload_records 0 bytes).0)) ≡ definition_lines (definitions_listed index asked)
-listed_there asked bytes index means = rw (documents_said bytes index means) (all_lines asked (map document_of (each_of 2 records_inside (payload_records 0 bytes).0)))
+pub listed_there : (style : Style) (asked : Option (List ℕ)) (bytes : List ℕ) (index : PlainIndex) → Means bytes index
+    → flat_map (lines_of_document style asked) (map document_of (each_of 2 records_inside (payload_records 0 bytes).0)) ≡ definition_lines style (definitions_listed index asked)
+listed_there style asked bytes index means = rw (documents_said bytes index means) (all_lines style asked (map document_of (each_of 2 records_inside (payload_records 0 bytes).0)))
 
 -- ---- lines so far
 
@@ -147,6 +148,6 @@ is_some_seen seen None = refl
 is_some_seen seen (Some path) = refl
 
 -- the lines of a document that is asked for
-pub lines_asked : {A : Type 0} (seen : A → List ℕ) (asked : Option A) (path : List ℕ) (d : PlainDocument) → d.relative_path ≡ path → is_asked (option_map seen asked) path ≡ true
-    → lines_in (is_some asked) path d.occurrences ≡ lines_of_document (option_map seen asked) d
-lines_asked seen asked path d here looked = rw (here, looked, is_some_seen seen asked) refl
+pub lines_asked : (style : Style) {A : Type 0} (seen : A → List ℕ) (asked : Option A) (path : List ℕ) (d : PlainDocument) → d.relative_path ≡ path → is_asked (option_map seen asked) path ≡ true
+    → lines_in style (is_some asked) path d.occurrences ≡ lines_of_document style (option_map seen asked) d
+lines_asked style seen asked path d here looked = rw (here, looked, is_some_seen seen asked) refl

@@ -3,6 +3,7 @@ use Rattle.std.specs.Prelude.{◌≡◌, ◌⊎◌, ℕ, List, [], Option, Some,
 use Rattle.std.specs.Io.KnownBytes.{Appends, Keeps}
 use Rattle.byte_sink.specs.Sinks.{AppendsFront}
 use Rattle.proto_wire.specs.Messages.{IsFirstFault}
+use Rattle.text_escape.specs.Places.{Style}
 use Rattle.scip_index.specs.Meaning.{index_fault, Means}
 use Rattle.scip_index.specs.Plain.{PlainIndex}
 use Rattle.index_store.specs.declared.place.Position.{Position}
@@ -24,7 +25,7 @@ places_told which index path None = []
 places_told which index path (Some symbol) = places_asked which index path symbol
 
 -- the text that an index gives to a question
-pub record IsAnswerText (bytes path : List ℕ) (at : Position) (which : Which) (text : List ℕ) : Type 0 where
+pub record IsAnswerText (style : Style) (bytes path : List ℕ) (at : Position) (which : Which) (text : List ℕ) : Type 0 where
   -- the index that the bytes mean
   pub index : PlainIndex
   pub means : Means bytes index
@@ -33,28 +34,28 @@ pub record IsAnswerText (bytes path : List ℕ) (at : Position) (which : Which) 
   -- the symbol at the position, or none
   pub symbol : Option (List ℕ)
   pub stands : IsSymbolAt (all_found index) path at symbol
-  -- the lines of its places
-  pub lines : text ≡ place_lines (places_told which index path symbol)
+  -- the lines of its places, in this style
+  pub lines : text ≡ place_lines style (places_told which index path symbol)
 
 -- the sink has the whole answer
-abbrev pub PutsAnswer : List ℕ → List ℕ → Position → Which → Option (List ℕ) → Option (List ℕ) → Type 0
-PutsAnswer bytes path at which old new = (text : List ℕ) × IsAnswerText bytes path at which text × Appends old new text
+abbrev pub PutsAnswer : Style → List ℕ → List ℕ → Position → Which → Option (List ℕ) → Option (List ℕ) → Type 0
+PutsAnswer style bytes path at which old new = (text : List ℕ) × IsAnswerText style bytes path at which text × Appends old new text
 
 -- the sink has a front of the answer
-abbrev pub PutsAnswerFront : List ℕ → List ℕ → Position → Which → Option (List ℕ) → Option (List ℕ) → Type 0
-PutsAnswerFront bytes path at which old new = (text : List ℕ) × IsAnswerText bytes path at which text × AppendsFront old new text
+abbrev pub PutsAnswerFront : Style → List ℕ → List ℕ → Position → Which → Option (List ℕ) → Option (List ℕ) → Type 0
+PutsAnswerFront style bytes path at which old new = (text : List ℕ) × IsAnswerText style bytes path at which text × AppendsFront old new text
 
 -- the bytes mean an index, and no document of it has the path
 abbrev pub LacksPath : List ℕ → List ℕ → Type 0
 LacksPath bytes path = (index : PlainIndex) × Means bytes index × (HasPath index path → ⊥)
 
 -- a run of a question: bytes that mean no index, and a path that no document has, leave the sink as it was
-abbrev pub IsQueryRun : List ℕ → List ℕ → Position → Which → Option (List ℕ) → Option (List ℕ) → Result (Unit {0}) QueryFault → Type 0
-IsQueryRun bytes path at which old new (Ok _) = PutsAnswer bytes path at which old new
-IsQueryRun bytes path at which old new (Err (Wire fault)) = IsFirstFault index_fault 0 bytes fault × Keeps old new
-IsQueryRun bytes path at which old new (Err NoDocument) = LacksPath bytes path × Keeps old new
-IsQueryRun bytes path at which old new (Err Device) = PutsAnswerFront bytes path at which old new
-IsQueryRun bytes path at which old new (Err Memory) = Keeps old new ⊎ PutsAnswerFront bytes path at which old new
+abbrev pub IsQueryRun : Style → List ℕ → List ℕ → Position → Which → Option (List ℕ) → Option (List ℕ) → Result (Unit {0}) QueryFault → Type 0
+IsQueryRun style bytes path at which old new (Ok _) = PutsAnswer style bytes path at which old new
+IsQueryRun style bytes path at which old new (Err (Wire fault)) = IsFirstFault index_fault 0 bytes fault × Keeps old new
+IsQueryRun style bytes path at which old new (Err NoDocument) = LacksPath bytes path × Keeps old new
+IsQueryRun style bytes path at which old new (Err Device) = PutsAnswerFront style bytes path at which old new
+IsQueryRun style bytes path at which old new (Err Memory) = Keeps old new ⊎ PutsAnswerFront style bytes path at which old new
 
 -- ---- what is made of the bytes on the way
 

@@ -1,23 +1,17 @@
 -- The text of places, a line for each of them.
 use Rattle.std.specs.Prelude.{ℕ, List, ◌++◌, codes}
 use Rattle.std.specs.List.{flat_map}
-use Rattle.std.specs.Fmt.{decimal}
-use Rattle.text_escape.specs.Escapes.{escaped}
-use Rattle.index_store.specs.declared.place.Position.{Position}
+use Rattle.text_escape.specs.Places.{location_text, position_text, Style}
 use Rattle.index_store.specs.Queries.{PlainPlace}
 
--- LINE:COL, each counted from 0
-abbrev pub position_text : Position → List ℕ
-position_text at = decimal at.line ++ codes ":" ++ decimal at.column
-
--- PATH:LINE:COL-LINE:COL: where the place begins and where it ends, with the path's control characters written out
-abbrev pub place_text : PlainPlace → List ℕ
-place_text place = escaped place.path ++ codes ":" ++ position_text place.span.start ++ codes "-" ++ position_text place.span.end
+-- PATH:LINE:COL-LINE:COL in this style: where the place begins and where it ends
+abbrev pub place_text : Style → PlainPlace → List ℕ
+place_text style place = location_text style place.path place.span.start.line place.span.start.column ++ codes "-" ++ position_text style place.span.end.line place.span.end.column
 
 -- a line of it
-abbrev pub place_line : PlainPlace → List ℕ
-place_line place = place_text place ++ codes "\n"
+abbrev pub place_line : Style → PlainPlace → List ℕ
+place_line style place = place_text style place ++ codes "\n"
 
 -- a line for each place, in their order
-abbrev pub place_lines : List PlainPlace → List ℕ
-place_lines places = flat_map place_line places
+abbrev pub place_lines : Style → List PlainPlace → List ℕ
+place_lines style places = flat_map (place_line style) places

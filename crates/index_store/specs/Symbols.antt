@@ -4,6 +4,7 @@ use Rattle.std.specs.List.{AllByRecursion, flat_map}
 use Rattle.std.specs.Option.{is_some}
 use Rattle.std.specs.Str.{IsUtf8, bytes_eq}
 use Rattle.text_escape.specs.Escapes.{escaped}
+use Rattle.text_escape.specs.Places.{Style}
 use Rattle.scip_index.specs.Plain.{PlainDocument, PlainIndex, PlainOccurrence}
 use Rattle.index_store.specs.declared.span.Span.{Span}
 use Rattle.index_store.specs.Direct.{covering_of}
@@ -35,12 +36,12 @@ definition_of f = map (defined_at f.occurrence.symbol) (place_of f)
 abbrev pub definitions_listed : PlainIndex → Option (List ℕ) → List PlainDefinition
 definitions_listed index path = flat_map definition_of (filter (is_listed path) (all_found index))
 
--- PATH:LINE:COL-LINE:COL SYMBOL, with the control characters of both texts written out
-abbrev pub definition_line : PlainDefinition → List ℕ
-definition_line d = place_text d.place ++ codes " " ++ escaped d.symbol ++ codes "\n"
+-- PATH:LINE:COL-LINE:COL SYMBOL, the place in this style, and the control characters of both texts written out
+abbrev pub definition_line : Style → PlainDefinition → List ℕ
+definition_line style d = place_text style d.place ++ codes " " ++ escaped d.symbol ++ codes "\n"
 
-abbrev pub definition_lines : List PlainDefinition → List ℕ
-definition_lines definitions = flat_map definition_line definitions
+abbrev pub definition_lines : Style → List PlainDefinition → List ℕ
+definition_lines style definitions = flat_map (definition_line style) definitions
 
 -- ---- document by document
 
@@ -49,14 +50,14 @@ abbrev pub spans_listed : Bool → PlainOccurrence → List (Span × List ℕ)
 spans_listed with_local o = if is_definition o && (with_local || not (is_local o.symbol)) then covering_of o else []
 
 -- the line of a span and a symbol of a document of this path
-abbrev pub line_at : List ℕ → Span × List ℕ → List ℕ
-line_at path x = definition_line (record { place = record { path = path; span = x.0 }; symbol = x.1 })
+abbrev pub line_at : Style → List ℕ → Span × List ℕ → List ℕ
+line_at style path x = definition_line style (record { place = record { path = path; span = x.0 }; symbol = x.1 })
 
-abbrev pub lines_of_occurrence : Bool → List ℕ → PlainOccurrence → List ℕ
-lines_of_occurrence with_local path o = flat_map (line_at path) (spans_listed with_local o)
+abbrev pub lines_of_occurrence : Style → Bool → List ℕ → PlainOccurrence → List ℕ
+lines_of_occurrence style with_local path o = flat_map (line_at style path) (spans_listed with_local o)
 
-abbrev pub lines_in : Bool → List ℕ → List PlainOccurrence → List ℕ
-lines_in with_local path occurrences = flat_map (lines_of_occurrence with_local path) occurrences
+abbrev pub lines_in : Style → Bool → List ℕ → List PlainOccurrence → List ℕ
+lines_in style with_local path occurrences = flat_map (lines_of_occurrence style with_local path) occurrences
 
 -- a document of this path is asked for: all documents are, or those of a path
 abbrev pub is_asked : Option (List ℕ) → List ℕ → Bool
@@ -64,8 +65,8 @@ is_asked None path = true
 is_asked (Some asked) path = bytes_eq path asked
 
 -- the lines of a document, if it is asked for; of one that is asked for by its path those of local symbols too
-abbrev pub lines_of_document : Option (List ℕ) → PlainDocument → List ℕ
-lines_of_document asked d = if is_asked asked d.relative_path then lines_in (is_some asked) d.relative_path d.occurrences else []
+abbrev pub lines_of_document : Style → Option (List ℕ) → PlainDocument → List ℕ
+lines_of_document style asked d = if is_asked asked d.relative_path then lines_in style (is_some asked) d.relative_path d.occurrences else []
 
 -- the symbols of these occurrences are UTF-8
 abbrev pub HaveTextSymbols : List PlainOccurrence → Type 0

@@ -4,6 +4,7 @@ use Rattle.std.specs.Io.KnownBytes.{Appends, Keeps}
 use Rattle.byte_sink.specs.Sinks.{AppendsFront}
 use Rattle.proto_wire.specs.Messages.{IsFirstFault}
 use Rattle.text_escape.specs.Escapes.{escaped}
+use Rattle.text_escape.specs.Places.{Style}
 use Rattle.scip_index.specs.Meaning.{index_fault, Means}
 use Rattle.scip_index.specs.Plain.{PlainIndex}
 use Rattle.index_store.specs.declared.asking.Which.{Which}
@@ -42,11 +43,11 @@ IsTellingRun Has Tells bytes old new (Err Memory) = Keeps old new ⊎ ((text : L
 -- ---- the definitions
 
 -- a line for each definition: of all documents, or of those of a path
-abbrev pub TellsDefinitions : Option (List ℕ) → PlainIndex → List ℕ → Type 0
-TellsDefinitions path index text = text ≡ definition_lines (definitions_listed index path)
+abbrev pub TellsDefinitions : Style → Option (List ℕ) → PlainIndex → List ℕ → Type 0
+TellsDefinitions style path index text = text ≡ definition_lines style (definitions_listed index path)
 
-abbrev pub IsSymbolsRun : List ℕ → Option (List ℕ) → Option (List ℕ) → Option (List ℕ) → Result (Unit {0}) QueryFault → Type 0
-IsSymbolsRun bytes path old new result = IsTellingRun (λ index. HasGivenPath index path) (TellsDefinitions path) bytes old new result
+abbrev pub IsSymbolsRun : Style → List ℕ → Option (List ℕ) → Option (List ℕ) → Option (List ℕ) → Result (Unit {0}) QueryFault → Type 0
+IsSymbolsRun style bytes path old new result = IsTellingRun (λ index. HasGivenPath index path) (TellsDefinitions style path) bytes old new result
 
 -- ---- the symbol at a position
 
@@ -68,8 +69,8 @@ abbrev pub places_named : Which → PlainIndex → Option (List ℕ) → List �
 places_named which index (Some path) symbol = places_asked which index path symbol
 places_named which index None symbol = if is_local symbol then [] else places_asked which index [] symbol
 
-abbrev pub TellsPlaces : Which → Option (List ℕ) → List ℕ → PlainIndex → List ℕ → Type 0
-TellsPlaces which path symbol index text = text ≡ place_lines (places_named which index path symbol)
+abbrev pub TellsPlaces : Style → Which → Option (List ℕ) → List ℕ → PlainIndex → List ℕ → Type 0
+TellsPlaces style which path symbol index text = text ≡ place_lines style (places_named which index path symbol)
 
-abbrev pub IsNamedRun : List ℕ → Option (List ℕ) → List ℕ → Which → Option (List ℕ) → Option (List ℕ) → Result (Unit {0}) QueryFault → Type 0
-IsNamedRun bytes path symbol which old new result = IsTellingRun (λ index. HasGivenPath index path) (TellsPlaces which path symbol) bytes old new result
+abbrev pub IsNamedRun : Style → List ℕ → Option (List ℕ) → List ℕ → Which → Option (List ℕ) → Option (List ℕ) → Result (Unit {0}) QueryFault → Type 0
+IsNamedRun style bytes path symbol which old new result = IsTellingRun (λ index. HasGivenPath index path) (TellsPlaces style which path symbol) bytes old new result

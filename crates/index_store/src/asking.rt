@@ -6,6 +6,7 @@ ghost use Rattle.byte_sink.specs.Sinks.{failures_by};
 ghost use Rattle.scip_index.specs.Meaning.{Means};
 ghost use Rattle.scip_index.specs.Plain.{PlainIndex};
 ghost use Rattle.text_escape.specs.Escapes.{escaped};
+ghost use Rattle.text_escape.specs.Places.{style_of};
 ghost use Rattle.index_store.specs.declared.query_fault.QueryFault.TheVariants.{NoDocument};
 ghost use Rattle.index_store.specs.Queries.{plain_place, HasPath};
 ghost use Rattle.index_store.specs.Asking.{places_asked, IsQueryRun, IsRefusedIndex};
@@ -22,7 +23,7 @@ use byte_sink::{Sink, put_all};
 use proto_wire::Inside;
 use scip_index::check;
 use std::alloc::{AllocError, Global};
-use text_escape::escaped;
+use text_escape::{PlaceStyle, escaped};
 
 /// Which places of a symbol are asked for.
 #[derive(Clone, Copy, Debug, PartialEq, Eq)]
@@ -66,42 +67,42 @@ fn put_answer<S: Sink>(
     path: &str,
     at: Position,
     which: Which,
+    style: PlaceStyle<'_>,
     sink: &mut S,
 ) -> Result<(), QueryFault>
     requires means { (index : PlainIndex) × Means bytes.now index }
-    ensures run { (index : PlainIndex) → Means bytes.now index → IsQueryRun bytes.now path.now at which (S.taken sink.old) (S.taken sink.new) result }
+    ensures run { (index : PlainIndex) → Means bytes.now index → IsQueryRun (style_of style.entry) bytes.now path.now at which (S.taken sink.old) (S.taken sink.new) result }
     ensures failures { S.failures sink.new ≡ failures_by is_device result (S.failures sink.old) }
 {
     let Some(symbol) = symbol_in_bytes(alloc, bytes, path, at)? else {
         return Ok(());
     };
     let places = places_of(alloc, bytes, path, symbol, which)?;
-    put_lines(alloc, places.as_slice(), sink)?;
+    put_lines(alloc, style, places.as_slice(), sink)?;
     Ok(())
 }
 
-/// Reads an index and puts a line for each place of the symbol at a position of a document, as `PATH:LINE:COL-LINE:COL`:
-/// the places where it is defined, or those where it is used and not defined, in the index's order. Lines and columns count
-/// from 0, as the index has them. Where no symbol covers the position nothing is put. The symbol is that of the covering
-/// occurrence that starts last, then ends first, then comes first; one whose text begins with `local ` is sought in the
-/// documents of the path alone.
-/// Refuses with the first fault of the bytes, then with `NoDocument` where no document has the path, and with `Device` or
-/// `Memory`.
+/// Reads an index and writes a line for each place of the symbol at a position of a document, as `PATH:LINE:COL-LINE:COL` in this
+/// style: the places where it is defined, or those where it is used and not defined, in the index's order. The position counts from
+/// 0 in each style. If no symbol covers it, nothing is written. The symbol is that of the covering occurrence that starts last, then
+/// ends first, then comes first; one whose text begins with `local ` is looked up in the documents of the path alone.
+/// Returns the first fault of the bytes, then `NoDocument` if no document has the path, `Device` or `Memory`.
 pub fn query<S: Sink>(
     alloc: Global,
     index: &[u8],
     path: &str,
     at: Position,
     which: Which,
+    style: PlaceStyle<'_>,
     sink: &mut S,
 ) -> Result<(), QueryFault>
     // What was read, and the lines that the sink took; after a refusal of the input it took nothing.
-    ensures run { IsQueryRun index.now path.now at which (S.taken sink.old) (S.taken sink.new) result }
+    ensures run { IsQueryRun (style_of style.entry) index.now path.now at which (S.taken sink.old) (S.taken sink.new) result }
     // Device is answered where the sink counted a failure, and nowhere else.
     ensures failures { S.failures sink.new ≡ failures_by is_device result (S.failures sink.old) }
 {
     check_index(alloc, index)?;
-    put_answer(alloc, index, path, at, which, sink)
+    put_answer(alloc, index, path, at, which, style, sink)
 }
 
 /// Whether a document of the index that the bytes mean has the path.
@@ -130,34 +131,36 @@ fn put_listed<S: Sink>(
     alloc: Global,
     bytes: &[u8],
     path: Option<&str>,
+    style: PlaceStyle<'_>,
     sink: &mut S,
 ) -> Result<(), QueryFault>
     requires means { (index : PlainIndex) × Means bytes.now index }
-    ensures run { (index : PlainIndex) → Means bytes.now index → IsSymbolsRun bytes.now (option_copied path.entry) (S.taken sink.old) (S.taken sink.new) result }
+    ensures run { (index : PlainIndex) → Means bytes.now index → IsSymbolsRun (style_of style.entry) bytes.now (option_copied path.entry) (S.taken sink.old) (S.taken sink.new) result }
     ensures failures { S.failures sink.new ≡ failures_by is_device result (S.failures sink.old) }
 {
     check_path(bytes, path)?;
-    put_definitions(alloc, bytes, path, sink)?;
+    put_definitions(alloc, bytes, path, style, sink)?;
     Ok(())
 }
 
-/// Reads an index and puts a line for each definition, as `PATH:LINE:COL-LINE:COL SYMBOL`, in the index's order: for each occurrence that
-/// has the definition role, a symbol and a place; without a path those of symbols that don't begin with `local `, with one those of the
-/// documents of that path, local ones too. Control characters are written out. Lines and columns count from 0, as the index has them.
+/// Reads an index and writes a line for each definition, as `PATH:LINE:COL-LINE:COL SYMBOL` in this style, in the index's order: for each
+/// occurrence that has the definition role, a symbol and a place; without a path those of symbols that don't begin with `local `, with
+/// one those of the documents of that path, local ones too. Control characters are written out.
 /// Refuses with the first fault of the bytes, then with `NoDocument` where no document has the path, and with `Device` or `Memory`.
 pub fn put_symbols<S: Sink>(
     alloc: Global,
     index: &[u8],
     path: Option<&str>,
+    style: PlaceStyle<'_>,
     sink: &mut S,
 ) -> Result<(), QueryFault>
     // What was read, and the lines that the sink took; after a refusal of the input it took nothing.
-    ensures run { IsSymbolsRun index.now (option_copied path.entry) (S.taken sink.old) (S.taken sink.new) result }
+    ensures run { IsSymbolsRun (style_of style.entry) index.now (option_copied path.entry) (S.taken sink.old) (S.taken sink.new) result }
     // Device is answered where the sink counted a failure, and nowhere else.
     ensures failures { S.failures sink.new ≡ failures_by is_device result (S.failures sink.old) }
 {
     check_index(alloc, index)?;
-    put_listed(alloc, index, path, sink)
+    put_listed(alloc, index, path, style, sink)
 }
 
 /// The line of a symbol.
@@ -237,15 +240,16 @@ fn put_named<S: Sink>(
     path: Option<&str>,
     symbol: &str,
     which: Which,
+    style: PlaceStyle<'_>,
     sink: &mut S,
 ) -> Result<(), QueryFault>
     requires means { (index : PlainIndex) × Means bytes.now index }
-    ensures run { (index : PlainIndex) → Means bytes.now index → IsNamedRun bytes.now (option_copied path.entry) symbol.now which (S.taken sink.old) (S.taken sink.new) result }
+    ensures run { (index : PlainIndex) → Means bytes.now index → IsNamedRun (style_of style.entry) bytes.now (option_copied path.entry) symbol.now which (S.taken sink.old) (S.taken sink.new) result }
     ensures failures { S.failures sink.new ≡ failures_by is_device result (S.failures sink.old) }
 {
     check_path(bytes, path)?;
     let places = places_named(alloc, bytes, path, symbol, which)?;
-    put_lines(alloc, places.as_slice(), sink)?;
+    put_lines(alloc, style, places.as_slice(), sink)?;
     Ok(())
 }
 
@@ -259,13 +263,14 @@ pub fn query_symbol<S: Sink>(
     path: Option<&str>,
     symbol: &str,
     which: Which,
+    style: PlaceStyle<'_>,
     sink: &mut S,
 ) -> Result<(), QueryFault>
     // What was read, and the lines that the sink took; after a refusal of the input it took nothing.
-    ensures run { IsNamedRun index.now (option_copied path.entry) symbol.now which (S.taken sink.old) (S.taken sink.new) result }
+    ensures run { IsNamedRun (style_of style.entry) index.now (option_copied path.entry) symbol.now which (S.taken sink.old) (S.taken sink.new) result }
     // Device is answered where the sink counted a failure, and nowhere else.
     ensures failures { S.failures sink.new ≡ failures_by is_device result (S.failures sink.old) }
 {
     check_index(alloc, index)?;
-    put_named(alloc, index, path, symbol, which, sink)
+    put_named(alloc, index, path, symbol, which, style, sink)
 }

@@ -9,6 +9,7 @@ ghost use Rattle.text_pieces.specs.Pieces.{PutsAllBut};
 ghost use Rattle.proto_wire.specs.Inside.{records_of};
 ghost use Rattle.scip_index.specs.Meaning.{document_of, occurrence_of, Means};
 ghost use Rattle.scip_index.specs.Plain.{PlainIndex};
+ghost use Rattle.text_escape.specs.Places.{style_of, writer_style};
 ghost use Rattle.index_store.specs.Direct.{documents_of, said_near};
 ghost use Rattle.index_store.specs.Symbols.{definition_lines, definitions_listed, is_asked, line_at, lines_in, lines_of_document, lines_of_occurrence, spans_listed, AreTextDocuments, HaveTextSymbols, IsTextDocument};
 
@@ -18,13 +19,13 @@ use crate::lines::push_place;
 use byte_sink::{Sink, SinkFault, put_all};
 use proto_wire::{Inside, last_bytes, last_bytes_and_number, next_message};
 use std::alloc::{AllocError, Global};
-use text_escape::EscapingWriter;
+use text_escape::{EscapingWriter, PlaceStyle, PlaceWriter};
 use text_pieces::put_enough;
 
 /// What lines of definitions are written with: the text that is gathered, and the numbers of the range that was read last.
 #[derive(Drop)]
 struct Lines<'a> {
-    paths: EscapingWriter<'a>,
+    places: PlaceWriter<'a>,
     symbols: EscapingWriter<'a>,
     numbers: Vec<i32>,
     text: String,
@@ -57,11 +58,12 @@ fn is_asked(asked: Option<&str>, path: &[u8]) -> bool
 }
 
 impl<'a> Lines<'a> {
-    fn new(alloc: Global) -> Lines<'a>
-        ensures { string_bytes result.text ≡ [] }
+    fn new(alloc: Global, style: PlaceStyle<'a>) -> Lines<'a>
+        ensures text { string_bytes result.text ≡ [] }
+        ensures style { writer_style result.places ≡ style_of style.entry }
     {
         Lines {
-            paths: EscapingWriter::new(),
+            places: PlaceWriter::new(style),
             symbols: EscapingWriter::new(),
             numbers: Vec::new(alloc),
             text: String::new(alloc),
@@ -70,9 +72,10 @@ impl<'a> Lines<'a> {
 
     /// Puts the line of a definition behind the text.
     fn push(&mut self, place: &Place<'a>, symbol: &'a str) -> Result<(), AllocError>
-        ensures { OnOk result (string_bytes self.new.text ≡ string_bytes self.old.text ++ line_at place.now.path.now (record { start = place.now.start; end = place.now.end }, symbol.now)) }
+        ensures appended { OnOk result (string_bytes self.new.text ≡ string_bytes self.old.text ++ line_at (writer_style self.old.places) place.now.path.now (record { start = place.now.start; end = place.now.end }, symbol.now)) }
+        ensures style { writer_style self.new.places ≡ writer_style self.old.places }
     {
-        push_place(&mut self.paths, &mut self.text, place)?;
+        push_place(&mut self.places, &mut self.text, place)?;
         self.text.push(' ')?;
         self.symbols.push(&mut self.text, symbol)?;
         self.text.push('\n')
@@ -81,7 +84,8 @@ impl<'a> Lines<'a> {
     /// Puts the line of a definition in a document of this path behind the text.
     fn push_near(&mut self, path: &'a str, near: Near<'a>) -> Result<(), AllocError>
         requires text { IsUtf8 near.symbol.now }
-        ensures { OnOk result (string_bytes self.new.text ≡ string_bytes self.old.text ++ line_at path.now (said_near near.entry)) }
+        ensures appended { OnOk result (string_bytes self.new.text ≡ string_bytes self.old.text ++ line_at (writer_style self.old.places) path.now (said_near near.entry)) }
+        ensures style { writer_style self.new.places ≡ writer_style self.old.places }
     {
         let Ok(symbol) = std::str::from_utf8(near.symbol) else {
             unreachable!();
@@ -103,7 +107,8 @@ impl<'a> Lines<'a> {
     ) -> Result<(), AllocError>
         requires here { occurrence.start + length occurrence.bytes.now < 2 ^ 64 }
         requires text { IsUtf8 (occurrence_of (records_of occurrence)).symbol }
-        ensures { OnOk result (string_bytes self.new.text ≡ string_bytes self.old.text ++ lines_of_occurrence with_local path.now (occurrence_of (records_of occurrence.entry))) }
+        ensures appended { OnOk result (string_bytes self.new.text ≡ string_bytes self.old.text ++ lines_of_occurrence (writer_style self.old.places) with_local path.now (occurrence_of (records_of occurrence.entry))) }
+        ensures style { writer_style self.new.places ≡ writer_style self.old.places }
     {
         match definition_inside(occurrence, with_local, &mut self.numbers)? {
             None => Ok(()),
@@ -121,8 +126,9 @@ impl<'a> Lines<'a> {
     ) -> Result<(), SinkFault>
         requires here { occurrence.start + length occurrence.bytes.now < 2 ^ 64 }
         requires text { IsUtf8 (occurrence_of (records_of occurrence)).symbol }
-        ensures gathered { OnOk result (PutsAllBut (S.taken sink.old) (S.taken sink.new) (string_bytes self.old.text ++ lines_of_occurrence with_local path.now (occurrence_of (records_of occurrence.entry))) (string_bytes self.new.text)) }
-        ensures broken { IfErr result (λ _. AppendsFront (S.taken sink.old) (S.taken sink.new) (string_bytes self.old.text ++ lines_of_occurrence with_local path.now (occurrence_of (records_of occurrence.entry)))) }
+        ensures gathered { OnOk result (PutsAllBut (S.taken sink.old) (S.taken sink.new) (string_bytes self.old.text ++ lines_of_occurrence (writer_style self.old.places) with_local path.now (occurrence_of (records_of occurrence.entry))) (string_bytes self.new.text)) }
+        ensures broken { IfErr result (λ _. AppendsFront (S.taken sink.old) (S.taken sink.new) (string_bytes self.old.text ++ lines_of_occurrence (writer_style self.old.places) with_local path.now (occurrence_of (records_of occurrence.entry)))) }
+        ensures style { writer_style self.new.places ≡ writer_style self.old.places }
         ensures failures { S.failures sink.new ≡ failures_after result (S.failures sink.old) }
     {
         self.push_listed(occurrence, path, with_local)
@@ -140,8 +146,9 @@ impl<'a> Lines<'a> {
     ) -> Result<(), SinkFault>
         requires here { document.start + length document.bytes.now < 2 ^ 64 }
         requires text { HaveTextSymbols (document_of (records_of document)).occurrences }
-        ensures gathered { OnOk result (PutsAllBut (S.taken sink.old) (S.taken sink.new) (string_bytes self.old.text ++ lines_in with_local path.now (document_of (records_of document.entry)).occurrences) (string_bytes self.new.text)) }
-        ensures broken { IfErr result (λ _. AppendsFront (S.taken sink.old) (S.taken sink.new) (string_bytes self.old.text ++ lines_in with_local path.now (document_of (records_of document.entry)).occurrences)) }
+        ensures gathered { OnOk result (PutsAllBut (S.taken sink.old) (S.taken sink.new) (string_bytes self.old.text ++ lines_in (writer_style self.old.places) with_local path.now (document_of (records_of document.entry)).occurrences) (string_bytes self.new.text)) }
+        ensures broken { IfErr result (λ _. AppendsFront (S.taken sink.old) (S.taken sink.new) (string_bytes self.old.text ++ lines_in (writer_style self.old.places) with_local path.now (document_of (records_of document.entry)).occurrences)) }
+        ensures style { writer_style self.new.places ≡ writer_style self.old.places }
         ensures failures { S.failures sink.new ≡ failures_after result (S.failures sink.old) }
     {
         let mut rest = document;
@@ -160,8 +167,9 @@ impl<'a> Lines<'a> {
     ) -> Result<(), SinkFault>
         requires here { document.start + length document.bytes.now < 2 ^ 64 }
         requires text { IsTextDocument (document_of (records_of document)) }
-        ensures gathered { OnOk result (PutsAllBut (S.taken sink.old) (S.taken sink.new) (string_bytes self.old.text ++ lines_of_document (option_copied asked.entry) (document_of (records_of document.entry))) (string_bytes self.new.text)) }
-        ensures broken { IfErr result (λ _. AppendsFront (S.taken sink.old) (S.taken sink.new) (string_bytes self.old.text ++ lines_of_document (option_copied asked.entry) (document_of (records_of document.entry)))) }
+        ensures gathered { OnOk result (PutsAllBut (S.taken sink.old) (S.taken sink.new) (string_bytes self.old.text ++ lines_of_document (writer_style self.old.places) (option_copied asked.entry) (document_of (records_of document.entry))) (string_bytes self.new.text)) }
+        ensures broken { IfErr result (λ _. AppendsFront (S.taken sink.old) (S.taken sink.new) (string_bytes self.old.text ++ lines_of_document (writer_style self.old.places) (option_copied asked.entry) (document_of (records_of document.entry)))) }
+        ensures style { writer_style self.new.places ≡ writer_style self.old.places }
         ensures failures { S.failures sink.new ≡ failures_after result (S.failures sink.old) }
     {
         let path = last_bytes(1, document);
@@ -183,8 +191,9 @@ impl<'a> Lines<'a> {
     ) -> Result<(), SinkFault>
         requires here { index.start + length index.bytes.now < 2 ^ 64 }
         requires text { AreTextDocuments (documents_of index) }
-        ensures gathered { OnOk result (PutsAllBut (S.taken sink.old) (S.taken sink.new) (string_bytes self.old.text ++ flat_map (lines_of_document (option_copied asked.entry)) (documents_of index.entry)) (string_bytes self.new.text)) }
-        ensures broken { IfErr result (λ _. AppendsFront (S.taken sink.old) (S.taken sink.new) (string_bytes self.old.text ++ flat_map (lines_of_document (option_copied asked.entry)) (documents_of index.entry))) }
+        ensures gathered { OnOk result (PutsAllBut (S.taken sink.old) (S.taken sink.new) (string_bytes self.old.text ++ flat_map (lines_of_document (writer_style self.old.places) (option_copied asked.entry)) (documents_of index.entry)) (string_bytes self.new.text)) }
+        ensures broken { IfErr result (λ _. AppendsFront (S.taken sink.old) (S.taken sink.new) (string_bytes self.old.text ++ flat_map (lines_of_document (writer_style self.old.places) (option_copied asked.entry)) (documents_of index.entry))) }
+        ensures style { writer_style self.new.places ≡ writer_style self.old.places }
         ensures failures { S.failures sink.new ≡ failures_after result (S.failures sink.old) }
     {
         let mut rest = index;
@@ -201,13 +210,14 @@ pub(crate) fn put_definitions<S: Sink>(
     alloc: Global,
     bytes: &[u8],
     asked: Option<&str>,
+    style: PlaceStyle<'_>,
     sink: &mut S,
 ) -> Result<(), SinkFault>
     requires means { (index : PlainIndex) × Means bytes.now index }
-    ensures puts { (index : PlainIndex) → Means bytes.now index → Puts (S.taken sink.old) (S.taken sink.new) result (definition_lines (definitions_listed index (option_copied asked.entry))) }
+    ensures puts { (index : PlainIndex) → Means bytes.now index → Puts (S.taken sink.old) (S.taken sink.new) result (definition_lines (style_of style.entry) (definitions_listed index (option_copied asked.entry))) }
     ensures failures { S.failures sink.new ≡ failures_after result (S.failures sink.old) }
 {
-    let mut lines = Lines::new(alloc);
+    let mut lines = Lines::new(alloc, style);
     lines.put_documents(Inside { start: 0, bytes }, asked, sink)?;
     put_all(sink, lines.text.as_bytes())
 }

@@ -11,10 +11,10 @@ use Rattle.digraph.specs.Chains.{IsAcyclic}
 use Rattle.digraph.specs.Cycle.{ComesBack, EachLeadsToMember, IsEndless, IsLeast, IsNext, IsTurned, NamesCycle}
 use Rattle.digraph.specs.Edges.{successors, AreBetween, Leads}
 use Rattle.digraph.specs.Marks.{marked}
-use Rattle.digraph.proofs.LeastChains.{successor}
+use Rattle.digraph.proofs.Successors.{successor}
 use Rattle.digraph.proofs.Loops.{acyclic_without_endless}
 use Rattle.digraph.proofs.Members.{first_or_later}
-use Rattle.digraph.proofs.Rounds.{has_level}
+use Rattle.digraph.proofs.Parents.{some_or_none}
 use Rattle.digraph.proofs.Walks.{place_in, turned_at, walking_back, walking_first, walking_length, walking_more, Walking}
 
 -- ---- searches
@@ -242,7 +242,7 @@ module _ (edges : List Edge) (n : ℕ) (between : AreBetween edges n) where
     walked (suc fuel) walk table at w size room =
         let here : at < length table = (let l = e.within at w.member in omega arith) in
         let (y, is_next) = next at w.member in
-        elim (has_level (place_in (slice_set table at (Some (length walk))) y)) [
+        elim (some_or_none (place_in (slice_set table at (Some (length walk))) y)) [
           | inl (k, met) ↦ record { walk = walk ++ at ∷ []; place = k; back = walking_back (Leads edges) e.set walk table at w y k here is_next met }
           | inr unmet ↦
               let long : length (walk ++ at ∷ []) ≡ length walk + 1 = length-append walk (at ∷ []) in

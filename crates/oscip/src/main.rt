@@ -10,17 +10,14 @@ ghost use Rattle.oscip_job.specs.Jobs.{HasPackage, HasWorkers, IsPackage, MayWor
 
 use atomic_file::{ContentFault, ReplaceFault, StdFile, StdFiles, replace_file};
 use byte_sink::{Sink, ToWrite};
-use index_run::{
-    AcceptedIndex, OpenBoard, answer_index, answer_index_of_accepted, run_unresolved,
-    sources_to_index,
-};
+use index_run::{OpenBoard, answer_index, run_unresolved};
 use oscip_job::{Indexing, Job, JobFault, Output, job_of};
 use oscip_run::{
-    Reader, RunFault, Stream, SystemFiles, ask_tree, end_of, end_without_job, fault_line,
-    line_of_run, run_net, run_question,
+    Reader, RunFault, Stream, SystemFiles, TreeRun, end_of, end_of_tree, end_without_job,
+    line_of_run, run_net, run_question, run_tree, style_of_job, tree_files,
 };
-use oscip_tree::{Source, TreeFault};
-use std::alloc::{AllocError, Global};
+use oscip_tree::{PartedFiles, Source};
+use std::alloc::Global;
 use std::fs::File;
 use std::io::ErrorKind;
 use std::process::ExitCode;
@@ -28,6 +25,7 @@ use std::rt::{Env, Files};
 use std::sync::Wait;
 use std::thread::Threads;
 use std::{env, fs, io};
+use text_escape::PlaceStyle;
 
 /// The fault of a file with this path that can't be written, or `Memory`.
 fn cannot_write(alloc: Global, path: &str) -> RunFault {
@@ -58,206 +56,103 @@ fn index_to_file<R: Files + AllocGlobal + Threads + Wait + Sync>(
     }
 }
 
-/// Writes the line of a fault to standard error.
-fn report_fault<E: Sink>(
-    alloc: Global,
-    fault: &RunFault,
-    stderr: &mut Stream<E>,
-) -> Result<(), AllocError> {
-    let line = fault_line(alloc, fault)?;
-    let _ = stderr.write(line.as_str());
-    Ok(())
-}
-
-/// Writes the lines of these faults to standard error. If memory for one runs out, the others are still written.
-fn report_faults<E: Sink>(
-    alloc: Global,
-    faults: Vec<TreeFault>,
-    stderr: &mut Stream<E>,
-) -> Result<(), AllocError> {
-    let mut reported = Ok(());
-    for fault in faults {
-        if report_fault(alloc, &RunFault::from(fault), stderr).is_err() {
-            reported = Err(AllocError);
-        }
-    }
-    reported
-}
-
-/// Reports the faults of the files that were left out. Returns whether there is none, if the run on the others ended well. If memory for
-/// a line runs out, a fault of that run is still reported, and the run ends with Memory.
-fn end_of_index<E: Sink>(
-    alloc: Global,
-    index: AcceptedIndex,
-    stderr: &mut Stream<E>,
-) -> Result<bool, RunFault> {
-    let AcceptedIndex { faults, ended } = index;
-    let is_none = faults.is_empty();
-    if report_faults(alloc, faults, stderr).is_ok() {
-        return ended.map(|()| is_none);
-    }
-    match ended {
-        Ok(()) | Err(RunFault::Memory) => {}
-        Err(fault) => {
-            let _ = report_fault(alloc, &fault, stderr);
-        }
-    }
-    Err(RunFault::Memory)
-}
-
-/// Makes an index, of all files or of those that have no fault of their own, and writes it to the sink.
-fn make_index<R: AllocGlobal + Threads + Wait + Sync, S: Sink>(
-    rt: &R,
-    indexing: &Indexing,
-    sources: Vec<Source>,
-    sink: &mut S,
-) -> Result<AcceptedIndex, AllocError>
-    requires in_order { ArePathsInOrder sources.items }
-    requires package { IsPackage (string_bytes indexing.now.package) }
-    requires workers { MayWork indexing.now.workers }
-{
-    let alloc = rt.alloc();
-    if indexing.skips_faults {
-        return answer_index_of_accepted(rt, alloc, indexing, sources, &OpenBoard, sink);
-    }
-    let ended = answer_index(rt, alloc, indexing, sources.as_slice(), &OpenBoard, sink);
-    Ok(AcceptedIndex {
-        faults: Vec::new(alloc),
-        ended,
-    })
-}
-
-/// Writes an index to the sink, and keeps the faults of the files that are left out.
-fn write_index<R: AllocGlobal + Threads + Wait + Sync, S: Sink>(
-    rt: &R,
-    indexing: &Indexing,
-    sources: Vec<Source>,
-    sink: &mut S,
-    faults: &mut Vec<TreeFault>,
-) -> Result<(), ContentFault<RunFault>>
-    requires in_order { ArePathsInOrder sources.items }
-    requires package { IsPackage (string_bytes indexing.now.package) }
-    requires workers { MayWork indexing.now.workers }
-{
-    let Ok(index) = make_index(rt, indexing, sources, sink) else {
-        return Err(ContentFault::Other(RunFault::Memory));
-    };
-    *faults = index.faults;
-    match index.ended {
-        Ok(()) => Ok(()),
-        Err(RunFault::Device) => Err(ContentFault::Device),
-        Err(fault) => Err(ContentFault::Other(fault)),
-    }
-}
-
 /// Replaces the content of the file of this path by an index.
 fn replace_index<R: Files<File = File> + AllocGlobal + Threads + Wait + Sync>(
     rt: &R,
     indexing: &Indexing,
-    sources: Vec<Source>,
+    sources: &[Source],
     path: &str,
-) -> AcceptedIndex
-    requires in_order { ArePathsInOrder sources.items }
+) -> Result<(), RunFault>
+    requires in_order { ArePathsInOrder sources.now }
     requires package { IsPackage (string_bytes indexing.now.package) }
     requires workers { MayWork indexing.now.workers }
 {
     let alloc = rt.alloc();
-    let mut faults = Vec::new(alloc);
     let write = |file: &mut StdFile| -> Result<(), ContentFault<RunFault>>
-        requires in_order { ArePathsInOrder sources.items }
+        requires in_order { ArePathsInOrder sources.now }
         requires package { IsPackage (string_bytes indexing.now.package) }
         requires workers { MayWork indexing.now.workers }
-    { write_index(rt, indexing, sources, file, &mut faults) };
-    let ended = match replace_file(alloc, &mut StdFiles(rt), path, write) {
+    {
+        match answer_index(rt, alloc, indexing, sources, &OpenBoard, file) {
+            Ok(()) => Ok(()),
+            Err(RunFault::Device) => Err(ContentFault::Device),
+            Err(fault) => Err(ContentFault::Other(fault)),
+        }
+    };
+    match replace_file(alloc, &mut StdFiles(rt), path, write) {
         Ok(()) => Ok(()),
         Err(ReplaceFault::Target) => Err(cannot_write(alloc, path)),
         Err(ReplaceFault::Partial { path }) => Err(RunFault::CannotWrite { path }),
         Err(ReplaceFault::Content(fault)) => Err(fault),
         Err(ReplaceFault::Memory) => Err(RunFault::Memory),
-    };
-    AcceptedIndex { faults, ended }
+    }
 }
 
-/// Makes an index that replaces its file as a whole, or from which files are left out. Returns whether none was left out. Faults are
-/// reported once the new file is closed: if standard error isn't open, the file may have its number, and the index would get the lines.
-fn index_as_a_whole<R: Files<File = File> + AllocGlobal + Threads + Wait + Sync, S: Sink, E: Sink>(
+/// Writes an index where the job says.
+fn write_index<R: Files<File = File> + AllocGlobal + Threads + Wait + Sync, S: Sink>(
     rt: &R,
     indexing: &Indexing,
-    sources: Vec<Source>,
+    sources: &[Source],
     sink: &mut S,
-    stderr: &mut Stream<E>,
-) -> Result<bool, RunFault>
-    requires in_order { ArePathsInOrder sources.items }
+) -> Result<(), RunFault>
+    requires in_order { ArePathsInOrder sources.now }
     requires package { IsPackage (string_bytes indexing.now.package) }
     requires workers { MayWork indexing.now.workers }
 {
     match &indexing.output {
-        Output::File(path) => {
-            let index = replace_index(rt, indexing, sources, path.as_str());
-            end_of_index(rt.alloc(), index, stderr)
+        Output::File(path) if indexing.is_atomic => {
+            replace_index(rt, indexing, sources, path.as_str())
         }
-        Output::Hex => {
-            let index = make_index(rt, indexing, sources, sink)?;
-            end_of_index(rt.alloc(), index, stderr)
-        }
+        Output::File(path) => index_to_file(rt, indexing, sources, path.as_str()),
+        Output::Hex => answer_index(rt, rt.alloc(), indexing, sources, &OpenBoard, sink),
     }
 }
 
-/// Makes an index, once all files of its folder are read. False is one from which files were left out.
-fn run_index<
-    R: Files<File = File> + AllocGlobal + Threads + Wait + Sync,
-    F: Reader,
-    S: Sink,
-    E: Sink,
->(
+/// Makes an index, once all files of its folder are read.
+fn run_index<R: Files<File = File> + AllocGlobal + Threads + Wait + Sync, F: Reader, S: Sink>(
     rt: &R,
     reader: &F,
     indexing: &Indexing,
     sink: &mut S,
-    stderr: &mut Stream<E>,
-) -> Result<bool, RunFault>
+) -> Result<TreeRun, RunFault>
     requires package { IsPackage (string_bytes indexing.now.package) }
     requires workers { MayWork indexing.now.workers }
 {
-    let sources = sources_to_index(reader, indexing)?;
-    if indexing.is_atomic {
-        return index_as_a_whole(rt, indexing, sources, sink, stderr);
-    }
-    let sources = sources.as_slice();
-    match &indexing.output {
-        Output::File(path) => index_to_file(rt, indexing, sources, path.as_str())?,
-        Output::Hex => answer_index(rt, rt.alloc(), indexing, sources, &OpenBoard, sink)?,
-    }
-    Ok(true)
+    let tree = &indexing.tree;
+    let files = tree_files(rt, rt.alloc(), reader, tree, indexing.workers)?;
+    let PartedFiles { accepted, faults } = files;
+    let ended = write_index(rt, indexing, accepted.as_slice(), sink);
+    Ok(TreeRun {
+        faults,
+        ended: ended.map(|()| true),
+    })
 }
 
 /// Runs the job on the real files and the real standard output.
 fn run_job<
     R: Files<File = File> + AllocGlobal + Print + Threads + Wait + Sync + Clone + Drop,
     E: Sink,
->(rt: &R, job: &Job, stderr: &mut Stream<E>) -> Result<bool, RunFault>
+>(rt: &R, job: &Job, style: PlaceStyle<'_>, stderr: &mut Stream<E>) -> Result<bool, RunFault>
     requires workers { HasWorkers job.now }
     requires package { HasPackage job.now }
 {
+    let alloc = rt.alloc();
     let reader = SystemFiles(rt);
     let mut sink = ToWrite::new(io::writer(rt));
-    match job {
-        Job::Tree { folder, question } => {
-            let folder = folder.as_str();
-            ask_tree(rt, rt.alloc(), &reader, folder, question, &mut sink)
-        }
+    let run = match job {
+        Job::Tree { tree, question } => run_tree(rt, alloc, &reader, tree, question, &mut sink)?,
+        Job::Unresolved(tree) => run_unresolved(rt, alloc, &reader, tree, &mut sink)?,
+        Job::Index(indexing) => run_index(rt, &reader, indexing, &mut sink)?,
         Job::Network { network, question } => {
-            let network = network.as_str();
-            run_net(rt, rt.alloc(), &reader, network, question, &mut sink)
+            return run_net(rt, alloc, &reader, network.as_str(), question, &mut sink);
         }
-        Job::Ask { index, question } => {
-            run_question(rt.alloc(), &reader, index.as_str(), question, &mut sink)
-        }
-        Job::Index(indexing) => run_index(rt, &reader, indexing, &mut sink, stderr),
-        Job::Unresolved { folder } => {
-            run_unresolved(rt, rt.alloc(), &reader, folder.as_str(), &mut sink)
-        }
-    }
+        Job::Ask {
+            index,
+            question,
+            ..
+        } => return run_question(alloc, &reader, index.as_str(), question, style, &mut sink),
+    };
+    end_of_tree(alloc, run, style, stderr)
 }
 
 /// Runs the job, reports its fault, and returns the status.
@@ -268,8 +163,9 @@ fn end_of_job<
     requires workers { HasWorkers job.now }
     requires package { HasPackage job.now }
 {
-    let ended = run_job(rt, job, stderr);
-    let line = line_of_run(rt.alloc(), &ended);
+    let style = style_of_job(job);
+    let ended = run_job(rt, job, style, stderr);
+    let line = line_of_run(rt.alloc(), style, &ended);
     end_of(&ended, line, stderr)
 }
 

@@ -13,6 +13,7 @@ use oscip_tree::{Source, in_order};
 use std::alloc::{AllocError, Global};
 use std::sync::Wait;
 use std::thread::Threads;
+use text_escape::PlaceStyle;
 
 /// Why a workload stopped.
 #[derive(Clone, Copy, Debug)]
@@ -65,7 +66,7 @@ pub fn unresolved<R: Threads + AllocGlobal + Sync>(
     if !in_order(sources) {
         return Err(Stopped::Order);
     }
-    let ended = unresolved_to(rt, rt.alloc(), sources, digest);
+    let ended = unresolved_to(rt, rt.alloc(), sources, PlaceStyle::Plain, digest);
     digest.end(status_of_puts(&ended));
     Ok(())
 }
@@ -134,6 +135,6 @@ pub fn cut_in_net<R: Threads + Wait + AllocGlobal + Sync>(
 
 /// Asks an index for the places of the symbol at a position.
 pub fn ask(alloc: Global, question: &IndexQuestion, index: &[u8], digest: &mut Digest) {
-    let ended = answer_question(alloc, question, index, digest);
+    let ended = answer_question(alloc, question, index, PlaceStyle::Plain, digest);
     digest.end(status_of_puts(&ended));
 }

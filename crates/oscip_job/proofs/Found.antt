@@ -1,13 +1,14 @@
 -- From clap's matches to the values that a job holds.
-use Rattle.std.proofs.Common.{◌≡◌, ℕ, List, Option, Some, None, Result, Ok, refl, sym, ap, ap₂, ◌∙◌}
+use Rattle.std.proofs.Common.{◌≡◌, ℕ, List, [], Option, Some, None, Result, Ok, refl, sym, ap, ap₂, ◌∙◌}
 use Rattle.std.specs.Prelude.{option_map}
+use Rattle.std.specs.Option.{unwrap_or}
 use Rattle.std.specs.Str.Parse.{ParsesUnsigned}
 use Rattle.std.specs.Box.{box_value}
-use Rattle.clap.specs.Words.{ReadsOne, Row, Text, first_of, first_value, one_text, rows_of, subcommand_name_of, subcommand_rows, subcommand_rows_of}
+use Rattle.clap.specs.Words.{ReadsOne, Row, Text, all_of, first_of, first_value, matched_of, one_text, raw_values, rows_of, subcommand_name_of, subcommand_rows, subcommand_rows_of}
 use Rattle.clap.specs.declared.ArgMatches.{ArgMatches}
 use Rattle.clap.specs.declared.ArgMatches.TheViews.{out-ArgMatches, out-SubCommand}
 use Rattle.clap.specs.declared.parser.matches.Found.{Found}
-use Rattle.clap.proofs.WalkLemmas.{first_value-rows, one_text-rows}
+use Rattle.clap.proofs.WalkLemmas.{first_value-rows, one_text-rows, raw_values-rows}
 use Rattle.oscip_job.specs.Jobs.{FindsNumber}
 
 pub names_are : (m : ArgMatches) → option_map (λ p. p.0) (subcommand_rows_of m) ≡ subcommand_name_of m
@@ -31,6 +32,10 @@ first_found f id o e = sym (first_value-rows f id) ∙ sym e
 -- a value that was found, as the text that it was copied to
 pub value : (f : Found) (id text copy : Text) → Some text ≡ first_value f id → copy ≡ text → first_of id (rows_of f) ≡ Some copy
 value f id text copy e same = sym (first_value-rows f id) ∙ sym e ∙ ap Some (sym same)
+
+-- all values that were found for an argument
+pub all_found : (f : Found) (id : Text) (o : Option (List Text)) → o ≡ option_map raw_values (matched_of f id) → unwrap_or (all_of id (rows_of f)) [] ≡ unwrap_or o []
+all_found f id o e = ap (λ (x : Option (List Text)). unwrap_or x []) (sym (raw_values-rows f id) ∙ sym e)
 
 -- a number that was read of the text that was found
 pub number : {E : Type 0} (f : Found) (id : Text) (n : ℕ) (Gives : Text → Result ℕ E → Type 0) → ((text : Text) (read : Result ℕ E) → Gives text read → ParsesUnsigned 32 10 text read)

@@ -1,10 +1,11 @@
 -- The command line as clap reads it, and the job that its words give.
-use Rattle.std.specs.Prelude.{◌≡◌, ◌≢◌, ◌↔◌, ◌⊎◌, ◌++◌, ◌<◌, ◌≤◌, ◌^◌, ℕ, Bool, List, [], ◌∷◌, Option, Some, None, codes, nat_eq, option_map, pos, slice_get, String, true, false}
+use Rattle.std.specs.Prelude.{◌≡◌, ◌≢◌, ◌↔◌, ◌⊎◌, ◌++◌, ◌+◌, ◌<◌, ◌≤◌, ◌^◌, ℕ, Bool, List, [], ◌∷◌, Option, Some, None, codes, map, nat_eq, option_map, pos, slice_get, String, true, false}
 use Rattle.std.specs.declared.alloc.Global.{Global}
 use Rattle.std.specs.List.{starts_with}
+use Rattle.std.specs.Option.{unwrap_or}
 use Rattle.std.specs.Str.Parse.{digits_value, without_leading_plus, IsNumeral}
 use Rattle.std.specs.String.{string_bytes}
-use Rattle.clap.specs.Words.{App, Row, Text, first_of, one_of, new_app, new_rule, with_rule, with_subcommand}
+use Rattle.clap.specs.Words.{App, Row, Text, all_of, first_of, one_of, new_app, new_rule, with_rule, with_subcommand}
 use Rattle.clap.specs.Walk.{Rule}
 use Rattle.clap.specs.declared.builder.action.ArgAction.TheVariants as actions
 use Rattle.clap.specs.declared.builder.value_parser.ValueParser.TheVariants as parsers
@@ -13,20 +14,24 @@ use Rattle.oscip_job.specs.declared.job.Job.TheVariants.{Tree, Network, Ask, Ind
 use Rattle.oscip_job.specs.declared.job.AskedSymbol.{AskedSymbol}
 use Rattle.oscip_job.specs.declared.job.AskedSymbol.TheVariants.{At, Named}
 use Rattle.oscip_job.specs.declared.job.Cutting.{Cutting}
+use Rattle.oscip_job.specs.declared.job.Direction.{Direction}
+use Rattle.oscip_job.specs.declared.job.Direction.TheVariants.{Imported, Importing}
 use Rattle.oscip_job.specs.declared.job.Drawing.{Drawing}
 use Rattle.oscip_job.specs.declared.job.IndexQuestion.{IndexQuestion}
 use Rattle.oscip_job.specs.declared.job.IndexQuestion.TheVariants.{PlacesOf, SymbolAt, Symbols}
 use Rattle.oscip_job.specs.declared.job.Indexing.{Indexing}
 use Rattle.oscip_job.specs.declared.job.NetQuestion.{NetQuestion}
-use Rattle.oscip_job.specs.declared.job.NetQuestion.TheVariants.{Cut, Check, Dot, Why}
+use Rattle.oscip_job.specs.declared.job.NetQuestion.TheVariants.{Cut, Check, Dot, Why, Reach}
 use Rattle.oscip_job.specs.declared.job.Output.{Output}
 use Rattle.oscip_job.specs.declared.job.Output.TheVariants as outputs
 use Rattle.oscip_job.specs.declared.job.Places.{Places}
 use Rattle.oscip_job.specs.declared.job.Places.TheVariants.{Definitions, References}
 use Rattle.oscip_job.specs.declared.job.Position.{Position}
+use Rattle.oscip_job.specs.declared.job.Reaching.{Reaching}
 use Rattle.oscip_job.specs.declared.job.Reported.{Reported}
+use Rattle.oscip_job.specs.declared.job.SourceTree.{SourceTree}
 use Rattle.oscip_job.specs.declared.job.TreeQuestion.{TreeQuestion}
-use Rattle.oscip_job.specs.declared.job.TreeQuestion.TheVariants.{OfNet, Crossings, Net, Rules, Faults}
+use Rattle.oscip_job.specs.declared.job.TreeQuestion.TheVariants.{OfNet, Crossings, Net, Rules, Faults, Modules}
 use Rattle.oscip_job.specs.declared.job.TwoNames.{TwoNames}
 
 -- an argument that has to be given
@@ -58,33 +63,71 @@ prices_rule = record (new_rule (codes "prices")) { long = Some (codes "prices");
 abbrev pub with_prices : App → App
 with_prices app = with_rule app prices_rule
 
+-- an option that is given or not
+abbrev pub flag_rule : Text → Rule
+flag_rule id = record (new_rule id) { long = Some id; action = Some actions.SetTrue }
+
+-- --exclude PATTERN, any number of times
+abbrev pub exclude_rule : Rule
+exclude_rule = record (new_rule (codes "exclude")) { long = Some (codes "exclude"); value_names = 1; action = Some actions.Append }
+
+-- the command with --editor
+abbrev pub with_editor : App → App
+with_editor app = with_rule app (flag_rule (codes "editor"))
+
+-- the command with [--exclude PATTERN].. [--editor]
+abbrev pub with_walk_options : App → App
+with_walk_options app = with_editor (with_rule app exclude_rule)
+
+-- the command with [--exclude PATTERN].. [--editor] [--skip-faults]
+abbrev pub with_tree_options : App → App
+with_tree_options app = with_rule (with_walk_options app) (flag_rule (codes "skip-faults"))
+
+-- A command on a folder has the options of with_tree_options beside those that are shown; `faults` has those of with_walk_options.
+
 -- cut [--workers N] [--prices FILE] DIR A B
 abbrev pub cut_app : App
-cut_app = with_prices (with_workers (with_modules (with_rule (new_app (codes "cut")) (required_rule (codes "DIR")))))
+cut_app = with_tree_options (with_prices (with_workers (with_modules (with_rule (new_app (codes "cut")) (required_rule (codes "DIR"))))))
 
 -- check [--prices FILE] DIR REPORT
 abbrev pub check_app : App
-check_app = with_prices (with_rule (with_rule (new_app (codes "check")) (required_rule (codes "DIR"))) (required_rule (codes "REPORT")))
+check_app = with_tree_options (with_prices (with_rule (with_rule (new_app (codes "check")) (required_rule (codes "DIR"))) (required_rule (codes "REPORT"))))
 
 -- crossings DIR M N
 abbrev pub crossings_app : App
-crossings_app = with_rule (with_rule (with_rule (new_app (codes "crossings")) (required_rule (codes "DIR"))) (required_rule (codes "M"))) (required_rule (codes "N"))
+crossings_app = with_tree_options (with_rule (with_rule (with_rule (new_app (codes "crossings")) (required_rule (codes "DIR"))) (required_rule (codes "M"))) (required_rule (codes "N")))
 
 -- net DIR
 abbrev pub net_app : App
-net_app = with_rule (new_app (codes "net")) (required_rule (codes "DIR"))
+net_app = with_tree_options (with_rule (new_app (codes "net")) (required_rule (codes "DIR")))
 
 -- rules DIR FILE
 abbrev pub rules_app : App
-rules_app = with_rule (with_rule (new_app (codes "rules")) (required_rule (codes "DIR"))) (required_rule (codes "FILE"))
+rules_app = with_tree_options (with_rule (with_rule (new_app (codes "rules")) (required_rule (codes "DIR"))) (required_rule (codes "FILE")))
 
 -- faults DIR
 abbrev pub faults_app : App
-faults_app = with_rule (new_app (codes "faults")) (required_rule (codes "DIR"))
+faults_app = with_walk_options (with_rule (new_app (codes "faults")) (required_rule (codes "DIR")))
 
 -- why DIR A B
 abbrev pub why_app : App
-why_app = with_modules (with_rule (new_app (codes "why")) (required_rule (codes "DIR")))
+why_app = with_tree_options (with_modules (with_rule (new_app (codes "why")) (required_rule (codes "DIR"))))
+
+-- the command with [--back] and M
+abbrev pub with_reached : App → App
+with_reached app = with_rule (with_rule app (required_rule (codes "M"))) (flag_rule (codes "back"))
+
+-- reach [--back] DIR M
+abbrev pub reach_app : App
+reach_app = with_tree_options (with_reached (with_rule (new_app (codes "reach")) (required_rule (codes "DIR"))))
+
+-- reach-net [--back] FILE M
+abbrev pub reach_net_app : App
+reach_net_app = with_reached (with_rule (new_app (codes "reach-net")) (required_rule (codes "FILE")))
+
+-- modules DIR
+abbrev pub modules_app : App
+modules_app = with_tree_options (with_rule (new_app (codes "modules")) (required_rule (codes "DIR")))
 
 -- cut-net [--workers N] [--prices FILE] FILE A B
 abbrev pub cut_net_app : App
@@ -98,17 +141,13 @@ check_net_app = with_prices (with_rule (with_rule (new_app (codes "check-net")) 
 abbrev pub why_net_app : App
 why_net_app = with_modules (with_rule (new_app (codes "why-net")) (required_rule (codes "FILE")))
 
--- an option that is given or not
-abbrev pub flag_rule : Text → Rule
-flag_rule id = record (new_rule id) { long = Some id; action = Some actions.SetTrue }
-
 -- the command with --flow
 abbrev pub with_flow : App → App
 with_flow app = with_rule app (flag_rule (codes "flow"))
 
 -- dot [--flow] [--prices FILE] DIR REPORT
 abbrev pub dot_app : App
-dot_app = with_flow (with_prices (with_rule (with_rule (new_app (codes "dot")) (required_rule (codes "DIR"))) (required_rule (codes "REPORT"))))
+dot_app = with_tree_options (with_flow (with_prices (with_rule (with_rule (new_app (codes "dot")) (required_rule (codes "DIR"))) (required_rule (codes "REPORT")))))
 
 -- dot-net [--flow] [--prices FILE] FILE REPORT
 abbrev pub dot_net_app : App
@@ -131,9 +170,9 @@ index_question_app name = with_rule (new_app name) (required_rule (codes "INDEX"
 abbrev pub symbol_rule : Rule
 symbol_rule = record (new_rule (codes "symbol")) { long = Some (codes "symbol"); value_names = 1 }
 
--- a command of this name, [--symbol TEXT] INDEX [PATH] [LINE] [COL]
+-- a command of this name, [--symbol TEXT] [--editor] INDEX [PATH] [LINE] [COL]
 abbrev pub asking_app : Text → App
-asking_app name = with_rule (with_position false (index_question_app name)) symbol_rule
+asking_app name = with_editor (with_rule (with_position false (index_question_app name)) symbol_rule)
 
 abbrev pub def_app : App
 def_app = asking_app (codes "def")
@@ -141,13 +180,13 @@ def_app = asking_app (codes "def")
 abbrev pub refs_app : App
 refs_app = asking_app (codes "refs")
 
--- symbol INDEX PATH LINE COL
+-- symbol [--editor] INDEX PATH LINE COL
 abbrev pub symbol_app : App
-symbol_app = with_position true (index_question_app (codes "symbol"))
+symbol_app = with_editor (with_position true (index_question_app (codes "symbol")))
 
--- symbols INDEX [PATH]
+-- symbols [--editor] INDEX [PATH]
 abbrev pub symbols_app : App
-symbols_app = with_rule (index_question_app (codes "symbols")) (new_rule (codes "PATH"))
+symbols_app = with_editor (with_rule (index_question_app (codes "symbols")) (new_rule (codes "PATH")))
 
 -- [OUT] [--hex]
 abbrev pub with_output : App → App
@@ -157,24 +196,23 @@ with_output app = with_rule (with_rule app (new_rule (codes "OUT"))) (flag_rule 
 abbrev pub text_rule : Text → Rule
 text_rule id = record (new_rule id) { long = Some id; value_names = 1; defaults = [] ∷ [] }
 
--- [--package TEXT] [--root TEXT] [--workers N] [--atomic] [--skip-faults]
+-- [--package TEXT] [--root TEXT] [--workers N] [--atomic]
 abbrev pub with_options : App → App
-with_options app =
-    with_rule (with_rule (with_workers (with_rule (with_rule app (text_rule (codes "package"))) (text_rule (codes "root")))) (flag_rule (codes "atomic"))) (flag_rule (codes "skip-faults"))
+with_options app = with_rule (with_workers (with_rule (with_rule app (text_rule (codes "package"))) (text_rule (codes "root")))) (flag_rule (codes "atomic"))
 
--- index [--hex] [--package TEXT] [--root TEXT] [--workers N] [--atomic] [--skip-faults] DIR [OUT]
+-- index [--hex] [--package TEXT] [--root TEXT] [--workers N] [--atomic] DIR [OUT]
 abbrev pub index_app : App
-index_app = with_options (with_output (with_rule (new_app (codes "index")) (required_rule (codes "DIR"))))
+index_app = with_tree_options (with_options (with_output (with_rule (new_app (codes "index")) (required_rule (codes "DIR")))))
 
 -- unresolved DIR
 abbrev pub unresolved_app : App
-unresolved_app = with_rule (new_app (codes "unresolved")) (required_rule (codes "DIR"))
+unresolved_app = with_tree_options (with_rule (new_app (codes "unresolved")) (required_rule (codes "DIR")))
 
 -- the program, which tells its version, and one of whose commands has to be given
 abbrev pub program_app : App
 program_app = record (new_app (codes "oscip")) { top = record (new_app (codes "oscip")).top { subcommand_required = true; has_version = true } }
 
--- the program with the commands on folders of modules, those on networks, those that draw, those on indexes and those that index
+-- the program with the commands on folders of modules, those on networks, those that list modules, those that draw, those on indexes and those that index
 abbrev pub with_trees : App → App
 with_trees app = with_subcommand (with_subcommand (with_subcommand app cut_app.top) check_app.top) crossings_app.top
 
@@ -183,6 +221,9 @@ with_imports app = with_subcommand (with_subcommand (with_subcommand app net_app
 
 abbrev pub with_nets : App → App
 with_nets app = with_subcommand (with_subcommand (with_subcommand app cut_net_app.top) check_net_app.top) why_net_app.top
+
+abbrev pub with_lists : App → App
+with_lists app = with_subcommand (with_subcommand (with_subcommand app modules_app.top) reach_app.top) reach_net_app.top
 
 abbrev pub with_pictures : App → App
 with_pictures app = with_subcommand (with_subcommand app dot_app.top) dot_net_app.top
@@ -198,7 +239,7 @@ with_indexers app = with_subcommand (with_subcommand (with_subcommand app index_
 
 -- the program and its commands
 abbrev pub oscip : App
-oscip = with_indexers (with_symbols (with_indexes (with_pictures (with_nets (with_imports (with_trees program_app))))))
+oscip = with_indexers (with_symbols (with_indexes (with_pictures (with_lists (with_nets (with_imports (with_trees program_app)))))))
 
 -- the text that was found for an argument
 abbrev pub Finds : List Row → Text → Text → Type 0
@@ -232,10 +273,18 @@ NamesPosition rows = NamesWithin (codes "LINE") 0 2147483647 rows × NamesWithin
 abbrev pub NamesNumbers : List Row → Type 0
 NamesNumbers rows = NamesWorkers rows × NamesPosition rows
 
+-- an option that is given or not was given
+abbrev pub IsGiven : List Row → Text → Type 0
+IsGiven rows id = Finds rows id (codes "true")
+
+-- the number from 0 of what an argument counts: from 1 if --editor was given, and else from 0
+abbrev pub FindsFromZero : List Row → Text → ℕ → Type 0
+FindsFromZero rows id n = (IsGiven rows (codes "editor") × FindsNumber rows id (n + 1)) ⊎ ((IsGiven rows (codes "editor") → ⊥) × FindsNumber rows id n)
+
 -- the position holds the values that were found for its arguments
 abbrev pub HasPlace : List Row → Position → Type 0
 HasPlace rows at =
-    Finds rows (codes "PATH") (string_bytes at.path) × FindsNumber rows (codes "LINE") at.line × FindsNumber rows (codes "COL") at.column
+    Finds rows (codes "PATH") (string_bytes at.path) × FindsFromZero rows (codes "LINE") at.line × FindsFromZero rows (codes "COL") at.column
 
 -- an argument wasn't given
 abbrev pub LacksValue : List Row → Text → Type 0
@@ -253,14 +302,20 @@ HasIndexQuestion rows (PlacesOf places symbol) = HasAskedSymbol rows symbol
 HasIndexQuestion rows (SymbolAt position) = HasPlace rows position
 HasIndexQuestion rows (Symbols path) = MayFind rows (codes "PATH") path
 
--- an option that is given or not was given
-abbrev pub IsGiven : List Row → Text → Type 0
-IsGiven rows id = Finds rows id (codes "true")
-
 -- the one place that the words name: standard output, by --hex and without --atomic, or a file, by OUT
 abbrev pub HasOutput : List Row → Output → Type 0
 HasOutput rows outputs.Hex = IsGiven rows (codes "hex") × LacksValue rows (codes "OUT") × (IsGiven rows (codes "atomic") → ⊥)
 HasOutput rows (outputs.File path) = (IsGiven rows (codes "hex") → ⊥) × Finds rows (codes "OUT") (string_bytes path)
+
+-- the texts that were found for an argument, and no text if it wasn't given
+abbrev pub FindsAll : List Row → Text → List Text → Type 0
+FindsAll rows id found = unwrap_or (all_of id rows) [] ≡ found
+
+-- the tree holds the values that were found for its arguments
+abbrev pub HasTree : List Row → SourceTree → Type 0
+HasTree rows tree =
+    Finds rows (codes "DIR") (string_bytes tree.folder) × FindsAll rows (codes "exclude") (map string_bytes tree.excluded.items)
+    × (tree.skips_faults ≡ true ↔ IsGiven rows (codes "skip-faults")) × (tree.for_editor ≡ true ↔ IsGiven rows (codes "editor"))
 
 -- --atomic was given, or --skip-faults, which implies it
 abbrev pub AsksForAtomic : List Row → Type 0
@@ -269,9 +324,8 @@ AsksForAtomic rows = IsGiven rows (codes "atomic") ⊎ IsGiven rows (codes "skip
 -- the index holds the values that were found for its arguments
 abbrev pub HasIndexing : List Row → Indexing → Type 0
 HasIndexing rows it =
-    Finds rows (codes "DIR") (string_bytes it.folder) × HasOutput rows it.output × Finds rows (codes "package") (string_bytes it.package)
-    × Finds rows (codes "root") (string_bytes it.root) × FindsNumber rows (codes "workers") it.workers
-    × (it.skips_faults ≡ true ↔ IsGiven rows (codes "skip-faults")) × (it.is_atomic ≡ true ↔ AsksForAtomic rows)
+    HasTree rows it.tree × HasOutput rows it.output × Finds rows (codes "package") (string_bytes it.package)
+    × Finds rows (codes "root") (string_bytes it.root) × FindsNumber rows (codes "workers") it.workers × (it.is_atomic ≡ true ↔ AsksForAtomic rows)
 
 -- the names of two modules, which these arguments give
 abbrev pub HasTwoNames : List Row → Text → Text → TwoNames → Type 0
@@ -291,12 +345,22 @@ HasReported rows it = Finds rows (codes "REPORT") (string_bytes it.report) × Ma
 abbrev pub HasDrawing : List Row → Drawing → Type 0
 HasDrawing rows it = HasReported rows it.reported × (it.by_flow ≡ true ↔ IsGiven rows (codes "flow"))
 
+-- the direction is along the imports, and against them if --back was given
+abbrev pub HasDirection : List Row → Direction → Type 0
+HasDirection rows Imported = IsGiven rows (codes "back") → ⊥
+HasDirection rows Importing = IsGiven rows (codes "back")
+
+-- the module from which others are reached
+abbrev pub HasReaching : List Row → Reaching → Type 0
+HasReaching rows it = Finds rows (codes "M") (string_bytes it.module) × HasDirection rows it.direction
+
 -- what is asked of a network holds the values that were found for its arguments
 abbrev pub HasNetQuestion : List Row → NetQuestion → Type 0
 HasNetQuestion rows (Cut cutting) = HasCutting rows cutting
 HasNetQuestion rows (Check reported) = HasReported rows reported
 HasNetQuestion rows (Dot drawing) = HasDrawing rows drawing
 HasNetQuestion rows (Why names) = HasTwoNames rows (codes "A") (codes "B") names
+HasNetQuestion rows (Reach reaching) = HasReaching rows reaching
 
 -- so does what is asked of a tree
 abbrev pub HasTreeQuestion : List Row → TreeQuestion → Type 0
@@ -305,14 +369,16 @@ HasTreeQuestion rows (Crossings names) = HasTwoNames rows (codes "M") (codes "N"
 HasTreeQuestion rows Net = Unit {0}
 HasTreeQuestion rows (Rules rules) = Finds rows (codes "FILE") (string_bytes rules)
 HasTreeQuestion rows Faults = Unit {0}
+HasTreeQuestion rows Modules = Unit {0}
 
 -- the job holds the values that were found for its arguments
 abbrev pub HasValues : List Row → Job → Type 0
-HasValues rows (Tree folder question) = Finds rows (codes "DIR") (string_bytes folder) × HasTreeQuestion rows question
+HasValues rows (Tree tree question) = HasTree rows tree × HasTreeQuestion rows question
 HasValues rows (Network network question) = Finds rows (codes "FILE") (string_bytes network) × HasNetQuestion rows question
-HasValues rows (Ask index question) = Finds rows (codes "INDEX") (string_bytes index) × HasIndexQuestion rows question
+HasValues rows (Ask index question for_editor) =
+    Finds rows (codes "INDEX") (string_bytes index) × HasIndexQuestion rows question × (for_editor ≡ true ↔ IsGiven rows (codes "editor"))
 HasValues rows (Index indexing) = HasIndexing rows indexing
-HasValues rows (Unresolved folder) = Finds rows (codes "DIR") (string_bytes folder)
+HasValues rows (Unresolved tree) = HasTree rows tree
 
 -- the word for what is asked of a network
 abbrev pub net_question_name : NetQuestion → Text
@@ -320,6 +386,7 @@ net_question_name (Cut cutting) = codes "cut"
 net_question_name (Check reported) = codes "check"
 net_question_name (Dot drawing) = codes "dot"
 net_question_name (Why names) = codes "why"
+net_question_name (Reach reaching) = codes "reach"
 
 -- the word for what is asked of a tree
 abbrev pub tree_question_name : TreeQuestion → Text
@@ -328,6 +395,7 @@ tree_question_name (Crossings names) = codes "crossings"
 tree_question_name Net = codes "net"
 tree_question_name (Rules rules) = codes "rules"
 tree_question_name Faults = codes "faults"
+tree_question_name Modules = codes "modules"
 
 -- the word for which places an index is asked for
 abbrev pub asking_name : Places → Text
@@ -342,11 +410,11 @@ index_question_name (Symbols path) = codes "symbols"
 
 -- the word that names the command
 abbrev pub command_name : Job → Text
-command_name (Tree folder question) = tree_question_name question
+command_name (Tree tree question) = tree_question_name question
 command_name (Network network question) = net_question_name question ++ codes "-net"
-command_name (Ask index question) = index_question_name question
+command_name (Ask index question for_editor) = index_question_name question
 command_name (Index indexing) = codes "index"
-command_name (Unresolved folder) = codes "unresolved"
+command_name (Unresolved tree) = codes "unresolved"
 
 -- the command that clap found is the job's, with its values
 abbrev pub Holds : Option (Text × List Row) → Job → Type 0
@@ -359,6 +427,7 @@ HasNetWorkers (Cut cutting) = MayWork cutting.workers
 HasNetWorkers (Check reported) = Unit {0}
 HasNetWorkers (Dot drawing) = Unit {0}
 HasNetWorkers (Why names) = Unit {0}
+HasNetWorkers (Reach reaching) = Unit {0}
 
 abbrev pub HasTreeWorkers : TreeQuestion → Type 0
 HasTreeWorkers (OfNet question) = HasNetWorkers question
@@ -366,14 +435,15 @@ HasTreeWorkers (Crossings names) = Unit {0}
 HasTreeWorkers Net = Unit {0}
 HasTreeWorkers (Rules rules) = Unit {0}
 HasTreeWorkers Faults = Unit {0}
+HasTreeWorkers Modules = Unit {0}
 
 -- so those of the job
 abbrev pub HasWorkers : Job → Type 0
-HasWorkers (Tree folder question) = HasTreeWorkers question
+HasWorkers (Tree tree question) = HasTreeWorkers question
 HasWorkers (Network network question) = HasNetWorkers question
-HasWorkers (Ask index question) = Unit {0}
+HasWorkers (Ask index question for_editor) = Unit {0}
 HasWorkers (Index indexing) = MayWork indexing.workers
-HasWorkers (Unresolved folder) = Unit {0}
+HasWorkers (Unresolved tree) = Unit {0}
 
 -- the position's line and column are at most 2147483647
 abbrev pub IsWithin : Position → Type 0
@@ -391,11 +461,11 @@ HasIndexPosition (Symbols path) = Unit {0}
 
 -- so those of the job, where it has them
 abbrev pub HasPosition : Job → Type 0
-HasPosition (Tree folder question) = Unit {0}
+HasPosition (Tree tree question) = Unit {0}
 HasPosition (Network network question) = Unit {0}
-HasPosition (Ask index question) = HasIndexPosition question
+HasPosition (Ask index question for_editor) = HasIndexPosition question
 HasPosition (Index indexing) = Unit {0}
-HasPosition (Unresolved folder) = Unit {0}
+HasPosition (Unresolved tree) = Unit {0}
 
 -- the text of a symbol of one document
 abbrev pub is_local : Text → Bool
@@ -413,11 +483,11 @@ HasIndexPath (Symbols path) = Unit {0}
 
 -- so that of the job, where it has one
 abbrev pub HasPath : Job → Type 0
-HasPath (Tree folder question) = Unit {0}
+HasPath (Tree tree question) = Unit {0}
 HasPath (Network network question) = Unit {0}
-HasPath (Ask index question) = HasIndexPath question
+HasPath (Ask index question for_editor) = HasIndexPath question
 HasPath (Index indexing) = Unit {0}
-HasPath (Unresolved folder) = Unit {0}
+HasPath (Unresolved tree) = Unit {0}
 
 -- the text of a symbol that a question names isn't empty
 abbrev pub HasSymbolText : AskedSymbol → Type 0
@@ -431,11 +501,11 @@ HasIndexText (Symbols path) = Unit {0}
 
 -- so that of the job, where it names one
 abbrev pub HasText : Job → Type 0
-HasText (Tree folder question) = Unit {0}
+HasText (Tree tree question) = Unit {0}
 HasText (Network network question) = Unit {0}
-HasText (Ask index question) = HasIndexText question
+HasText (Ask index question for_editor) = HasIndexText question
 HasText (Index indexing) = Unit {0}
-HasText (Unresolved folder) = Unit {0}
+HasText (Unresolved tree) = Unit {0}
 
 -- a package that can stand in a symbol: it isn't a full stop, and no space stands in front
 abbrev pub IsPackage : Text → Type 0
@@ -443,11 +513,11 @@ IsPackage text = (text ≢ codes ".") × (slice_get text 0 ≢ Some 32)
 
 -- so that of the job, where it has one
 abbrev pub HasPackage : Job → Type 0
-HasPackage (Tree folder question) = Unit {0}
+HasPackage (Tree tree question) = Unit {0}
 HasPackage (Network network question) = Unit {0}
-HasPackage (Ask index question) = Unit {0}
+HasPackage (Ask index question for_editor) = Unit {0}
 HasPackage (Index indexing) = IsPackage (string_bytes indexing.package)
-HasPackage (Unresolved folder) = Unit {0}
+HasPackage (Unresolved tree) = Unit {0}
 
 -- the job is that of the command that clap found, and its numbers, its package, its path and its symbol are as they may be
 abbrev pub IsJobOf : Option (Text × List Row) → Job → Type 0

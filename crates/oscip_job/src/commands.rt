@@ -1,15 +1,16 @@
 //! The commands of the program and their words, as `clap` takes them.
 ghost use Rattle.std.specs.Prelude.{◌≡◌, IfOk, codes, false};
 ghost use Rattle.clap.specs.Words.{app_of, new_app, new_rule, rule_of, with_rule, with_subcommand, App};
-ghost use Rattle.oscip_job.specs.Jobs.{asking_app, crossings_app, faults_app, flag_rule, index_app, index_question_app, net_app, number_rule, oscip, program_app, required_rule, rules_app, symbol_app, symbol_rule, symbols_app, text_rule, unresolved_app, with_flow, with_imports, with_indexers, with_indexes, with_modules, with_nets, with_options, with_output, with_pictures, with_position, with_prices, with_symbols, with_trees, with_workers};
+ghost use Rattle.oscip_job.specs.Jobs.{asking_app, crossings_app, exclude_rule, faults_app, flag_rule, index_app, index_question_app, modules_app, net_app, number_rule, oscip, program_app, reach_app, reach_net_app, required_rule, rules_app, symbol_app, symbol_rule, symbols_app, text_rule, unresolved_app, with_editor, with_flow, with_imports, with_indexers, with_indexes, with_lists, with_modules, with_nets, with_options, with_output, with_pictures, with_position, with_prices, with_reached, with_symbols, with_tree_options, with_trees, with_walk_options, with_workers};
 ghost use Rattle.oscip_job.specs.Making.{Reads};
 
 use crate::helps::{
     ATOMIC_HELP, CHECK_END, CHECK_NET_END, CROSSINGS_END, CUT_END, CUT_NET_END, DEF_END, DEF_USAGE,
-    DOT_END, DOT_NET_END, FAULTS_END, FOLDER_HELP, INDEX_END, INDEX_USAGE, NET_END, NETWORK_HELP,
-    OUT_HELP, PATH_HELP, PRICES_HELP, PROGRAM_END, REFS_END, REFS_USAGE, RULES_END, RULES_HELP,
-    SKIP_FAULTS_HELP, SYMBOL_END, SYMBOL_HELP, SYMBOLS_END, UNRESOLVED_END, VERSION, WHY_END,
-    WHY_NET_END,
+    DOT_END, DOT_NET_END, EDITOR_HELP, EXCLUDE_HELP, FAULTS_END, FOLDER_HELP, INDEX_END,
+    INDEX_SKIP_FAULTS_HELP, INDEX_USAGE, MODULES_END, NET_END, NETWORK_HELP, OUT_HELP, PATH_HELP,
+    PRICES_HELP, PROGRAM_END, REACH_END, REACH_NET_END, REFS_END, REFS_USAGE, RULES_END,
+    RULES_HELP, SKIP_FAULTS_HELP, SYMBOL_END, SYMBOL_HELP, SYMBOLS_END, TREE_EDITOR_HELP,
+    UNRESOLVED_END, VERSION, WHY_END, WHY_NET_END,
 };
 use clap::{Arg, ArgAction, Command, value_parser};
 use std::alloc::{AllocError, Global};
@@ -173,6 +174,42 @@ fn with_flag<'a>(alloc: Global, command: Made<'a>, id: &'a str, help: &'a str) -
     with_arg(alloc, command, flag)
 }
 
+/// The command with the option of patterns of excluded files.
+fn with_exclude<'a>(alloc: Global, command: Made<'a>) -> Made<'a>
+    ensures { (app : App) → IfOk command.entry (λ c. Reads app c.value) → IfOk result (λ c. Reads (with_rule app exclude_rule) c.value) }
+{
+    let command = command?;
+    let exclude = Arg::new(alloc, "exclude")
+        .long("exclude")
+        .value_name("PATTERN")
+        .action(ArgAction::Append)
+        .help(EXCLUDE_HELP);
+    with_arg(alloc, command, exclude)
+}
+
+/// The command with the option of locations for editors.
+fn with_editor<'a>(alloc: Global, command: Made<'a>, help: &'a str) -> Made<'a>
+    ensures { (app : App) → IfOk command.entry (λ c. Reads app c.value) → IfOk result (λ c. Reads (with_editor app) c.value) }
+{
+    with_flag(alloc, command, "editor", help)
+}
+
+/// The command with the options of a folder that is walked.
+fn with_walk_options<'a>(alloc: Global, command: Made<'a>) -> Made<'a>
+    ensures { (app : App) → IfOk command.entry (λ c. Reads app c.value) → IfOk result (λ c. Reads (with_walk_options app) c.value) }
+{
+    let command = with_exclude(alloc, command);
+    with_editor(alloc, command, TREE_EDITOR_HELP)
+}
+
+/// The command with the options of a folder whose modules are read.
+fn with_tree_options<'a>(alloc: Global, command: Made<'a>, skip_help: &'a str) -> Made<'a>
+    ensures { (app : App) → IfOk command.entry (λ c. Reads app c.value) → IfOk result (λ c. Reads (with_tree_options app) c.value) }
+{
+    let command = with_walk_options(alloc, command);
+    with_flag(alloc, command, "skip-faults", skip_help)
+}
+
 /// The command with the option of the picture by flow.
 fn with_flow<'a>(alloc: Global, command: Made<'a>) -> Made<'a>
     ensures { (app : App) → IfOk command.entry (λ c. Reads app c.value) → IfOk result (λ c. Reads (with_flow app) c.value) }
@@ -208,7 +245,8 @@ fn crossings_command<'a>(alloc: Global) -> Made<'a>
         CROSSINGS_END,
     );
     let command = with_required(alloc, command, "DIR", FOLDER_HELP);
-    with_users(alloc, command)
+    let command = with_users(alloc, command);
+    with_tree_options(alloc, command, SKIP_FAULTS_HELP)
 }
 
 fn net_command<'a>(alloc: Global) -> Made<'a>
@@ -220,7 +258,8 @@ fn net_command<'a>(alloc: Global) -> Made<'a>
         "Print which Oberon-07 module imports which, and by how many uses, as a network",
         NET_END,
     );
-    with_required(alloc, command, "DIR", FOLDER_HELP)
+    let command = with_required(alloc, command, "DIR", FOLDER_HELP);
+    with_tree_options(alloc, command, SKIP_FAULTS_HELP)
 }
 
 fn rules_command<'a>(alloc: Global) -> Made<'a>
@@ -229,11 +268,12 @@ fn rules_command<'a>(alloc: Global) -> Made<'a>
     let command = named(
         alloc,
         "rules",
-        "Check Oberon-07 modules against rules that say which may not reach which",
+        "Check Oberon-07 modules against rules that say which may not import which",
         RULES_END,
     );
     let command = with_required(alloc, command, "DIR", FOLDER_HELP);
-    with_required(alloc, command, "FILE", RULES_HELP)
+    let command = with_required(alloc, command, "FILE", RULES_HELP);
+    with_tree_options(alloc, command, SKIP_FAULTS_HELP)
 }
 
 /// The command of this name with the words of a search for a chain: what it is searched in, and the names of two modules.
@@ -255,6 +295,54 @@ fn chaining<'a>(
         "The name of the module that the path begins with",
         "The name of the module that the path ends with",
     )
+}
+
+/// The command with the option of the direction against the imports, and the name of a module.
+fn with_reached<'a>(alloc: Global, command: Made<'a>) -> Made<'a>
+    ensures { (app : App) → IfOk command.entry (λ c. Reads app c.value) → IfOk result (λ c. Reads (with_reached app) c.value) }
+{
+    let command = with_required(alloc, command, "M", "The name of the module");
+    with_flag(alloc, command, "back", "List the modules that reach M")
+}
+
+fn reach_command<'a>(alloc: Global) -> Made<'a>
+    ensures { IfOk result (λ c. Reads reach_app c.value) }
+{
+    let command = named(
+        alloc,
+        "reach",
+        "List the Oberon-07 modules that a module reaches by one or more imports",
+        REACH_END,
+    );
+    let command = with_required(alloc, command, "DIR", FOLDER_HELP);
+    let command = with_reached(alloc, command);
+    with_tree_options(alloc, command, SKIP_FAULTS_HELP)
+}
+
+fn reach_net_command<'a>(alloc: Global) -> Made<'a>
+    ensures { IfOk result (λ c. Reads reach_net_app c.value) }
+{
+    let command = named(
+        alloc,
+        "reach-net",
+        "List the modules of a network that a module reaches by one or more imports",
+        REACH_NET_END,
+    );
+    let command = with_required(alloc, command, "FILE", NETWORK_HELP);
+    with_reached(alloc, command)
+}
+
+fn modules_command<'a>(alloc: Global) -> Made<'a>
+    ensures { IfOk result (λ c. Reads modules_app c.value) }
+{
+    let command = named(
+        alloc,
+        "modules",
+        "List Oberon-07 modules and the imported ones without a file",
+        MODULES_END,
+    );
+    let command = with_required(alloc, command, "DIR", FOLDER_HELP);
+    with_tree_options(alloc, command, SKIP_FAULTS_HELP)
 }
 
 /// The command with one more number, from 0 to 2,147,483,647.
@@ -287,14 +375,14 @@ fn with_position<'a>(alloc: Global, command: Made<'a>, required: bool) -> Made<'
         command,
         required,
         "LINE",
-        "A line of the document, counted from 0",
+        "A line of the document, counted from 0, or with --editor from 1",
     );
     with_number(
         alloc,
         command,
         required,
         "COL",
-        "A column of that line, counted from 0 in the units of the index",
+        "A column of that line, counted alike, in the units of the index",
     )
 }
 
@@ -336,6 +424,7 @@ fn asking<'a>(
     let command = on_index(alloc, name, about, end);
     let command = with_position(alloc, command, false);
     let command = with_symbol(alloc, command);
+    let command = with_editor(alloc, command, EDITOR_HELP);
     with_usage(alloc, command, usage)
 }
 
@@ -348,7 +437,8 @@ fn symbol_command<'a>(alloc: Global) -> Made<'a>
         "Print the text of the symbol at a position, by an index in the SCIP format",
         SYMBOL_END,
     );
-    with_position(alloc, command, true)
+    let command = with_position(alloc, command, true);
+    with_editor(alloc, command, EDITOR_HELP)
 }
 
 fn symbols_command<'a>(alloc: Global) -> Made<'a>
@@ -360,12 +450,13 @@ fn symbols_command<'a>(alloc: Global) -> Made<'a>
         "List which symbols are defined where, by an index in the SCIP format",
         SYMBOLS_END,
     );
-    with_value(
+    let command = with_value(
         alloc,
         command,
         "PATH",
         "The path of one document, as the index has it: only its definitions, also local ones",
-    )
+    );
+    with_editor(alloc, command, EDITOR_HELP)
 }
 
 /// The command with the words that say where an index goes: the path of a file, or `--hex`.
@@ -411,8 +502,7 @@ fn with_options<'a>(alloc: Global, command: Made<'a>) -> Made<'a>
         "The root of the project that the index names, as a URI",
     );
     let command = with_workers(alloc, command);
-    let command = with_flag(alloc, command, "atomic", ATOMIC_HELP);
-    with_flag(alloc, command, "skip-faults", SKIP_FAULTS_HELP)
+    with_flag(alloc, command, "atomic", ATOMIC_HELP)
 }
 
 fn index_command<'a>(alloc: Global) -> Made<'a>
@@ -427,6 +517,7 @@ fn index_command<'a>(alloc: Global) -> Made<'a>
     let command = with_required(alloc, command, "DIR", FOLDER_HELP);
     let command = with_output(alloc, command);
     let command = with_options(alloc, command);
+    let command = with_tree_options(alloc, command, INDEX_SKIP_FAULTS_HELP);
     with_usage(alloc, command, INDEX_USAGE)
 }
 
@@ -439,7 +530,8 @@ fn unresolved_command<'a>(alloc: Global) -> Made<'a>
         "List identifiers of Oberon-07 modules that are not declared, imported or predeclared",
         UNRESOLVED_END,
     );
-    with_required(alloc, command, "DIR", FOLDER_HELP)
+    let command = with_required(alloc, command, "DIR", FOLDER_HELP);
+    with_tree_options(alloc, command, SKIP_FAULTS_HELP)
 }
 
 fn faults_command<'a>(alloc: Global) -> Made<'a>
@@ -451,7 +543,8 @@ fn faults_command<'a>(alloc: Global) -> Made<'a>
         "List files of a folder that have faults, each with its first one",
         FAULTS_END,
     );
-    with_required(alloc, command, "DIR", FOLDER_HELP)
+    let command = with_required(alloc, command, "DIR", FOLDER_HELP);
+    with_walk_options(alloc, command)
 }
 
 /// The program with one more command.
@@ -477,6 +570,7 @@ fn with_trees<'a>(alloc: Global, program: Made<'a>) -> Made<'a>
         "DIR",
         FOLDER_HELP,
     );
+    let cut = with_tree_options(alloc, cut, SKIP_FAULTS_HELP);
     let program = with_sub(alloc, program, cut);
     let check = checking(
         alloc,
@@ -487,6 +581,7 @@ fn with_trees<'a>(alloc: Global, program: Made<'a>) -> Made<'a>
         FOLDER_HELP,
         "The report of a cut between two of the modules",
     );
+    let check = with_tree_options(alloc, check, SKIP_FAULTS_HELP);
     let program = with_sub(alloc, program, check);
     let crossings = crossings_command(alloc);
     with_sub(alloc, program, crossings)
@@ -506,6 +601,7 @@ fn with_imports<'a>(alloc: Global, program: Made<'a>) -> Made<'a>
         "DIR",
         FOLDER_HELP,
     );
+    let why = with_tree_options(alloc, why, SKIP_FAULTS_HELP);
     let program = with_sub(alloc, program, why);
     let rules = rules_command(alloc);
     with_sub(alloc, program, rules)
@@ -545,6 +641,18 @@ fn with_nets<'a>(alloc: Global, program: Made<'a>) -> Made<'a>
     with_sub(alloc, program, why)
 }
 
+/// The program with the commands that list modules.
+fn with_lists<'a>(alloc: Global, program: Made<'a>) -> Made<'a>
+    ensures { (app : App) → IfOk program.entry (λ c. app_of c.value ≡ app) → IfOk result (λ c. app_of c.value ≡ with_lists app) }
+{
+    let modules = modules_command(alloc);
+    let program = with_sub(alloc, program, modules);
+    let reach = reach_command(alloc);
+    let program = with_sub(alloc, program, reach);
+    let reach_net = reach_net_command(alloc);
+    with_sub(alloc, program, reach_net)
+}
+
 /// The program with the commands that draw.
 fn with_pictures<'a>(alloc: Global, program: Made<'a>) -> Made<'a>
     ensures { (app : App) → IfOk program.entry (λ c. app_of c.value ≡ app) → IfOk result (λ c. app_of c.value ≡ with_pictures app) }
@@ -559,6 +667,7 @@ fn with_pictures<'a>(alloc: Global, program: Made<'a>) -> Made<'a>
         "The report of a cut between two of the modules",
     );
     let tree = with_flow(alloc, tree);
+    let tree = with_tree_options(alloc, tree, SKIP_FAULTS_HELP);
     let program = with_sub(alloc, program, tree);
     let net = checking(
         alloc,
@@ -639,6 +748,7 @@ pub(crate) fn command<'a>(alloc: Global) -> Made<'a>
     let program = with_trees(alloc, program);
     let program = with_imports(alloc, program);
     let program = with_nets(alloc, program);
+    let program = with_lists(alloc, program);
     let program = with_pictures(alloc, program);
     let program = with_indexes(alloc, program);
     let program = with_symbols(alloc, program);

@@ -2,12 +2,12 @@
 ghost use Rattle.std.specs.Prelude.{◌≡◌, ◌++◌, ◌≤◌, ◌↔◌, ℕ, IfOk, IfSome, List, codes, map, true};
 ghost use Rattle.std.specs.String.{string_bytes};
 ghost use Rattle.clap.specs.Words.{found_of, kind_of, rows_of, subcommand_of, subcommand_rows_of};
-ghost use Rattle.oscip_job.specs.Jobs.{oscip, AsksForAtomic, Finds, FindsNumber, HasAskedSymbol, HasCutting, HasDrawing, HasIndexing, HasOutput, HasPackage, HasPath, HasPlace, HasPosition, HasReported, HasSymbolPath, HasSymbolPosition, HasSymbolText, HasText, HasTwoNames, HasWorkers, Holds, IsGiven, IsIndexQuestionOf, IsJobOf, IsNetQuestionOf, IsPackage, IsTreeQuestionOf, IsWithin, LacksValue, MayFind, MayWork, NamesNumbers, NamesPosition, NamesWithin, NamesWorkers};
+ghost use Rattle.oscip_job.specs.Jobs.{oscip, AsksForAtomic, Finds, FindsAll, FindsFromZero, FindsNumber, HasAskedSymbol, HasCutting, HasDirection, HasDrawing, HasIndexing, HasOutput, HasPackage, HasPath, HasPlace, HasPosition, HasReaching, HasReported, HasSymbolPath, HasSymbolPosition, HasSymbolText, HasText, HasTree, HasTwoNames, HasWorkers, Holds, IsGiven, IsIndexQuestionOf, IsJobOf, IsNetQuestionOf, IsPackage, IsTreeQuestionOf, IsWithin, LacksValue, MayFind, MayWork, NamesNumbers, NamesPosition, NamesWithin, NamesWorkers};
 
 use crate::commands::command;
 use crate::job::{
-    AskedSymbol, Cutting, Drawing, IndexQuestion, Indexing, Job, JobFault, NetQuestion, Output,
-    Places, Position, Reported, TreeQuestion, TwoNames,
+    AskedSymbol, Cutting, Direction, Drawing, IndexQuestion, Indexing, Job, JobFault, NetQuestion,
+    Output, Places, Position, Reaching, Reported, SourceTree, TreeQuestion, TwoNames,
 };
 use clap::ArgMatches;
 use clap::error::ErrorKind;
@@ -37,6 +37,10 @@ const NO_SYMBOL: &str =
 const NO_DOCUMENT: &str =
     "error: a symbol that begins with `local ` is one of a document, whose PATH has to be given\n\nFor more information, try '--help'.\n";
 
+/// Why a command line is rejected that counts lines and columns from 1 and gives 0.
+const FROM_ONE: &str =
+    "error: with --editor LINE and COL are counted from 1\n\nFor more information, try '--help'.\n";
+
 /// Why there is no job of what `clap` found.
 #[derive(Drop)]
 enum Refusal {
@@ -52,6 +56,8 @@ enum Refusal {
     Atomic,
     /// The package can't stand in a symbol.
     Package,
+    /// A line or a column that is counted from 1 is 0.
+    FromOne,
     /// A growth of memory was refused.
     Memory,
 }
@@ -79,8 +85,20 @@ fn fault_of(alloc: Global, refusal: Refusal) -> JobFault {
         Refusal::Output => refused(alloc, ONE_OUTPUT),
         Refusal::Atomic => refused(alloc, NO_FILE),
         Refusal::Package => refused(alloc, WRONG_PACKAGE),
+        Refusal::FromOne => refused(alloc, FROM_ONE),
         Refusal::Memory => JobFault::Memory,
     }
+}
+
+/// The texts, as texts of their own.
+fn copies_of(alloc: Global, texts: &[&str]) -> Result<Vec<String>, AllocError>
+    ensures { IfOk result (λ copies. map string_bytes copies.items ≡ map (λ t. t.now) texts.now) }
+{
+    let mut copies = Vec::with_capacity(alloc, texts.len())?;
+    for text in texts {
+        copies.push(String::from_str(alloc, text)?)?;
+    }
+    Ok(copies)
 }
 
 /// The value of an argument, as text of its own.
@@ -115,6 +133,30 @@ fn is_given(found: &ArgMatches<'_>, id: &str) -> bool
         None => false,
         Some(text) => text == "true",
     }
+}
+
+/// The values of an argument, as texts of their own.
+fn values_of(alloc: Global, found: &ArgMatches<'_>, id: &str) -> Result<Vec<String>, AllocError>
+    ensures { IfOk result (λ texts. FindsAll (rows_of (found_of found.now)) id.now (map string_bytes texts.items)) }
+{
+    match found.get_strs(id) {
+        None => Ok(Vec::new(alloc)),
+        Some(values) => copies_of(alloc, values),
+    }
+}
+
+/// The tree that the words name.
+fn tree_of(alloc: Global, found: &ArgMatches<'_>) -> Result<SourceTree, Refusal>
+    ensures { IfOk result (HasTree (rows_of (found_of found.now))) }
+{
+    let folder = value_of(alloc, found, "DIR")?;
+    let excluded = values_of(alloc, found, "exclude")?;
+    Ok(SourceTree {
+        folder,
+        excluded,
+        skips_faults: is_given(found, "skip-faults"),
+        for_editor: is_given(found, "editor"),
+    })
 }
 
 /// The number of workers, as `clap` found it.
@@ -179,6 +221,26 @@ fn drawing_of(alloc: Global, found: &ArgMatches<'_>) -> Result<Drawing, Refusal>
     Ok(Drawing { reported, by_flow })
 }
 
+/// The direction that the words name.
+fn direction_of(found: &ArgMatches<'_>) -> Direction
+    ensures { HasDirection (rows_of (found_of found.now)) result }
+{
+    if is_given(found, "back") {
+        Direction::Importing
+    } else {
+        Direction::Imported
+    }
+}
+
+/// The words of a command that lists what a module reaches, but for the input.
+fn reaching_of(alloc: Global, found: &ArgMatches<'_>) -> Result<Reaching, Refusal>
+    ensures { IfOk result (HasReaching (rows_of (found_of found.now))) }
+{
+    let module = value_of(alloc, found, "M")?;
+    let direction = direction_of(found);
+    Ok(Reaching { module, direction })
+}
+
 /// What the command of this name asks of the network of a tree, or with `-net` behind the name of one in a file.
 fn net_question(alloc: Global, name: &str, found: &ArgMatches<'_>) -> Result<NetQuestion, Refusal>
     requires { NamesWorkers (rows_of (found_of found.now)) }
@@ -195,6 +257,9 @@ fn net_question(alloc: Global, name: &str, found: &ArgMatches<'_>) -> Result<Net
     }
     if name == "why" {
         return Ok(NetQuestion::Why(two_names(alloc, found, "A", "B")?));
+    }
+    if name == "reach" {
+        return Ok(NetQuestion::Reach(reaching_of(alloc, found)?));
     }
     Err(Refusal::Missing)
 }
@@ -216,6 +281,9 @@ fn tree_question(alloc: Global, name: &str, found: &ArgMatches<'_>) -> Result<Tr
     if name == "faults" {
         return Ok(TreeQuestion::Faults);
     }
+    if name == "modules" {
+        return Ok(TreeQuestion::Modules);
+    }
     Ok(TreeQuestion::OfNet(net_question(alloc, name, found)?))
 }
 
@@ -225,8 +293,8 @@ fn tree_job(alloc: Global, name: &str, found: &ArgMatches<'_>) -> Result<Job, Re
     ensures { IfOk result (IsJobOf (Some (name.now, rows_of (found_of found.now)))) }
 {
     let question = tree_question(alloc, name, found)?;
-    let folder = value_of(alloc, found, "DIR")?;
-    Ok(Job::Tree { folder, question })
+    let tree = tree_of(alloc, found)?;
+    Ok(Job::Tree { tree, question })
 }
 
 /// The job on a network of the command of this name with `-net` behind it.
@@ -251,6 +319,22 @@ fn number_of(found: &ArgMatches<'_>, id: &str) -> Result<u32, Refusal>
     }
 }
 
+/// A number of a position, counted from 0.
+fn number_from_zero(found: &ArgMatches<'_>, id: &str) -> Result<u32, Refusal>
+    requires { NamesWithin id.now 0 2147483647 (rows_of (found_of found.now)) }
+    ensures value { IfOk result (FindsFromZero (rows_of (found_of found.now)) id.now) }
+    ensures within { IfOk result (λ number. number ≤ 2147483647) }
+{
+    let number = number_of(found, id)?;
+    if !is_given(found, "editor") {
+        return Ok(number);
+    }
+    if number == 0 {
+        return Err(Refusal::FromOne);
+    }
+    Ok(number - 1)
+}
+
 /// The position that the words name.
 fn position_of(alloc: Global, found: &ArgMatches<'_>) -> Result<Position, Refusal>
     requires { NamesPosition (rows_of (found_of found.now)) }
@@ -258,8 +342,8 @@ fn position_of(alloc: Global, found: &ArgMatches<'_>) -> Result<Position, Refusa
     ensures within { IfOk result IsWithin }
 {
     let path = value_of(alloc, found, "PATH")?;
-    let line = number_of(found, "LINE")?;
-    let column = number_of(found, "COL")?;
+    let line = number_from_zero(found, "LINE")?;
+    let column = number_from_zero(found, "COL")?;
     Ok(Position { path, line, column })
 }
 
@@ -333,7 +417,11 @@ fn asking_job(
     ensures { (name : List ℕ) → IsIndexQuestionOf name (rows_of (found_of found.now)) question → IfOk result (IsJobOf (Some (name, rows_of (found_of found.now)))) }
 {
     let index = value_of(alloc, found, "INDEX")?;
-    Ok(Job::Ask { index, question })
+    Ok(Job::Ask {
+        index,
+        question,
+        for_editor: is_given(found, "editor"),
+    })
 }
 
 /// Standard output, in the place of a file that could be replaced as a whole.
@@ -396,20 +484,18 @@ fn indexing_of(alloc: Global, found: &ArgMatches<'_>) -> Result<Indexing, Refusa
     ensures package { IfOk result (λ it. IsPackage (string_bytes it.package)) }
 {
     let workers = workers_of(found)?;
-    let folder = value_of(alloc, found, "DIR")?;
+    let tree = tree_of(alloc, found)?;
     let root = value_of(alloc, found, "root")?;
     let package = package_of(alloc, found)?;
     let output = output_of(alloc, found)?;
     let is_atomic = is_atomic(found);
-    let skips_faults = is_given(found, "skip-faults");
     Ok(Indexing {
-        folder,
+        tree,
         output,
         package,
         root,
         workers,
         is_atomic,
-        skips_faults,
     })
 }
 
@@ -423,8 +509,7 @@ fn index_job(alloc: Global, found: &ArgMatches<'_>) -> Result<Job, Refusal>
 fn unresolved_job(alloc: Global, found: &ArgMatches<'_>) -> Result<Job, Refusal>
     ensures { IfOk result (IsJobOf (Some (codes "unresolved", rows_of (found_of found.now)))) }
 {
-    let folder = value_of(alloc, found, "DIR")?;
-    Ok(Job::Unresolved { folder })
+    Ok(Job::Unresolved(tree_of(alloc, found)?))
 }
 
 /// The job of the command of this name on a tree or on a network.

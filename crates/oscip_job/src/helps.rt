@@ -9,12 +9,13 @@ pub(crate) const NETWORK_HELP: &str = "The network: lines `module M` and `import
 
 /// The help of a file of prices.
 pub(crate) const PRICES_HELP: &str =
-    "The file of prices: lines `price M N k`, by which M's import of N weighs k,{n}\
-    and `pin M N`, by which it is not to be removed";
+    "The file of prices: lines `price M N k`, by which M's import of N{n}\
+    weighs k, and `pin M N`, by which it is not to be removed";
 
 /// The help of a file of rules.
 pub(crate) const RULES_HELP: &str =
-    "The file of rules: lines `set S M`, `folder S PATH`, `forbid X Y` and `allow M N`";
+    "The file of rules: lines `set S M`, `folder S PATH`, `named S PATTERN`, `tree S`,{n}\
+    `forbid X Y`, `forbid-import X Y`, `may X Y` and `allow M N`";
 
 /// The help of the file of an index that is made.
 pub(crate) const OUT_HELP: &str = "The file that the index is written to, in the SCIP format;{n}\
@@ -26,10 +27,26 @@ pub(crate) const ATOMIC_HELP: &str =
     which then takes OUT's place; if the run fails, OUT is as it was;{n}\
     not with --hex";
 
-/// The help of an index of what has no faults.
+/// The help of the option that leaves out files with faults.
 pub(crate) const SKIP_FAULTS_HELP: &str =
-    "Leave out the files that have a fault of their own, and report these;{n}\
-    OUT is replaced as with --atomic";
+    "Leave out the files that have a fault of their own, and report these{n}\
+    faults; import paths through their modules are missing then";
+
+pub(crate) const INDEX_SKIP_FAULTS_HELP: &str =
+    "Leave out the files that have a fault of their own, and report these{n}\
+    faults; OUT is replaced as with --atomic";
+
+/// The help of the option of excluded files.
+pub(crate) const EXCLUDE_HELP: &str =
+    "Pass over the files and folders whose last name matches PATTERN, or,{n}\
+    if PATTERN has a `/`, whose path below DIR does, without opening them;{n}\
+    `*` matches any bytes but `/`";
+
+/// The help of the option of locations for editors.
+pub(crate) const EDITOR_HELP: &str = "Count lines and columns from 1";
+
+pub(crate) const TREE_EDITOR_HELP: &str =
+    "Count lines and columns from 1, and write DIR before each path";
 
 /// The help of a document of an index.
 pub(crate) const PATH_HELP: &str = "The path of a document, as the index has it";
@@ -56,7 +73,8 @@ pub(crate) const PROGRAM_END: &str = "Example: oscip cut examples/editor Edit Ne
 
 /// The end of the help of a command that cuts.
 pub(crate) const CUT_END: &str = "Example: oscip cut examples/editor Edit Net{n}{n}\
-    Status: 0 the report is printed, 1 a module, a price or a name is rejected,{n}\
+    Status: 0 the report is printed, 5 files were left out,{n}\
+    1 a module, a price or a name is rejected,{n}\
     2 the command line is invalid, 3 a file can't be read or standard output can't be written,{n}\
     4 out of memory";
 
@@ -67,7 +85,8 @@ pub(crate) const CUT_NET_END: &str = "Example: oscip cut-net examples/six.net A 
 
 /// The end of the help of a command that checks.
 pub(crate) const CHECK_END: &str = "Example: oscip check examples/editor edit.cut{n}{n}\
-    Status: 0 yes, 5 no, 1 a module, a price or the report is rejected,{n}\
+    Status: 0 yes, 5 no or files were left out,{n}\
+    1 a module, a price or the report is rejected,{n}\
     2 the command line is invalid, 3 a file can't be read or standard output can't be written,{n}\
     4 out of memory";
 
@@ -79,19 +98,21 @@ pub(crate) const CHECK_NET_END: &str =
 
 /// The end of the help of the command that prints where a module uses another.
 pub(crate) const CROSSINGS_END: &str = "Example: oscip crossings examples/editor Edit Sync{n}{n}\
-    Status: 0 the locations are printed, 1 a module or a name is rejected,{n}\
+    Status: 0 the locations are printed, 5 files were left out,{n}\
+    1 a module or a name is rejected,{n}\
     2 the command line is invalid, 3 a file can't be read or standard output can't be written,{n}\
     4 out of memory";
 
 /// The end of the help of the command that prints the network of modules.
 pub(crate) const NET_END: &str = "Example: oscip net examples/editor{n}{n}\
-    Status: 0 the network is printed, 1 a module is rejected,{n}\
+    Status: 0 the network is printed, 5 files were left out, 1 a module is rejected,{n}\
     2 the command line is invalid, 3 a file can't be read or standard output can't be written,{n}\
     4 out of memory";
 
 /// The end of the help of a command that prints why a module reaches another one.
 pub(crate) const WHY_END: &str = "Example: oscip why examples/editor Edit Net{n}{n}\
-    Status: 0 the path is printed, 5 there is none, 1 a module or a name is rejected,{n}\
+    Status: 0 the path is printed, 5 there is none or files were left out,{n}\
+    1 a module or a name is rejected,{n}\
     2 the command line is invalid, 3 a file can't be read or standard output can't be written,{n}\
     4 out of memory";
 
@@ -100,16 +121,36 @@ pub(crate) const WHY_NET_END: &str = "Example: oscip why-net examples/six.net A 
     2 the command line is invalid, 3 a file can't be read or standard output can't be written,{n}\
     4 out of memory";
 
+/// The end of the help of a command that lists the modules that one reaches.
+pub(crate) const REACH_END: &str = "Example: oscip reach --back examples/editor Net{n}{n}\
+    Status: 0 the modules are printed, 5 files were left out,{n}\
+    1 a module or a name is rejected,{n}\
+    2 the command line is invalid, 3 a file can't be read or standard output can't be written,{n}\
+    4 out of memory";
+
+pub(crate) const REACH_NET_END: &str = "Example: oscip reach-net examples/six.net A{n}{n}\
+    Status: 0 the modules are printed, 1 the network or a name is rejected,{n}\
+    2 the command line is invalid, 3 a file can't be read or standard output can't be written,{n}\
+    4 out of memory";
+
+/// The end of the help of the command that lists modules.
+pub(crate) const MODULES_END: &str = "Example: oscip modules examples/editor{n}{n}\
+    Status: 0 the modules are printed, 5 files were left out, 1 a module is rejected,{n}\
+    2 the command line is invalid, 3 a file can't be read or standard output can't be written,{n}\
+    4 out of memory";
+
 /// The end of the help of the command that checks rules.
 pub(crate) const RULES_END: &str =
     "Example: oscip rules examples/editor examples/editor.rules{n}{n}\
-    Status: 0 yes, 5 no, 1 a module or a rule is rejected,{n}\
+    Status: 0 yes, 5 a rule is broken, an `allow` is stale or files were left out,{n}\
+    1 a module or a rule is rejected,{n}\
     2 the command line is invalid, 3 a file can't be read or standard output can't be written,{n}\
     4 out of memory";
 
 /// The end of the help of a command that draws.
 pub(crate) const DOT_END: &str = "Example: oscip dot examples/editor edit.cut{n}{n}\
-    Status: 0 the graph is printed, 1 a module, a price or the report is rejected,{n}\
+    Status: 0 the graph is printed, 5 files were left out,{n}\
+    1 a module, a price or the report is rejected,{n}\
     2 the command line is invalid, 3 a file can't be read or standard output can't be written,{n}\
     4 out of memory";
 
@@ -127,7 +168,8 @@ pub(crate) const INDEX_END: &str = "Example: oscip index --atomic examples/edito
 
 /// The end of the help of a command that lists what is wrong with modules.
 pub(crate) const UNRESOLVED_END: &str = "Example: oscip unresolved examples/editor{n}{n}\
-    Status: 0 the identifiers are printed, 1 a module is rejected,{n}\
+    Status: 0 the identifiers are printed, 5 files were left out,{n}\
+    1 a module is rejected,{n}\
     2 the command line is invalid, 3 a file can't be read or standard output can't be written,{n}\
     4 out of memory";
 

@@ -47,6 +47,20 @@ pub enum IndexQuestion {
     Symbols { path: Option<String> },
 }
 
+/// The modules that a job reads, and how locations in them are written.
+#[derive(Drop)]
+pub struct SourceTree {
+    /// The path of the folder that has them.
+    pub folder: String,
+    /// Patterns of the files and folders that are passed over. `*` matches any bytes but `/`. A pattern with a `/` is matched against
+    /// the path below the folder, any other against the last name of that path.
+    pub excluded: Vec<String>,
+    /// Whether files that have a fault of their own are left out.
+    pub skips_faults: bool,
+    /// Whether lines and columns are written from 1, and paths with the folder's before them.
+    pub for_editor: bool,
+}
+
 /// Where an index goes.
 #[derive(Drop)]
 pub enum Output {
@@ -59,8 +73,7 @@ pub enum Output {
 /// What index is to be made.
 #[derive(Drop)]
 pub struct Indexing {
-    /// The path of the folder of the modules.
-    pub folder: String,
+    pub tree: SourceTree,
     /// Where the index goes.
     pub output: Output,
     /// The package that symbols name: not `.`, and it doesn't begin with a space.
@@ -71,8 +84,6 @@ pub struct Indexing {
     pub workers: u32,
     /// Whether the file is replaced as a whole, by an index that is whole. It is so if files are left out.
     pub is_atomic: bool,
-    /// Whether files that have faults of their own are left out.
-    pub skips_faults: bool,
 }
 
 /// The names of two modules.
@@ -110,6 +121,22 @@ pub struct Drawing {
     pub by_flow: bool,
 }
 
+/// Along which imports modules are reached.
+#[derive(Clone, Copy)]
+pub enum Direction {
+    /// From the importing module to the imported one.
+    Imported,
+    /// From the imported module to the importing one.
+    Importing,
+}
+
+/// Which modules are reached from one.
+#[derive(Drop)]
+pub struct Reaching {
+    pub module: String,
+    pub direction: Direction,
+}
+
 /// What is asked of a network, one that stands in a file or that of a tree.
 #[derive(Drop)]
 pub enum NetQuestion {
@@ -121,6 +148,8 @@ pub enum NetQuestion {
     Dot(Drawing),
     /// The least chain of imports from the first module to the second.
     Why(TwoNames),
+    /// The modules that a module reaches, or that reach it.
+    Reach(Reaching),
 }
 
 /// What is asked of the modules of a tree.
@@ -136,15 +165,16 @@ pub enum TreeQuestion {
     Rules(String),
     /// Which of their files have faults.
     Faults,
+    /// Their names, each with the path of its file.
+    Modules,
 }
 
-/// A command with the values of its words: what is read, and what is asked of it. A folder, a network and an index are given by
-/// their paths.
+/// A command with the values of its words: what is read, and what is asked of it. A network and an index are given by their paths.
 #[derive(Drop)]
 pub enum Job {
     /// Asks this of the modules below a folder.
     Tree {
-        folder: String,
+        tree: SourceTree,
         question: TreeQuestion,
     },
     /// Asks this of a network.
@@ -156,13 +186,13 @@ pub enum Job {
     Ask {
         index: String,
         question: IndexQuestion,
+        /// Whether lines and columns are written from 1.
+        for_editor: bool,
     },
     /// Makes an index of the modules below a folder.
     Index(Indexing),
-    /// Tells which identifiers of the modules below a folder mean nothing.
-    Unresolved {
-        folder: String,
-    },
+    /// Lists the identifiers of modules that can't be resolved.
+    Unresolved(SourceTree),
 }
 
 /// Why there is no job.

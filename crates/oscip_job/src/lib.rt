@@ -10,6 +10,6 @@ mod job;
 
 pub use finding::job_of;
 pub use job::{
-    AskedSymbol, Cutting, Drawing, IndexQuestion, Indexing, Job, JobFault, NetQuestion, Output,
-    Places, Position, Reported, TreeQuestion, TwoNames,
+    AskedSymbol, Cutting, Direction, Drawing, IndexQuestion, Indexing, Job, JobFault, NetQuestion,
+    Output, Places, Position, Reaching, Reported, SourceTree, TreeQuestion, TwoNames,
 };

@@ -6,20 +6,21 @@ use Rattle.byte_sink.specs.declared.sink.SinkFault.TheVariants as sink
 use Rattle.byte_sink.specs.Sinks.{AppendsFront}
 use Rattle.oscip_run.specs.FaultRuns.{fault_lines, IsFaultsRun, IsFaultsText}
 use Rattle.oscip_run.specs.Faults.{of_sink}
+use Rattle.text_escape.specs.Places.{Style}
 use Rattle.oscip_tree.specs.OwnFaults.{AreTreeFaults}
 use Rattle.oscip_tree.specs.declared.source.Source.{Source}
 use Rattle.oscip_tree.specs.declared.tree_fault.TreeFault.{TreeFault}
 use Rattle.oscip_tree.proofs.OneParting.{nothing_told}
 
 -- an accepted tree
-pub accepted : (sources : List Source) (faults : List TreeFault) → faults ≡ [] → AreTreeFaults sources faults → IsFaultsText sources (codes "yes\n") true
-accepted sources [] e are = record { faults = []; are_faults = are; text_is = refl; agrees_is = (λ _. (nothing_told sources [] are).0 refl, λ _. refl) }
-accepted sources (fault ∷ faults) e are = absurd cc
+pub accepted : (style : Style) (sources : List Source) (faults : List TreeFault) → faults ≡ [] → AreTreeFaults sources faults → IsFaultsText style sources (codes "yes\n") true
+accepted style sources [] e are = record { faults = []; are_faults = are; text_is = refl; agrees_is = (λ _. (nothing_told sources [] are).0 refl, λ _. refl) }
+accepted style sources (fault ∷ faults) e are = absurd cc
 
 -- a tree that is refused
-pub refused : (sources : List Source) (faults : List TreeFault) → (faults ≡ [] → ⊥) → AreTreeFaults sources faults → IsFaultsText sources (fault_lines faults) false
-refused sources [] some are = absurd (some refl)
-refused sources (fault ∷ faults) some are = record {
+pub refused : (style : Style) (sources : List Source) (faults : List TreeFault) → (faults ≡ [] → ⊥) → AreTreeFaults sources faults → IsFaultsText style sources (fault_lines style faults) false
+refused style sources [] some are = absurd (some refl)
+refused style sources (fault ∷ faults) some are = record {
   faults = fault ∷ faults;
   are_faults = are;
   text_is = refl;
@@ -27,7 +28,7 @@ refused sources (fault ∷ faults) some are = record {
 }
 
 -- a sink that failed
-pub broken : (sources : List Source) (text : List ℕ) (agrees : Bool) (old new : Option (List ℕ)) (fault : SinkFault) → IsFaultsText sources text agrees → AppendsFront old new text →
-    IsFaultsRun sources old new (Err (of_sink fault))
-broken sources text agrees old new sink.Memory is front = inr (text, agrees, is, front)
-broken sources text agrees old new sink.Device is front = (text, agrees, is, front)
+pub broken : (style : Style) (sources : List Source) (text : List ℕ) (agrees : Bool) (old new : Option (List ℕ)) (fault : SinkFault) → IsFaultsText style sources text agrees → AppendsFront old new text →
+    IsFaultsRun style sources old new (Err (of_sink fault))
+broken style sources text agrees old new sink.Memory is front = inr (text, agrees, is, front)
+broken style sources text agrees old new sink.Device is front = (text, agrees, is, front)

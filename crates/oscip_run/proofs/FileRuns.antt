@@ -1,14 +1,12 @@
 -- From what a reader answers and what an engine puts to what a run on files is.
-use Rattle.std.proofs.Common.{◌≡◌, ℕ, Bool, true, List, Option, Result, subst, inr}
-use Rattle.std.specs.Prelude.{IfOk}
-use Rattle.std.specs.String.{string_bytes}
+use Rattle.std.proofs.Common.{◌≡◌, ℕ, Bool, List, Option, Result, subst, inr}
 use Rattle.oscip_job.specs.declared.job.NetQuestion.{NetQuestion}
-use Rattle.oscip_job.specs.declared.job.TwoNames.{TwoNames}
+use Rattle.text_escape.specs.Places.{Style}
 use Rattle.oscip_run.specs.CrossingRuns.{IsCrossingsRun}
-use Rattle.oscip_run.specs.FileRuns.{IsNetRun, IsTreeRun, IsUsesRun}
-use Rattle.oscip_run.specs.JobRuns.{without_answer, IsJobRun}
+use Rattle.oscip_run.specs.FileRuns.{IsNetRun, IsTreeNetRun}
+use Rattle.oscip_run.specs.JobRuns.{IsJobRun}
 use Rattle.oscip_run.specs.PricedInputs.{IsNetOfPricedText, IsNetOfPricedTree, IsRefusedPricedText, IsRefusedPricedTree}
-use Rattle.oscip_run.specs.Readings.{bytes_or_none, paths_beside, AreGiven, FileOf, FolderOf, Reading}
+use Rattle.oscip_run.specs.Readings.{bytes_or_none, paths_beside, AreGiven, FileOf, Reading}
 use Rattle.oscip_run.specs.declared.fault.RunFault.{RunFault}
 use Rattle.oscip_tree.specs.declared.source.Source.{Source}
 
@@ -28,27 +26,22 @@ net_run Answers path question network text seen report prices other old new resu
       run = subst (λ (x : Option (List ℕ)). IsJobRun (IsNetOfPricedText network) (IsRefusedPricedText network) question (bytes_or_none report) x old new result) d on_report;
     })
 
--- the same of a tree
-pub tree_run : (Answers : Reading → Type 0) (path : List ℕ) (question : NetQuestion) (sources files : List Source) (seen : List ℕ) (report prices other : Option (List ℕ)) (old new : Option (List ℕ)) (result : Result Bool RunFault) →
-    Answers (FolderOf path sources) → AreGiven Answers (paths_beside question) report prices → files ≡ sources → seen ≡ bytes_or_none report → other ≡ prices →
-    IsJobRun (IsNetOfPricedTree files) (IsRefusedPricedTree files) question seen other old new result → IsTreeRun Answers path question old new result
-tree_run Answers path question sources files seen report prices other old new result sources_given given e f d run =
-    let on_sources = subst (λ (x : List Source). IsJobRun (IsNetOfPricedTree x) (IsRefusedPricedTree x) question seen other old new result) e run in
-    let on_report = subst (λ (x : List ℕ). IsJobRun (IsNetOfPricedTree sources) (IsRefusedPricedTree sources) question x other old new result) f on_sources in
+-- the same on the modules of a tree
+pub tree_run : (Answers : Reading → Type 0) (question : NetQuestion) (sources : List Source) (seen : List ℕ) (report prices other : Option (List ℕ)) (old new : Option (List ℕ)) (result : Result Bool RunFault) →
+    AreGiven Answers (paths_beside question) report prices → seen ≡ bytes_or_none report → other ≡ prices →
+    IsJobRun (IsNetOfPricedTree sources) (IsRefusedPricedTree sources) question seen other old new result → IsTreeNetRun Answers sources question old new result
+tree_run Answers question sources seen report prices other old new result given f d run =
+    let on_report = subst (λ (x : List ℕ). IsJobRun (IsNetOfPricedTree sources) (IsRefusedPricedTree sources) question x other old new result) f run in
     inr (record {
-      sources = sources;
       report = report;
       prices = prices;
-      sources_given = sources_given;
       given = given;
       run = subst (λ (x : Option (List ℕ)). IsJobRun (IsNetOfPricedTree sources) (IsRefusedPricedTree sources) question (bytes_or_none report) x old new result) d on_report;
     })
 
--- a search for uses in the tree that was given, between names that are the job's
-pub uses_run : (Answers : Reading → Type 0) (path : List ℕ) (names : TwoNames) (sources files : List Source) (a b : List ℕ) (old new : Option (List ℕ)) (result : Result Bool RunFault) →
-    Answers (FolderOf path sources) → files ≡ sources → a ≡ string_bytes names.from → b ≡ string_bytes names.to → IsCrossingsRun files a b old new (without_answer result) →
-    IfOk result (λ agrees. agrees ≡ true) → IsUsesRun Answers path names old new result
-uses_run Answers path names sources files a b old new result given d e f run agrees =
-    let on_sources = subst (λ (x : List Source). IsCrossingsRun x a b old new (without_answer result)) d run in
-    let on_first = subst (λ (x : List ℕ). IsCrossingsRun sources x b old new (without_answer result)) e on_sources in
-    inr (sources, given, subst (λ (x : List ℕ). IsCrossingsRun sources (string_bytes names.from) x old new (without_answer result)) f on_first, agrees)
+-- a search for uses between names that are the job's
+pub uses_run : (style : Style) (sources : List Source) (a b first second : List ℕ) (old new : Option (List ℕ)) (result : Result (Unit {0}) RunFault) → a ≡ first → b ≡ second →
+    IsCrossingsRun style sources a b old new result → IsCrossingsRun style sources first second old new result
+uses_run style sources a b first second old new result e f run =
+    let on_first = subst (λ (x : List ℕ). IsCrossingsRun style sources x b old new result) e run in
+    subst (λ (x : List ℕ). IsCrossingsRun style sources first x old new result) f on_first

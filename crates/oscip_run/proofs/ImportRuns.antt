@@ -5,7 +5,7 @@ use Rattle.std.specs.Io.KnownBytes.{Appends}
 use Rattle.byte_sink.specs.Sinks.{AppendsFront}
 use Rattle.byte_sink.specs.declared.sink.SinkFault.{SinkFault}
 use Rattle.byte_sink.specs.declared.sink.SinkFault.TheVariants as sink
-use Rattle.digraph.specs.Levels.{AreChain, IsLeastChain}
+use Rattle.digraph.specs.ShortestPaths.{AreChain, IsLeastChain}
 use Rattle.cut_net.specs.Cuts.{Any, Chain, Imports}
 use Rattle.cut_net.specs.NetReading.{import_line}
 use Rattle.cut_net.specs.NetText.{net_line, IsNetOutcome, NetLine}
@@ -30,7 +30,7 @@ broken IsText IsRefused old new text sink.Memory is front = inr (text, is, front
 broken IsText IsRefused old new text sink.Device is front = (text, is, front)
 
 -- a run that says more is one that says less
-weaker : (IsText Other : List ℕ → Type 0) (IsRefused IsOther : RunFault → Type 0) → ((text : List ℕ) → IsText text → Other text) → ((fault : RunFault) → IsRefused fault → IsOther fault) →
+pub weaker : (IsText Other : List ℕ → Type 0) (IsRefused IsOther : RunFault → Type 0) → ((text : List ℕ) → IsText text → Other text) → ((fault : RunFault) → IsRefused fault → IsOther fault) →
     (old new : Option (List ℕ)) (result : Result (Unit {0}) RunFault) → IsToldRun IsText IsRefused old new result → IsToldRun Other IsOther old new result
 weaker IsText Other IsRefused IsOther as_text as_fault old new (Ok _) h = (h.0, as_text h.0 h.1, h.2)
 weaker IsText Other IsRefused IsOther as_text as_fault old new (Err (run.CannotRead path)) h = absurd h

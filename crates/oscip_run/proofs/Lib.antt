@@ -5,9 +5,11 @@ pub mod CutRuns
 pub mod DotRuns
 pub mod ImportRuns
 pub mod JobRuns
+pub mod ModuleLists
 pub mod NoRefusal
 pub mod WithoutPrices
 pub mod CrossingRuns
 pub mod FileRuns
+pub mod IncludedPaths
 pub mod FaultRuns
 pub mod RuleRuns

@@ -9,6 +9,7 @@ use Rattle.oscip_job.specs.declared.job.IndexQuestion.TheVariants.{PlacesOf, Sym
 use Rattle.oscip_job.specs.declared.job.Places.{Places}
 use Rattle.oscip_job.specs.declared.job.Places.TheVariants as places
 use Rattle.oscip_job.specs.declared.job.Position as job
+use Rattle.text_escape.specs.Places.{Style}
 use Rattle.index_store.specs.Asking.{IsQueryRun}
 use Rattle.index_store.specs.Telling.{IsNamedRun, IsSymbolRun, IsSymbolsRun}
 use Rattle.index_store.specs.declared.asking.Which.{Which}
@@ -26,18 +27,18 @@ abbrev pub which_of : Places → Which
 which_of places.Definitions = Definitions
 which_of places.References = References
 
--- a run for the places of a symbol: of the one at a position, or of the one of a text
-abbrev pub IsPlacesRun : List ℕ → Places → AskedSymbol → Option (List ℕ) → Option (List ℕ) → Result (Unit {0}) QueryFault → Type 0
-IsPlacesRun index places (At at) old new result = IsQueryRun index (string_bytes at.path) (position_of at) (which_of places) old new result
-IsPlacesRun index places (Named symbol path) old new result = IsNamedRun index (option_map string_bytes path) (string_bytes symbol) (which_of places) old new result
+-- a run for the places of a symbol, written in this style: of the one at a position, or of the one of a text
+abbrev pub IsPlacesRun : Style → List ℕ → Places → AskedSymbol → Option (List ℕ) → Option (List ℕ) → Result (Unit {0}) QueryFault → Type 0
+IsPlacesRun style index places (At at) old new result = IsQueryRun style index (string_bytes at.path) (position_of at) (which_of places) old new result
+IsPlacesRun style index places (Named symbol path) old new result = IsNamedRun style index (option_map string_bytes path) (string_bytes symbol) (which_of places) old new result
 
 -- a run for what is asked of an index
-abbrev pub IsIndexRun : List ℕ → IndexQuestion → Option (List ℕ) → Option (List ℕ) → Result (Unit {0}) QueryFault → Type 0
-IsIndexRun index (PlacesOf places symbol) old new result = IsPlacesRun index places symbol old new result
-IsIndexRun index (SymbolAt at) old new result = IsSymbolRun index (string_bytes at.path) (position_of at) old new result
-IsIndexRun index (Symbols path) old new result = IsSymbolsRun index (option_map string_bytes path) old new result
+abbrev pub IsIndexRun : Style → List ℕ → IndexQuestion → Option (List ℕ) → Option (List ℕ) → Result (Unit {0}) QueryFault → Type 0
+IsIndexRun style index (PlacesOf places symbol) old new result = IsPlacesRun style index places symbol old new result
+IsIndexRun style index (SymbolAt at) old new result = IsSymbolRun index (string_bytes at.path) (position_of at) old new result
+IsIndexRun style index (Symbols path) old new result = IsSymbolsRun style index (option_map string_bytes path) old new result
 
 -- a run of a question to the bytes of an index; its fault is that of the lower crate
-abbrev pub IsAskedRun : List ℕ → IndexQuestion → Option (List ℕ) → Option (List ℕ) → Result (Unit {0}) RunFault → Type 0
-IsAskedRun index question old new (Ok _) = IsIndexRun index question old new (Ok tt)
-IsAskedRun index question old new (Err fault) = (lower : QueryFault) × (fault ≡ of_query lower) × IsIndexRun index question old new (Err lower)
+abbrev pub IsAskedRun : Style → List ℕ → IndexQuestion → Option (List ℕ) → Option (List ℕ) → Result (Unit {0}) RunFault → Type 0
+IsAskedRun style index question old new (Ok _) = IsIndexRun style index question old new (Ok tt)
+IsAskedRun style index question old new (Err fault) = (lower : QueryFault) × (fault ≡ of_query lower) × IsIndexRun style index question old new (Err lower)

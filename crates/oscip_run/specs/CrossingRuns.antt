@@ -5,6 +5,7 @@ use Rattle.std.specs.String.{string_bytes}
 use Rattle.byte_sink.specs.Sinks.{AppendsFront}
 use Rattle.cut_solve.specs.declared.fault.SolveFault.{SolveFault}
 use Rattle.cut_solve.specs.declared.fault.SolveFault.TheVariants as solve
+use Rattle.text_escape.specs.Places.{Style}
 use Rattle.index_store.specs.Queries.{PlainPlace}
 use Rattle.index_store.specs.Lines.{place_lines}
 use Rattle.oscip_run.specs.Runs.{IsRefusedTree}
@@ -21,20 +22,20 @@ place_in_file path span = record {
   span = record { start = record { line = span.start.line; column = span.start.column }; end = record { line = span.end.line; column = span.end.column } };
 }
 
--- the text has exactly the lines of the places where the one module uses the other
-pub record IsUsesText (sources : List Source) (m n text : List ℕ) : Type 0 where
+-- the text has exactly the lines of the places where the one module uses the other, in this style
+pub record IsUsesText (style : Style) (sources : List Source) (m n text : List ℕ) : Type 0 where
   pub path : List ℕ
   pub spans : List Span
   pub uses : AreUses sources m n path spans
-  pub lines : text ≡ place_lines (map (place_in_file path) spans)
+  pub lines : text ≡ place_lines style (map (place_in_file path) spans)
 
 -- the sink has the whole text
-abbrev pub PutsUses : List Source → List ℕ → List ℕ → Option (List ℕ) → Option (List ℕ) → Type 0
-PutsUses sources m n old new = (text : List ℕ) × IsUsesText sources m n text × Appends old new text
+abbrev pub PutsUses : Style → List Source → List ℕ → List ℕ → Option (List ℕ) → Option (List ℕ) → Type 0
+PutsUses style sources m n old new = (text : List ℕ) × IsUsesText style sources m n text × Appends old new text
 
 -- the sink has a front of it
-abbrev pub PutsUsesFront : List Source → List ℕ → List ℕ → Option (List ℕ) → Option (List ℕ) → Type 0
-PutsUsesFront sources m n old new = (text : List ℕ) × IsUsesText sources m n text × AppendsFront old new text
+abbrev pub PutsUsesFront : Style → List Source → List ℕ → List ℕ → Option (List ℕ) → Option (List ℕ) → Type 0
+PutsUsesFront style sources m n old new = (text : List ℕ) × IsUsesText style sources m n text × AppendsFront old new text
 
 -- of the two names this is the first that is none of a module, where the first has to be one of the tree
 abbrev pub IsFirstUnknown : List Source → List ℕ → List ℕ → List ℕ → Type 0
@@ -47,19 +48,19 @@ IsUnknown sources m n (solve.NoSuchModule name) = IsFirstUnknown sources m n (st
 IsUnknown sources m n solve.Memory = ⊥
 
 -- a run of the engine: refused input leaves the sink as it was, with the fault that the input has
-abbrev pub IsCrossingsRun : List Source → List ℕ → List ℕ → Option (List ℕ) → Option (List ℕ) → Result (Unit {0}) RunFault → Type 0
-IsCrossingsRun sources m n old new (Ok _) = PutsUses sources m n old new
-IsCrossingsRun sources m n old new (Err (CannotRead path)) = ⊥
-IsCrossingsRun sources m n old new (Err (CannotWrite path)) = ⊥
-IsCrossingsRun sources m n old new (Err (Tree fault)) = IsRefusedTree sources (Tree fault) × Keeps old new
-IsCrossingsRun sources m n old new (Err (Net fault)) = ⊥
-IsCrossingsRun sources m n old new (Err (Price fault)) = ⊥
-IsCrossingsRun sources m n old new (Err (Report fault)) = ⊥
-IsCrossingsRun sources m n old new (Err (Solve fault)) = IsUnknown sources m n fault × Keeps old new
-IsCrossingsRun sources m n old new (Err (Rules fault)) = ⊥
-IsCrossingsRun sources m n old new (Err (Query fault)) = ⊥
-IsCrossingsRun sources m n old new (Err Device) = PutsUsesFront sources m n old new
-IsCrossingsRun sources m n old new (Err Memory) = Keeps old new ⊎ PutsUsesFront sources m n old new
+abbrev pub IsCrossingsRun : Style → List Source → List ℕ → List ℕ → Option (List ℕ) → Option (List ℕ) → Result (Unit {0}) RunFault → Type 0
+IsCrossingsRun style sources m n old new (Ok _) = PutsUses style sources m n old new
+IsCrossingsRun style sources m n old new (Err (CannotRead path)) = ⊥
+IsCrossingsRun style sources m n old new (Err (CannotWrite path)) = ⊥
+IsCrossingsRun style sources m n old new (Err (Tree fault)) = IsRefusedTree sources (Tree fault) × Keeps old new
+IsCrossingsRun style sources m n old new (Err (Net fault)) = ⊥
+IsCrossingsRun style sources m n old new (Err (Price fault)) = ⊥
+IsCrossingsRun style sources m n old new (Err (Report fault)) = ⊥
+IsCrossingsRun style sources m n old new (Err (Solve fault)) = IsUnknown sources m n fault × Keeps old new
+IsCrossingsRun style sources m n old new (Err (Rules fault)) = ⊥
+IsCrossingsRun style sources m n old new (Err (Query fault)) = ⊥
+IsCrossingsRun style sources m n old new (Err Device) = PutsUsesFront style sources m n old new
+IsCrossingsRun style sources m n old new (Err Memory) = Keeps old new ⊎ PutsUsesFront style sources m n old new
 
 -- ---- what is made on the way
 

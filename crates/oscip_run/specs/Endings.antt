@@ -1,14 +1,16 @@
 -- How the program ends: what it writes to its streams, and its status.
-use Rattle.std.specs.Prelude.{◌≡◌, ◌⊎◌, ℕ, Bool, true, false, List, [], ◌++◌, Option, Result, Ok, Err, codes}
+use Rattle.std.specs.Prelude.{◌≡◌, ◌⊎◌, ◌==◌, ◌&&◌, ℕ, Bool, true, false, List, [], ◌∷◌, ◌++◌, length, Option, Result, Ok, Err, codes}
 use Rattle.std.specs.String.{string_bytes}
 use Rattle.oscip_job.specs.declared.job.JobFault.{JobFault}
 use Rattle.oscip_job.specs.declared.job.JobFault.TheVariants as words
-use Rattle.oscip_run.specs.Faults.{fault_text, status_number}
+use Rattle.oscip_run.specs.Faults.{fault_text, of_tree, status_number}
 use Rattle.oscip_run.specs.Streams.{Writes, WritesAll, WritesPrefix}
 use Rattle.oscip_run.specs.declared.fault.RunFault.{RunFault}
 use Rattle.oscip_run.specs.declared.fault.RunFault.TheVariants.{Device, Memory}
 use Rattle.oscip_run.specs.declared.stream.Stream.{Stream}
+use Rattle.oscip_tree.specs.declared.tree_fault.TreeFault.{TreeFault}
 use Rattle.text_escape.specs.Escapes.{escaped}
+use Rattle.text_escape.specs.Places.{plain_style, Style}
 
 -- a run: 0 where it answers, 5 where a check says no, and else the status of its fault
 abbrev pub run_status : Result Bool RunFault → ℕ
@@ -22,25 +24,52 @@ words_status (words.Line text) = 2
 words_status (words.Help text) = 0
 words_status words.Memory = 4
 
--- the line that reports a fault
-abbrev pub fault_line : RunFault → List ℕ
-fault_line fault = codes "oscip: " ++ escaped (fault_text fault) ++ codes "\n"
+-- the line that reports a fault, places in files of a tree in this style
+abbrev pub fault_line : Style → RunFault → List ℕ
+fault_line style fault = codes "oscip: " ++ escaped (fault_text style fault) ++ codes "\n"
 
 -- an end by this fault: its line is written to standard error, and the status is its own
-pub record EndsByFault {S : Type 0} (taken : S → Option (List ℕ)) (fault : RunFault) (old new : Stream S) (status : ℕ) : Type 0 where
-  pub line : Writes taken old new (fault_line fault)
+pub record EndsByFault {S : Type 0} (taken : S → Option (List ℕ)) (style : Style) (fault : RunFault) (old new : Stream S) (status : ℕ) : Type 0 where
+  pub line : Writes taken old new (fault_line style fault)
   pub status_is : status ≡ status_number fault
 
 -- the line that reports how a run ended: that of its fault, and no text where it has none
-abbrev pub run_line : Result Bool RunFault → List ℕ
-run_line (Ok agrees) = []
-run_line (Err fault) = fault_line fault
+abbrev pub run_line : Style → Result Bool RunFault → List ℕ
+run_line style (Ok agrees) = []
+run_line style (Err fault) = fault_line style fault
 
 -- a run without a fault writes nothing to standard error; one with a fault ends by it if its line was made, and by Memory if memory ran out for the line
-abbrev pub EndsRun : {S T E : Type 0} → (S → Option (List ℕ)) → Result Bool RunFault → Result T E → Stream S → Stream S → ℕ → Type 0
-EndsRun taken (Ok agrees) line old new status = (status ≡ run_status (Ok agrees)) × (new ≡ old)
-EndsRun taken (Err fault) (Ok line) old new status = EndsByFault taken fault old new status
-EndsRun taken (Err fault) (Err refused) old new status = EndsByFault taken Memory old new status
+abbrev pub EndsRun : {S T E : Type 0} → (S → Option (List ℕ)) → Style → Result Bool RunFault → Result T E → Stream S → Stream S → ℕ → Type 0
+EndsRun taken style (Ok agrees) line old new status = (status ≡ run_status (Ok agrees)) × (new ≡ old)
+EndsRun taken style (Err fault) (Ok line) old new status = EndsByFault taken style fault old new status
+EndsRun taken style (Err fault) (Err refused) old new status = EndsByFault taken style Memory old new status
+
+-- a fault is reported on standard error by its line; or it isn't, since memory ran out for the line, and nothing is written
+abbrev pub IsReported : {S : Type 0} → (S → Option (List ℕ)) → Style → RunFault → Bool → Stream S → Stream S → Type 0
+IsReported taken style fault true old new = Writes taken old new (fault_line style fault)
+IsReported taken style fault false old new = new ≡ old
+
+-- so of the faults of files that were left out, in their order; and whether all of them are reported
+pub data AreReported {S : Type 0} (taken : S → Option (List ℕ)) (style : Style) (old : Stream S) : List TreeFault → Bool → Stream S → Type 0 where
+  none : AreReported taken style old [] true old
+  more : {faults : List TreeFault} {all : Bool} {mid new : Stream S} (fault : TreeFault) (reported : Bool) → AreReported taken style old faults all mid →
+      IsReported taken style (of_tree fault) reported mid new → AreReported taken style old (faults ++ fault ∷ []) (all && reported) new
+
+-- how a run on a tree ended, of which files with these faults were left out: with the fault of the run on the others, or else with a `no` if they said no or there are such files
+abbrev pub tree_result : List TreeFault → Result Bool RunFault → Result Bool RunFault
+tree_result faults (Ok agrees) = Ok (agrees && length faults == 0)
+tree_result faults (Err fault) = Err fault
+
+-- the fault of a run, if it has one, is reported, or memory ran out for it
+abbrev pub MayReport : {S : Type 0} → (S → Option (List ℕ)) → Style → Result Bool RunFault → Stream S → Stream S → Type 0
+MayReport taken style (Ok agrees) old new = new ≡ old
+MayReport taken style (Err fault) old new = (reported : Bool) × IsReported taken style fault reported old new
+
+-- the end of such a run: the faults of the files are reported, and then the result is that of the run; if memory ran out for a line it is Memory
+abbrev pub EndsTree : {S : Type 0} → (S → Option (List ℕ)) → Style → List TreeFault → Result Bool RunFault → Stream S → Stream S → Result Bool RunFault → Type 0
+EndsTree taken style faults ended old new result =
+    (AreReported taken style old faults true new × (result ≡ tree_result faults ended))
+    ⊎ ((mid : Stream _) × AreReported taken style old faults false mid × MayReport taken style ended mid new × (result ≡ Err Memory))
 
 -- words that give no job: the reason is written to standard error, or the help to standard output; if not all of the help is, that ends by Device
 abbrev pub EndsWords : {O E : Type 0} → (O → Option (List ℕ)) → (E → Option (List ℕ)) → JobFault → Stream O × Stream O → Stream E × Stream E → ℕ → Type 0
@@ -48,5 +77,5 @@ EndsWords out_taken err_taken (words.Line text) out err status =
     Writes err_taken err.0 err.1 (string_bytes text) × (out.1 ≡ out.0) × (status ≡ words_status (words.Line text))
 EndsWords out_taken err_taken (words.Help text) out err status =
     (WritesAll out_taken out.0 out.1 (string_bytes text) × (err.1 ≡ err.0) × (status ≡ words_status (words.Help text)))
-    ⊎ (WritesPrefix out_taken out.0 out.1 (string_bytes text) × EndsByFault err_taken Device err.0 err.1 status)
-EndsWords out_taken err_taken words.Memory out err status = EndsByFault err_taken Memory err.0 err.1 status × (out.1 ≡ out.0)
+    ⊎ (WritesPrefix out_taken out.0 out.1 (string_bytes text) × EndsByFault err_taken plain_style Device err.0 err.1 status)
+EndsWords out_taken err_taken words.Memory out err status = EndsByFault err_taken plain_style Memory err.0 err.1 status × (out.1 ≡ out.0)

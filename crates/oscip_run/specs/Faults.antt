@@ -21,6 +21,7 @@ use Rattle.index_store.specs.Faults.{query_fault_text, query_status}
 use Rattle.index_store.specs.declared.query_fault.QueryFault.{QueryFault}
 use Rattle.index_store.specs.declared.query_fault.QueryFault.TheVariants as query
 use Rattle.oscip_run.specs.declared.fault.RunFault.TheVariants.{CannotRead, CannotWrite, Tree, Net, Price, Rules, Report, Solve, Query, Device, Memory}
+use Rattle.text_escape.specs.Places.{Style}
 use Rattle.oscip_tree.specs.declared.tree_fault.TreeFault.{TreeFault}
 use Rattle.oscip_tree.specs.TreeFaults.{after_space, tree_fault_text, wants_memory}
 
@@ -45,11 +46,10 @@ of_price price.Memory = Memory
 
 abbrev pub of_rules : RulesFault → RunFault
 of_rules (rules.BadLine line) = Rules (rules.BadLine line)
-of_rules (rules.SetIsModule line) = Rules (rules.SetIsModule line)
-of_rules (rules.NoSuchModule line) = Rules (rules.NoSuchModule line)
-of_rules (rules.NoSuchImport line) = Rules (rules.NoSuchImport line)
-of_rules (rules.TwiceAllowed line) = Rules (rules.TwiceAllowed line)
-of_rules (rules.EmptySet line) = Rules (rules.EmptySet line)
+of_rules (rules.SetIsModule line name) = Rules (rules.SetIsModule line name)
+of_rules (rules.NoSuchModule line name) = Rules (rules.NoSuchModule line name)
+of_rules (rules.TwiceAllowed line importer imported) = Rules (rules.TwiceAllowed line importer imported)
+of_rules (rules.EmptySet line text) = Rules (rules.EmptySet line text)
 of_rules (rules.TooMany line) = Rules (rules.TooMany line)
 of_rules rules.Memory = Memory
 
@@ -94,11 +94,10 @@ price_fault_text price.Memory = codes "Memory"
 
 abbrev pub rules_fault_text : RulesFault → List ℕ
 rules_fault_text (rules.BadLine line) = decimal line ++ codes ": BadLine"
-rules_fault_text (rules.SetIsModule line) = decimal line ++ codes ": SetIsModule"
-rules_fault_text (rules.NoSuchModule line) = decimal line ++ codes ": NoSuchModule"
-rules_fault_text (rules.NoSuchImport line) = decimal line ++ codes ": NoSuchImport"
-rules_fault_text (rules.TwiceAllowed line) = decimal line ++ codes ": TwiceAllowed"
-rules_fault_text (rules.EmptySet line) = decimal line ++ codes ": EmptySet"
+rules_fault_text (rules.SetIsModule line name) = decimal line ++ (codes ": SetIsModule " ++ string_bytes name)
+rules_fault_text (rules.NoSuchModule line name) = decimal line ++ (codes ": NoSuchModule " ++ string_bytes name)
+rules_fault_text (rules.TwiceAllowed line importer imported) = decimal line ++ (codes ": TwiceAllowed " ++ (string_bytes importer ++ (codes " " ++ string_bytes imported)))
+rules_fault_text (rules.EmptySet line text) = decimal line ++ (codes ": EmptySet " ++ string_bytes text)
 rules_fault_text (rules.TooMany line) = decimal line ++ codes ": TooMany"
 rules_fault_text rules.Memory = codes "Memory"
 
@@ -115,19 +114,19 @@ solve_fault_text solve.SameModule = codes "SameModule"
 solve_fault_text (solve.NoSuchModule name) = codes "NoSuchModule " ++ string_bytes name
 solve_fault_text solve.Memory = codes "Memory"
 
--- what is told of a fault
-abbrev pub fault_text : RunFault → List ℕ
-fault_text (CannotRead path) = codes "cannot read " ++ string_bytes path
-fault_text (CannotWrite path) = codes "cannot write " ++ string_bytes path
-fault_text (Tree fault) = tree_fault_text fault
-fault_text (Net fault) = net_fault_text fault
-fault_text (Price fault) = price_fault_text fault
-fault_text (Report fault) = report_fault_text fault
-fault_text (Solve fault) = solve_fault_text fault
-fault_text (Rules fault) = rules_fault_text fault
-fault_text (Query fault) = query_fault_text fault
-fault_text Device = codes "cannot write"
-fault_text Memory = codes "Memory"
+-- what is told of a fault, places in files of a tree in this style
+abbrev pub fault_text : Style → RunFault → List ℕ
+fault_text style (CannotRead path) = codes "cannot read " ++ string_bytes path
+fault_text style (CannotWrite path) = codes "cannot write " ++ string_bytes path
+fault_text style (Tree fault) = tree_fault_text style fault
+fault_text style (Net fault) = net_fault_text fault
+fault_text style (Price fault) = price_fault_text fault
+fault_text style (Report fault) = report_fault_text fault
+fault_text style (Solve fault) = solve_fault_text fault
+fault_text style (Rules fault) = rules_fault_text fault
+fault_text style (Query fault) = query_fault_text fault
+fault_text style Device = codes "cannot write"
+fault_text style Memory = codes "Memory"
 
 -- the status: 1 for refused input, 3 for a file or a device, 4 for memory
 abbrev pub net_status : NetFault → ℕ
@@ -147,11 +146,10 @@ price_status price.Memory = 4
 
 abbrev pub rules_status : RulesFault → ℕ
 rules_status (rules.BadLine line) = 1
-rules_status (rules.SetIsModule line) = 1
-rules_status (rules.NoSuchModule line) = 1
-rules_status (rules.NoSuchImport line) = 1
-rules_status (rules.TwiceAllowed line) = 1
-rules_status (rules.EmptySet line) = 1
+rules_status (rules.SetIsModule line name) = 1
+rules_status (rules.NoSuchModule line name) = 1
+rules_status (rules.TwiceAllowed line importer imported) = 1
+rules_status (rules.EmptySet line text) = 1
 rules_status (rules.TooMany line) = 1
 rules_status rules.Memory = 4
 

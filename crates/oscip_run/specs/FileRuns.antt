@@ -1,21 +1,16 @@
 -- What a run of a job on the files that it names reads and puts. Answers are the answers of the reader.
 use Rattle.std.specs.Prelude.{◌≡◌, ◌⊎◌, ℕ, Bool, true, List, Option, Result, Ok, Err, IfOk}
 use Rattle.std.specs.Io.KnownBytes.{Keeps}
-use Rattle.std.specs.String.{string_bytes}
 use Rattle.oscip_job.specs.declared.job.IndexQuestion.{IndexQuestion}
 use Rattle.oscip_job.specs.declared.job.NetQuestion.{NetQuestion}
-use Rattle.oscip_job.specs.declared.job.TwoNames.{TwoNames}
 use Rattle.oscip_run.specs.AskedRuns.{IsAskedRun}
-use Rattle.oscip_run.specs.CrossingRuns.{IsCrossingsRun}
 use Rattle.oscip_run.specs.Faults.{IsReadFault}
-use Rattle.oscip_run.specs.ImportRuns.{IsNetTextRun}
 use Rattle.oscip_run.specs.JobRuns.{without_answer, IsJobRun}
 use Rattle.oscip_run.specs.PricedInputs.{IsNetOfPricedText, IsNetOfPricedTree, IsRefusedPricedText, IsRefusedPricedTree}
-use Rattle.oscip_run.specs.Readings.{bytes_or_none, paths_beside, AreGiven, FileOf, FolderOf, IsNetNotGiven, IsTreeNotGiven, Reading, Refused}
-use Rattle.oscip_run.specs.Runs.{IsRefusedTree}
+use Rattle.oscip_run.specs.Readings.{bytes_or_none, paths_beside, AreGiven, AreNotGiven, FileOf, IsNetNotGiven, Reading, Refused}
 use Rattle.oscip_run.specs.declared.fault.RunFault.{RunFault}
-use Rattle.oscip_tree.specs.Trees.{IsNetOfTree}
 use Rattle.oscip_tree.specs.declared.source.Source.{Source}
+use Rattle.text_escape.specs.Places.{Style}
 
 -- what can't be read ended the run with this fault, and the sink is as it was
 abbrev pub IsUnread : (RunFault → Type 0) → Option (List ℕ) → Option (List ℕ) → Result Bool RunFault → Type 0
@@ -31,12 +26,10 @@ pub record IsRunOnNet (Answers : Reading → Type 0) (path : List ℕ) (question
   pub given : AreGiven Answers (paths_beside question) report prices
   pub run : IsJobRun (IsNetOfPricedText network) (IsRefusedPricedText network) question (bytes_or_none report) prices old new result
 
--- the same of the modules of a tree
-pub record IsRunOnTree (Answers : Reading → Type 0) (path : List ℕ) (question : NetQuestion) (old new : Option (List ℕ)) (result : Result Bool RunFault) : Type 0 where
-  pub sources : List Source
+-- the engine of a question ran on the network of these modules, and on the report and the prices that the reader gave of the question's own paths
+pub record IsRunOnTree (Answers : Reading → Type 0) (sources : List Source) (question : NetQuestion) (old new : Option (List ℕ)) (result : Result Bool RunFault) : Type 0 where
   pub report : Option (List ℕ)
   pub prices : Option (List ℕ)
-  pub sources_given : Answers (FolderOf path sources)
   pub given : AreGiven Answers (paths_beside question) report prices
   pub run : IsJobRun (IsNetOfPricedTree sources) (IsRefusedPricedTree sources) question (bytes_or_none report) prices old new result
 
@@ -45,31 +38,17 @@ abbrev pub IsNetRun : (Reading → Type 0) → List ℕ → NetQuestion → Opti
 IsNetRun Answers path question old new result =
     IsUnread (IsNetNotGiven Answers path (paths_beside question)) old new result ⊎ IsRunOnNet Answers path question old new result
 
--- a run of a question on the tree of this folder
-abbrev pub IsTreeRun : (Reading → Type 0) → List ℕ → NetQuestion → Option (List ℕ) → Option (List ℕ) → Result Bool RunFault → Type 0
-IsTreeRun Answers path question old new result =
-    IsUnread (IsTreeNotGiven Answers path (paths_beside question)) old new result ⊎ IsRunOnTree Answers path question old new result
+-- a run of a question on the network of these modules
+abbrev pub IsTreeNetRun : (Reading → Type 0) → List Source → NetQuestion → Option (List ℕ) → Option (List ℕ) → Result Bool RunFault → Type 0
+IsTreeNetRun Answers sources question old new result =
+    IsUnread (AreNotGiven Answers (paths_beside question)) old new result ⊎ IsRunOnTree Answers sources question old new result
 
 -- the only path of a run is refused
 abbrev pub IsInputNotGiven : (Reading → Type 0) → List ℕ → RunFault → Type 0
 IsInputNotGiven Answers path fault = Answers (Refused path fault)
 
--- a run that asks where a module of this folder uses another; lines that are put are no check that says no
-abbrev pub IsUsesRun : (Reading → Type 0) → List ℕ → TwoNames → Option (List ℕ) → Option (List ℕ) → Result Bool RunFault → Type 0
-IsUsesRun Answers path names old new result =
+-- a run that asks the index of this path, with places in this style; it has no `no`
+abbrev pub IsQuestionRun : (Reading → Type 0) → Style → List ℕ → IndexQuestion → Option (List ℕ) → Option (List ℕ) → Result Bool RunFault → Type 0
+IsQuestionRun Answers style path question old new result =
     IsUnread (IsInputNotGiven Answers path) old new result
-    ⊎ ((sources : List Source) × Answers (FolderOf path sources) × IsCrossingsRun sources (string_bytes names.from) (string_bytes names.to) old new (without_answer result)
-    × IfOk result (λ agrees. agrees ≡ true))
-
--- a run that tells the network of the modules of this folder; neither are these
-abbrev pub IsTreeTextRun : (Reading → Type 0) → List ℕ → Option (List ℕ) → Option (List ℕ) → Result Bool RunFault → Type 0
-IsTreeTextRun Answers path old new result =
-    IsUnread (IsInputNotGiven Answers path) old new result
-    ⊎ ((sources : List Source) × Answers (FolderOf path sources) × IsNetTextRun (IsNetOfTree sources) (IsRefusedTree sources) old new (without_answer result)
-    × IfOk result (λ agrees. agrees ≡ true))
-
--- a run that asks the index of this path; nor these
-abbrev pub IsQuestionRun : (Reading → Type 0) → List ℕ → IndexQuestion → Option (List ℕ) → Option (List ℕ) → Result Bool RunFault → Type 0
-IsQuestionRun Answers path question old new result =
-    IsUnread (IsInputNotGiven Answers path) old new result
-    ⊎ ((index : List ℕ) × Answers (FileOf path index) × IsAskedRun index question old new (without_answer result) × IfOk result (λ agrees. agrees ≡ true))
+    ⊎ ((index : List ℕ) × Answers (FileOf path index) × IsAskedRun style index question old new (without_answer result) × IfOk result (λ agrees. agrees ≡ true))

@@ -2,7 +2,7 @@
 use Rattle.std.specs.Prelude.{◌≡◌, ◌≢◌, ◌⊎◌, ℕ, Bool, true, false, List, [], Option, Some, Result, Ok, Err}
 use Rattle.std.specs.Io.KnownBytes.{Appends, Keeps}
 use Rattle.byte_sink.specs.Sinks.{AppendsFront}
-use Rattle.digraph.specs.Levels.{IsLeastChain}
+use Rattle.digraph.specs.ShortestPaths.{IsLeastChain}
 use Rattle.cut_net.specs.Cuts.{Any, Chain, Imports}
 use Rattle.cut_net.specs.NetText.{IsNetOutcome}
 use Rattle.cut_net.specs.Network.{Network, index_of}

@@ -6,10 +6,12 @@ use Rattle.cut_net.specs.Said.{Said}
 use Rattle.oscip_run.specs.CutRuns.{IsCutRun}
 use Rattle.oscip_run.specs.DotRuns.{IsAskedPicture, IsDotRun}
 use Rattle.oscip_run.specs.ImportRuns.{IsWhyRun}
+use Rattle.oscip_run.specs.ReachRuns.{IsReachRun}
 use Rattle.oscip_run.specs.Runs.{IsCheckRun}
 use Rattle.oscip_run.specs.declared.fault.RunFault.{RunFault}
+use Rattle.oscip_job.specs.declared.job.Direction.{Direction}
 use Rattle.oscip_job.specs.declared.job.NetQuestion.{NetQuestion}
-use Rattle.oscip_job.specs.declared.job.NetQuestion.TheVariants.{Cut, Check, Dot, Why}
+use Rattle.oscip_job.specs.declared.job.NetQuestion.TheVariants.{Cut, Check, Dot, Why, Reach}
 
 -- the run, without its answer
 abbrev pub without_answer : Result Bool RunFault → Result (Unit {0}) RunFault
@@ -26,11 +28,17 @@ abbrev pub IsDotJobRun : (Network → ℕ → ℕ → Said → List ℕ → Type
 IsDotJobRun Shows IsOf IsRefused report old new result =
     IsDotRun Shows IsOf IsRefused report old new (without_answer result) × IfOk result (λ agrees. agrees ≡ true)
 
+-- a run that lists what a module reaches, or what reaches it; a list that is written is no check that says no
+abbrev pub IsReachJobRun : (Network → Type 0) → (RunFault → Type 0) → List ℕ → Direction → Option (List ℕ) → Option (List ℕ) → Result Bool RunFault → Type 0
+IsReachJobRun IsOf IsRefused name direction old new result =
+    IsReachRun IsOf IsRefused name direction old new (without_answer result) × IfOk result (λ agrees. agrees ≡ true)
+
 -- Below a network is that of the input with these prices, where they are given.
 
--- a run of the engine for what is asked of a network, with the question's own names, or with the report; a path doesn't depend on prices
+-- a run of the engine for what is asked of a network, with the question's own names, or with the report; paths don't depend on prices
 abbrev pub IsJobRun : (Option (List ℕ) → Network → Type 0) → (Option (List ℕ) → RunFault → Type 0) → NetQuestion → List ℕ → Option (List ℕ) → Option (List ℕ) → Option (List ℕ) → Result Bool RunFault → Type 0
 IsJobRun IsOf IsRefused (Cut cutting) report prices old new result = IsCutJobRun (IsOf prices) (IsRefused prices) (string_bytes cutting.from) (string_bytes cutting.to) old new result
 IsJobRun IsOf IsRefused (Check reported) report prices old new result = IsCheckRun (IsOf prices) (IsRefused prices) report old new result
 IsJobRun IsOf IsRefused (Dot drawing) report prices old new result = IsDotJobRun (IsAskedPicture drawing.by_flow) (IsOf prices) (IsRefused prices) report old new result
 IsJobRun IsOf IsRefused (Why names) report prices old new result = IsWhyRun (IsOf None) (IsRefused None) (string_bytes names.from) (string_bytes names.to) old new result
+IsJobRun IsOf IsRefused (Reach reaching) report prices old new result = IsReachJobRun (IsOf None) (IsRefused None) (string_bytes reaching.module) reaching.direction old new result

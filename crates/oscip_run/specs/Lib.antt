@@ -4,6 +4,8 @@ pub mod Runs
 pub mod PricedInputs
 pub mod DotRuns
 pub mod ImportRuns
+pub mod ModuleRuns
+pub mod ReachRuns
 pub mod JobRuns
 pub mod Endings
 pub mod Files
@@ -13,5 +15,8 @@ pub mod AskedRuns
 pub mod CrossingRuns
 pub mod FaultRuns
 pub mod RuleRuns
+pub mod Exclusions
 pub mod TreeQuestionRuns
+pub mod Styles
+pub mod TreeRuns
 pub mod Streams

@@ -3,22 +3,23 @@ use Rattle.std.specs.Prelude.{◌≡◌, ◌⊎◌, ℕ, [], List, Option, Some,
 use Rattle.std.specs.Global.{Vec}
 use Rattle.std.specs.String.{string_bytes}
 use Rattle.oscip_job.specs.declared.job.NetQuestion.{NetQuestion}
-use Rattle.oscip_job.specs.declared.job.NetQuestion.TheVariants.{Cut, Check, Dot, Why}
+use Rattle.oscip_job.specs.declared.job.NetQuestion.TheVariants.{Cut, Check, Dot, Why, Reach}
+use Rattle.oscip_run.specs.Exclusions.{AreIncluded}
 use Rattle.oscip_run.specs.Faults.{IsReadFault}
 use Rattle.oscip_run.specs.Files.{AreFronts, IsFile}
 use Rattle.oscip_run.specs.declared.fault.RunFault.{RunFault}
 use Rattle.oscip_tree.specs.declared.source.Source.{Source}
 
--- an answer to a path: the bytes of the file there, the modules below the folder there, or the fault of what can't be read
+-- an answer to a path: the bytes of the file there, the modules below the folder there but for those that patterns exclude, or the fault of what can't be read
 pub data Reading : Type 0 where
   FileOf : List ℕ → List ℕ → Reading
-  FolderOf : List ℕ → List Source → Reading
+  FolderOf : List ℕ → List (List ℕ) → List Source → Reading
   Refused : List ℕ → RunFault → Reading
 
--- what is known of an answer of the system: how much is taken, and which faults there are
+-- what is known of an answer of the system: how much is taken, which files are excluded, and which faults there are
 abbrev pub IsOfSystem : Reading → Type 0
 IsOfSystem (FileOf path bytes) = IsFile bytes
-IsOfSystem (FolderOf path sources) = AreFronts sources
+IsOfSystem (FolderOf path patterns sources) = AreFronts sources × AreIncluded patterns sources
 IsOfSystem (Refused path fault) = IsReadFault fault
 
 -- the paths that a question names beside its network: those of its report and its prices, where it has them
@@ -31,6 +32,7 @@ paths_beside (Cut cutting) = record { report = None; prices = option_map string_
 paths_beside (Check reported) = record { report = Some (string_bytes reported.report); prices = option_map string_bytes reported.prices }
 paths_beside (Dot drawing) = record { report = Some (string_bytes drawing.reported.report); prices = option_map string_bytes drawing.reported.prices }
 paths_beside (Why names) = record { report = None; prices = None }
+paths_beside (Reach reaching) = record { report = None; prices = None }
 
 -- Below Answers are the answers of a reader.
 
@@ -58,11 +60,6 @@ AreNotGiven Answers paths fault =
 abbrev pub IsNetNotGiven : (Reading → Type 0) → List ℕ → PathsBeside → RunFault → Type 0
 IsNetNotGiven Answers path beside fault =
     Answers (Refused path fault) ⊎ (((network : List ℕ) × Answers (FileOf path network)) × AreNotGiven Answers beside fault)
-
--- the same of a folder
-abbrev pub IsTreeNotGiven : (Reading → Type 0) → List ℕ → PathsBeside → RunFault → Type 0
-IsTreeNotGiven Answers path beside fault =
-    Answers (Refused path fault) ⊎ (((sources : List Source) × Answers (FolderOf path sources)) × AreNotGiven Answers beside fault)
 
 -- ---- what is made on the way
 

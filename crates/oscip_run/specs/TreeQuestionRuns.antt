@@ -1,18 +1,38 @@
--- What a run of any question to a tree reads and puts. Answers are the answers of the reader.
-use Rattle.std.specs.Prelude.{ℕ, Bool, List, Option, Result}
+-- What a run of a question to the modules of a tree reads and writes. Answers are the answers of the reader.
+use Rattle.std.specs.Prelude.{◌≡◌, ◌⊎◌, ℕ, Bool, true, List, Option, Result, IfOk}
 use Rattle.std.specs.String.{string_bytes}
 use Rattle.oscip_job.specs.declared.job.TreeQuestion.{TreeQuestion}
-use Rattle.oscip_job.specs.declared.job.TreeQuestion.TheVariants.{OfNet, Crossings, Net, Rules, Faults}
-use Rattle.oscip_run.specs.FaultRuns.{IsFolderFaultsRun}
-use Rattle.oscip_run.specs.FileRuns.{IsTreeRun, IsTreeTextRun, IsUsesRun}
-use Rattle.oscip_run.specs.Readings.{Reading}
-use Rattle.oscip_run.specs.RuleRuns.{IsFolderRulesRun}
+use Rattle.oscip_job.specs.declared.job.TreeQuestion.TheVariants.{OfNet, Crossings, Net, Rules, Faults, Modules}
+use Rattle.oscip_run.specs.CrossingRuns.{IsCrossingsRun}
+use Rattle.oscip_run.specs.FaultRuns.{IsFaultsRun}
+use Rattle.oscip_run.specs.FileRuns.{IsTreeNetRun, IsUnread}
+use Rattle.oscip_run.specs.ImportRuns.{IsNetTextRun}
+use Rattle.oscip_run.specs.JobRuns.{without_answer}
+use Rattle.oscip_run.specs.ModuleRuns.{IsModulesRun}
+use Rattle.oscip_run.specs.Readings.{FileOf, Reading, Refused}
+use Rattle.oscip_run.specs.RuleRuns.{IsRuledTree, IsRulesRun}
+use Rattle.oscip_run.specs.Runs.{IsRefusedTree}
 use Rattle.oscip_run.specs.declared.fault.RunFault.{RunFault}
+use Rattle.oscip_tree.specs.Trees.{IsNetOfTree}
+use Rattle.oscip_tree.specs.declared.source.Source.{Source}
+use Rattle.text_escape.specs.Places.{Style}
 
--- a run for what is asked of the modules of this folder
-abbrev pub IsTreeQuestionRun : (Reading → Type 0) → List ℕ → TreeQuestion → Option (List ℕ) → Option (List ℕ) → Result Bool RunFault → Type 0
-IsTreeQuestionRun Answers folder (OfNet question) old new result = IsTreeRun Answers folder question old new result
-IsTreeQuestionRun Answers folder (Crossings names) old new result = IsUsesRun Answers folder names old new result
-IsTreeQuestionRun Answers folder Net old new result = IsTreeTextRun Answers folder old new result
-IsTreeQuestionRun Answers folder (Rules rules) old new result = IsFolderRulesRun Answers folder (string_bytes rules) old new result
-IsTreeQuestionRun Answers folder Faults old new result = IsFolderFaultsRun Answers folder old new result
+-- the run, which has no `no`
+abbrev pub NeverSaysNo : Result Bool RunFault → Type 0
+NeverSaysNo result = IfOk result (λ agrees. agrees ≡ true)
+
+-- the file of the rules is refused; or it isn't, and the rules in it are checked
+abbrev pub IsRulesFileRun : (Reading → Type 0) → Style → List Source → List ℕ → Option (List ℕ) → Option (List ℕ) → Result Bool RunFault → Type 0
+IsRulesFileRun Answers style sources path old new result =
+    IsUnread (λ fault. Answers (Refused path fault)) old new result
+    ⊎ ((text : List ℕ) × Answers (FileOf path text) × IsRulesRun (IsRuledTree sources) (IsRefusedTree sources) style text old new result)
+
+-- a run for what is asked of these modules, with places in this style
+abbrev pub IsTreeQuestionRun : (Reading → Type 0) → Style → List Source → TreeQuestion → Option (List ℕ) → Option (List ℕ) → Result Bool RunFault → Type 0
+IsTreeQuestionRun Answers style sources (OfNet question) old new result = IsTreeNetRun Answers sources question old new result
+IsTreeQuestionRun Answers style sources (Crossings names) old new result =
+    IsCrossingsRun style sources (string_bytes names.from) (string_bytes names.to) old new (without_answer result) × NeverSaysNo result
+IsTreeQuestionRun Answers style sources Net old new result = IsNetTextRun (IsNetOfTree sources) (IsRefusedTree sources) old new (without_answer result) × NeverSaysNo result
+IsTreeQuestionRun Answers style sources (Rules path) old new result = IsRulesFileRun Answers style sources (string_bytes path) old new result
+IsTreeQuestionRun Answers style sources Faults old new result = IsFaultsRun style sources old new result
+IsTreeQuestionRun Answers style sources Modules old new result = IsModulesRun style sources old new (without_answer result) × NeverSaysNo result

@@ -2,14 +2,18 @@
 ghost use Rattle.std.specs.Prelude.{◌≡◌, IfOk};
 ghost use Rattle.std.specs.Process.{exit_status};
 ghost use Rattle.std.specs.String.{string_bytes};
-ghost use Rattle.oscip_run.specs.Endings.{fault_line, run_line, run_status, words_status, EndsByFault, EndsRun, EndsWords};
+ghost use Rattle.oscip_run.specs.Endings.{fault_line, run_line, run_status, words_status, EndsByFault, EndsRun, AreReported, EndsTree, EndsWords, IsReported, MayReport};
+ghost use Rattle.oscip_run.specs.Faults.{of_tree};
 ghost use Rattle.oscip_run.specs.declared.fault.RunFault.TheVariants.{Memory};
+ghost use Rattle.text_escape.specs.Places.{style_of, Style};
 
-use crate::{RunFault, Stream, fault_line, status_of};
+use crate::{RunFault, Stream, TreeRun, fault_line, status_of};
 use byte_sink::Sink;
 use oscip_job::JobFault;
+use oscip_tree::TreeFault;
 use std::alloc::{AllocError, Global};
 use std::process::ExitCode;
+use text_escape::PlaceStyle;
 
 /// The status that a run ends with: 0 where it answers, 5 where a check says no, and else that of its fault.
 pub fn status_of_run(ended: &Result<bool, RunFault>) -> u8
@@ -34,19 +38,105 @@ pub fn status_of_words(fault: &JobFault) -> u8
 }
 
 /// The line that reports how a run ended: that of `fault_line`, or an empty text if the run has no fault. Fails if memory runs out.
-pub fn line_of_run(alloc: Global, ended: &Result<bool, RunFault>) -> Result<String, AllocError>
-    ensures { IfOk result (λ text. string_bytes text ≡ run_line ended.now) }
+pub fn line_of_run(
+    alloc: Global,
+    style: PlaceStyle<'_>,
+    ended: &Result<bool, RunFault>,
+) -> Result<String, AllocError>
+    ensures { IfOk result (λ text. string_bytes text ≡ run_line (style_of style.entry) ended.now) }
 {
     match ended {
         Ok(_) => Ok(String::new(alloc)),
-        Err(fault) => fault_line(alloc, fault),
+        Err(fault) => fault_line(alloc, style, fault),
     }
+}
+
+/// Writes the line of a fault to standard error. Returns false if memory for the line ran out, and then nothing is written.
+fn report_fault<E: Sink>(
+    alloc: Global,
+    fault: &RunFault,
+    style: PlaceStyle<'_>,
+    stderr: &mut Stream<E>,
+) -> bool
+    ensures { IsReported E.taken (style_of style.entry) fault.now result stderr.old stderr.new }
+{
+    let Ok(line) = fault_line(alloc, style, fault) else {
+        return false;
+    };
+    let _ = stderr.write(line.as_str());
+    true
+}
+
+/// Writes the line of a left-out file's fault, as `report_fault` does.
+fn report_left_out<E: Sink>(
+    alloc: Global,
+    fault: TreeFault,
+    style: PlaceStyle<'_>,
+    stderr: &mut Stream<E>,
+) -> bool
+    ensures { IsReported E.taken (style_of style.entry) (of_tree fault) result stderr.old stderr.new }
+{
+    let fault = RunFault::from(fault);
+    report_fault(alloc, &fault, style, stderr)
+}
+
+/// Writes the lines of these faults to standard error. Returns false if memory for one ran out; the others are still written.
+fn report_faults<E: Sink>(
+    alloc: Global,
+    faults: Vec<TreeFault>,
+    style: PlaceStyle<'_>,
+    stderr: &mut Stream<E>,
+) -> bool
+    ensures { AreReported E.taken (style_of style.entry) stderr.old faults.items result stderr.new }
+{
+    let mut all = true;
+    for fault in faults {
+        all &= report_left_out(alloc, fault, style, stderr);
+    }
+    all
+}
+
+/// Writes the line of a run's fault to standard error, if it has one other than `Memory` and memory doesn't run out for the line.
+fn report_end<E: Sink>(
+    alloc: Global,
+    ended: &Result<bool, RunFault>,
+    style: PlaceStyle<'_>,
+    stderr: &mut Stream<E>,
+)
+    ensures { MayReport E.taken (style_of style.entry) ended.now stderr.old stderr.new }
+{
+    match ended {
+        Ok(_) | Err(RunFault::Memory) => {}
+        Err(fault) => {
+            report_fault(alloc, fault, style, stderr);
+        }
+    }
+}
+
+/// Reports the faults of the files that a run on a tree left out: after the run on the others, so that none of the lines gets into a file
+/// that was opened in place of a closed standard error. Returns the result of that run, or false if it answered and files were left out.
+/// If memory for a line runs out, a fault of that run is still reported, and the result is `Memory`.
+pub fn end_of_tree<E: Sink>(
+    alloc: Global,
+    run: TreeRun,
+    style: PlaceStyle<'_>,
+    stderr: &mut Stream<E>,
+) -> Result<bool, RunFault>
+    // The lines that are written, and the result.
+    ensures { EndsTree E.taken (style_of style.entry) run.faults.items run.ended stderr.old stderr.new result }
+{
+    let TreeRun { faults, ended } = run;
+    let is_whole = faults.is_empty();
+    if report_faults(alloc, faults, style, stderr) {
+        return Ok(ended? && is_whole);
+    }
+    report_end(alloc, &ended, style, stderr);
+    Err(RunFault::Memory)
 }
 
 /// Reports a fault by its line on standard error. Returns its status, which a failure of standard error doesn't change.
 fn end_by_fault<E: Sink>(fault: &RunFault, line: &str, stderr: &mut Stream<E>) -> u8
-    requires { line.now ≡ fault_line fault.now }
-    ensures { EndsByFault E.taken fault.now stderr.old stderr.new result }
+    ensures { (style : Style) → line.now ≡ fault_line style fault.now → EndsByFault E.taken style fault.now stderr.old stderr.new result }
 {
     let _ = stderr.write(line);
     status_of(fault)
@@ -54,21 +144,20 @@ fn end_by_fault<E: Sink>(fault: &RunFault, line: &str, stderr: &mut Stream<E>) -
 
 /// Reports on standard error that memory ran out, without an allocation. Returns the status.
 fn end_by_memory<E: Sink>(stderr: &mut Stream<E>) -> u8
-    ensures { EndsByFault E.taken Memory stderr.old stderr.new result }
+    ensures { (style : Style) → EndsByFault E.taken style Memory stderr.old stderr.new result }
 {
     end_by_fault(&RunFault::Memory, "oscip: Memory\n", stderr)
 }
 
-/// Reports the fault of a run, if it has one, by the line of `line_of_run` on standard error. Returns the status: that of
+/// Reports the fault of a run, if it has one, by the line of `line_of_run`, in any style, on standard error. Returns the status: that of
 /// `status_of_run`, or 4 if memory ran out for the line of a fault.
 pub fn end_of<E: Sink>(
     ended: &Result<bool, RunFault>,
     line: Result<String, AllocError>,
     stderr: &mut Stream<E>,
 ) -> ExitCode
-    requires { IfOk line (λ text. string_bytes text ≡ run_line ended.now) }
-    // The status, and the line that is written with it.
-    ensures { EndsRun E.taken ended.now line stderr.old stderr.new (exit_status result) }
+    // The status, and the line that is written with it, in the style in which the line was made.
+    ensures { (style : Style) → IfOk line (λ text. string_bytes text ≡ run_line style ended.now) → EndsRun E.taken style ended.now line stderr.old stderr.new (exit_status result) }
 {
     match ended {
         Ok(_) => ExitCode::from(status_of_run(ended)),

@@ -3,6 +3,7 @@ ghost use Rattle.std.specs.Prelude.{◌≡◌, ◌++◌, IfOk, codes};
 ghost use Rattle.std.specs.String.{string_bytes};
 ghost use Rattle.oscip_run.specs.Faults.{fault_text, net_status, net_fault_text, price_fault_text, price_status, report_status, report_fault_text, rules_fault_text, rules_status, solve_fault_text, solve_status, status_number, tree_status};
 ghost use Rattle.text_escape.specs.Escapes.{escaped, IsOneLine};
+ghost use Rattle.text_escape.specs.Places.{style_of};
 
 use byte_sink::SinkFault;
 use cut_net::{NetFault, PriceFault};
@@ -12,8 +13,8 @@ use cut_solve::SolveFault;
 use index_store::{QueryFault, query_fault_text, query_status};
 use oscip_tree::{TreeFault, after_spaces, tree_fault_text, wants_memory};
 use std::alloc::{AllocError, Global};
-use text_escape::escaped;
 use text_escape::laws::no_control;
+use text_escape::{PlaceStyle, escaped};
 use thiserror::Error;
 
 /// Why a run ends without an answer. As `From` makes them, `Tree`, `Net`, `Price`, `Rules`, `Report`,
@@ -214,11 +215,18 @@ fn rules_fault_text(alloc: Global, fault: &RulesFault) -> Result<String, AllocEr
 {
     match fault {
         RulesFault::BadLine { line } => format!(in alloc; "{line}: BadLine"),
-        RulesFault::SetIsModule { line } => format!(in alloc; "{line}: SetIsModule"),
-        RulesFault::NoSuchModule { line } => format!(in alloc; "{line}: NoSuchModule"),
-        RulesFault::NoSuchImport { line } => format!(in alloc; "{line}: NoSuchImport"),
-        RulesFault::TwiceAllowed { line } => format!(in alloc; "{line}: TwiceAllowed"),
-        RulesFault::EmptySet { line } => format!(in alloc; "{line}: EmptySet"),
+        RulesFault::SetIsModule { line, name } => {
+            format!(in alloc; "{line}: SetIsModule {name}")
+        }
+        RulesFault::NoSuchModule { line, name } => {
+            format!(in alloc; "{line}: NoSuchModule {name}")
+        }
+        RulesFault::TwiceAllowed {
+            line,
+            importer,
+            imported,
+        } => format!(in alloc; "{line}: TwiceAllowed {importer} {imported}"),
+        RulesFault::EmptySet { line, text } => format!(in alloc; "{line}: EmptySet {text}"),
         RulesFault::TooMany { line } => format!(in alloc; "{line}: TooMany"),
         RulesFault::Memory => String::from_str(alloc, "Memory"),
     }
@@ -247,13 +255,13 @@ fn solve_fault_text(alloc: Global, fault: &SolveFault) -> Result<String, AllocEr
     }
 }
 
-fn text_of(alloc: Global, fault: &RunFault) -> Result<String, AllocError>
-    ensures { IfOk result (λ t. string_bytes t ≡ fault_text fault.now) }
+fn text_of(alloc: Global, style: PlaceStyle<'_>, fault: &RunFault) -> Result<String, AllocError>
+    ensures { IfOk result (λ t. string_bytes t ≡ fault_text (style_of style.entry) fault.now) }
 {
     match fault {
         RunFault::CannotRead { path } => format!(in alloc; "cannot read {path}"),
         RunFault::CannotWrite { path } => format!(in alloc; "cannot write {path}"),
-        RunFault::Tree(fault) => tree_fault_text(alloc, fault),
+        RunFault::Tree(fault) => tree_fault_text(alloc, style, fault),
         RunFault::Net(fault) => net_fault_text(alloc, fault),
         RunFault::Price(fault) => price_fault_text(alloc, fault),
         RunFault::Rules(fault) => rules_fault_text(alloc, fault),
@@ -265,15 +273,20 @@ fn text_of(alloc: Global, fault: &RunFault) -> Result<String, AllocError>
     }
 }
 
-/// The line that tells of a fault: `oscip: `, the fault with the control characters of names and paths written out, and an LF.
-/// Fails where memory is refused.
-pub fn fault_line(alloc: Global, fault: &RunFault) -> Result<String, AllocError>
-    ensures text { IfOk result (λ t. string_bytes t ≡ codes "oscip: " ++ escaped (fault_text fault.now) ++ codes "\n") }
+/// The line that reports a fault: `oscip: `, the fault with the control characters of names and paths written out, and an LF. The places
+/// and paths of the fault of a tree are written in this style. Fails if memory runs out.
+pub fn fault_line(
+    alloc: Global,
+    style: PlaceStyle<'_>,
+    fault: &RunFault,
+) -> Result<String, AllocError>
+    // The whole line.
+    ensures text { IfOk result (λ t. string_bytes t ≡ codes "oscip: " ++ escaped (fault_text (style_of style.entry) fault.now) ++ codes "\n") }
     // It ends with its LF, and has no other control character.
     ensures one_line { IfOk result (λ t. IsOneLine (string_bytes t)) }
 {
     no_control();
-    let text = text_of(alloc, fault)?;
+    let text = text_of(alloc, style, fault)?;
     let shown = escaped(alloc, text.as_str())?;
     format!(in alloc; "oscip: {shown}\n")
 }
@@ -311,7 +324,6 @@ fn rules_status(fault: &RulesFault) -> u8
         RulesFault::BadLine { .. }
         | RulesFault::SetIsModule { .. }
         | RulesFault::NoSuchModule { .. }
-        | RulesFault::NoSuchImport { .. }
         | RulesFault::TwiceAllowed { .. }
         | RulesFault::EmptySet { .. }
         | RulesFault::TooMany { .. } => 1,

@@ -2,26 +2,32 @@
 ghost use Rattle.std.specs.Prelude.{◌≡◌, ◌++◌, IfErr, IfOk, OnOk};
 ghost use Rattle.std.specs.String.{string_bytes};
 ghost use Rattle.byte_sink.specs.Sinks.{failures_after, failures_by, AppendsFront, Puts};
-ghost use Rattle.oscip_run.specs.FaultRuns.{fault_lines, told_line, IsFaultsRun, IsFolderFaultsRun};
+ghost use Rattle.oscip_run.specs.FaultRuns.{fault_lines, told_line, IsFaultsRun};
 ghost use Rattle.oscip_run.specs.Faults.{is_device};
 ghost use Rattle.oscip_tree.specs.Sources.{ArePathsInOrder};
 ghost use Rattle.oscip_tree.specs.TreeFaults.{tree_fault_text};
+ghost use Rattle.text_escape.specs.Places.{style_of};
 ghost use Rattle.text_pieces.specs.Pieces.{PutsAllBut};
 
+use crate::RunFault;
 use crate::engine::READERS;
-use crate::{Reader, RunFault};
 use byte_sink::{Sink, SinkFault, put_all};
 use oscip_tree::{Source, TreeFault, faults_of, tree_fault_text};
 use std::alloc::{AllocError, Global};
 use std::thread::Threads;
-use text_escape::escaped;
+use text_escape::{PlaceStyle, escaped};
 use text_pieces::put_enough;
 
 /// Adds the line of a fault to the text.
-fn push_line(alloc: Global, text: &mut String, fault: &TreeFault) -> Result<(), AllocError>
-    ensures { IfOk result (λ _. string_bytes text.new ≡ string_bytes text.old ++ told_line (tree_fault_text fault.now)) }
+fn push_line(
+    alloc: Global,
+    style: PlaceStyle<'_>,
+    text: &mut String,
+    fault: &TreeFault,
+) -> Result<(), AllocError>
+    ensures { IfOk result (λ _. string_bytes text.new ≡ string_bytes text.old ++ told_line (tree_fault_text (style_of style.entry) fault.now)) }
 {
-    let told = tree_fault_text(alloc, fault)?;
+    let told = tree_fault_text(alloc, style, fault)?;
     let shown = escaped(alloc, told.as_str())?;
     writeln!(text, "{shown}")
 }
@@ -29,45 +35,52 @@ fn push_line(alloc: Global, text: &mut String, fault: &TreeFault) -> Result<(), 
 /// Gathers the line of a fault, of which pieces are put.
 fn gather_line<S: Sink>(
     alloc: Global,
+    style: PlaceStyle<'_>,
     text: &mut String,
     fault: &TreeFault,
     sink: &mut S,
 ) -> Result<(), SinkFault>
     ensures gathered { OnOk result (PutsAllBut (S.taken sink.old) (S.taken sink.new)
-        (string_bytes text.old ++ told_line (tree_fault_text fault.now)) (string_bytes text.new)) }
+        (string_bytes text.old ++ told_line (tree_fault_text (style_of style.entry) fault.now)) (string_bytes text.new)) }
     ensures broken { IfErr result (λ _. AppendsFront (S.taken sink.old) (S.taken sink.new)
-        (string_bytes text.old ++ told_line (tree_fault_text fault.now))) }
+        (string_bytes text.old ++ told_line (tree_fault_text (style_of style.entry) fault.now))) }
     ensures failures { S.failures sink.new ≡ failures_after result (S.failures sink.old) }
 {
-    push_line(alloc, text, fault).map_err(|_| SinkFault::Memory)?;
+    push_line(alloc, style, text, fault).map_err(|_| SinkFault::Memory)?;
     put_enough(text, sink)
 }
 
 /// Puts the lines of faults, in their order, piece by piece. At a refusal a front of them is taken.
-fn put_lines<S: Sink>(alloc: Global, faults: &[TreeFault], sink: &mut S) -> Result<(), SinkFault>
-    ensures puts { Puts (S.taken sink.old) (S.taken sink.new) result (fault_lines faults.now) }
+fn put_lines<S: Sink>(
+    alloc: Global,
+    style: PlaceStyle<'_>,
+    faults: &[TreeFault],
+    sink: &mut S,
+) -> Result<(), SinkFault>
+    ensures puts { Puts (S.taken sink.old) (S.taken sink.new) result (fault_lines (style_of style.entry) faults.now) }
     ensures failures { S.failures sink.new ≡ failures_after result (S.failures sink.old) }
 {
     let mut text = String::new(alloc);
     for fault in faults {
-        gather_line(alloc, &mut text, fault, sink)?;
+        gather_line(alloc, style, &mut text, fault, sink)?;
     }
     put_all(sink, text.as_bytes())
 }
 
-/// Reads the files of a tree and puts a line for each file that has a fault of its own, in the order of the files, with what
-/// `fault_line` tells of it behind the program's name; where no file has one, that of the imports; and `yes` where the tree is
-/// accepted, which is answered. Refuses with `Device` or `Memory`.
+/// Reads the files of a tree and writes a line for each file that has a fault of its own, in the order of the files: what `fault_line`
+/// writes of it in this style after the program's name. If no file has one, writes that of the imports, and if the tree is accepted,
+/// `yes`. Returns whether it is accepted. Its errors are `Device` and `Memory`.
 pub fn faults_tree<R: Threads + Sync, S: Sink>(
     rt: &R,
     alloc: Global,
     sources: &[Source],
+    style: PlaceStyle<'_>,
     sink: &mut S,
 ) -> Result<bool, RunFault>
     // The files stand in the order of their paths.
     requires { ArePathsInOrder sources.now }
     // All that the tree is refused for, and whether it is for nothing.
-    ensures run { IsFaultsRun sources.now (S.taken sink.old) (S.taken sink.new) result }
+    ensures run { IsFaultsRun (style_of style.entry) sources.now (S.taken sink.old) (S.taken sink.new) result }
     // Device is answered where the sink counted a failure, and nowhere else.
     ensures failures { S.failures sink.new ≡ failures_by is_device result (S.failures sink.old) }
 {
@@ -76,24 +89,6 @@ pub fn faults_tree<R: Threads + Sync, S: Sink>(
         put_all(sink, b"yes\n")?;
         return Ok(true);
     }
-    put_lines(alloc, faults.as_slice(), sink)?;
+    put_lines(alloc, style, faults.as_slice(), sink)?;
     Ok(false)
-}
-
-/// Tells all faults of the modules that the reader gives of this folder. True is a tree that is accepted. Refuses with the fault of
-/// the reader, and then as `faults_tree` does.
-pub fn run_faults<R: Threads + Sync, F: Reader, S: Sink>(
-    rt: &R,
-    alloc: Global,
-    reader: &F,
-    folder: &str,
-    sink: &mut S,
-) -> Result<bool, RunFault>
-    // Of what the reader gave the sink took the lines of the faults; where the folder can't be read it took nothing.
-    ensures run { IsFolderFaultsRun (F.answers reader.now) folder.now (S.taken sink.old) (S.taken sink.new) result }
-    // Device is answered where the sink counted a failure, and nowhere else.
-    ensures failures { S.failures sink.new ≡ failures_by is_device result (S.failures sink.old) }
-{
-    let sources = reader.modules(folder)?;
-    faults_tree(rt, alloc, sources.as_slice(), sink)
 }

@@ -1,11 +1,17 @@
 //! The files of the modules below a folder.
-ghost use Rattle.std.specs.Prelude.{◌≤◌, IfErr, IfOk};
+ghost use Rattle.std.specs.Prelude.{◌≡◌, ◌≤◌, ℕ, IfErr, IfOk, List, map};
+ghost use Rattle.std.specs.String.{string_bytes};
+ghost use Rattle.cut_net.specs.Network.{texts};
+ghost use Rattle.glob.specs.Exclusions.{AreRead};
 ghost use Rattle.oscip_run.specs.Faults.{IsReadFault};
+ghost use Rattle.oscip_run.specs.Exclusions.{AreIncluded, AreIncludedPaths};
 ghost use Rattle.oscip_run.specs.Files.{AreFronts, IsFrontOfModule};
+ghost use Rattle.oscip_tree.specs.declared.source.Source.{Source as TreeSource};
 ghost use Rattle.oscip_tree.specs.Sources.{ArePathsInOrder};
 
 use crate::RunFault;
 use crate::files::{ReadFault, cannot_read, file_fault, read_front};
+use glob::Exclusion;
 use oscip_tree::{Source, in_order};
 use std::alloc::{AllocError, Global};
 use std::fs;
@@ -31,11 +37,14 @@ struct PendingPath {
     level: u32,
 }
 
-/// What a walk has yet to look at, the next place last, the files that it found, and how many more names it may list.
+/// A walk below a folder.
 #[derive(Drop)]
 struct Walk {
+    /// The paths that it has yet to visit, the next one last.
     pending: Vec<PendingPath>,
+    /// The paths of the modules that it found.
     files: Vec<String>,
+    /// How many more names it may list.
     left: u64,
 }
 
@@ -147,7 +156,9 @@ fn enter<R: Files + AllocGlobal + Clone + Drop>(
     opened: &str,
     place: &PendingPath,
     walk: &mut Walk,
-) -> Result<(), ReadFault> {
+) -> Result<(), ReadFault>
+    ensures { walk.new.files.items ≡ walk.old.files.items }
+{
     if place.level > LEVELS {
         return Err(cannot_read(rt.alloc(), opened));
     }
@@ -156,13 +167,20 @@ fn enter<R: Files + AllocGlobal + Clone + Drop>(
     Ok(())
 }
 
-/// Looks at a place: the names of a folder are looked at next, and a module is among the files.
+/// Visits a path that the walk came to: the names of a folder are visited next, and a module is among the files. An excluded path isn't
+/// opened.
 fn visit<R: Files + AllocGlobal + Clone + Drop>(
     rt: &R,
     folder: &str,
+    exclusion: &Exclusion<'_>,
     place: PendingPath,
     walk: &mut Walk,
-) -> Result<(), ReadFault> {
+) -> Result<(), ReadFault>
+    ensures { (patterns : List (List ℕ)) → AreRead patterns exclusion.now.globs.items → AreIncludedPaths patterns (texts walk.old.files.items) → AreIncludedPaths patterns (texts walk.new.files.items) }
+{
+    if exclusion.excludes(rt.alloc(), place.path.as_str())? {
+        return Ok(());
+    }
     let opened = joined(rt.alloc(), folder, place.path.as_str())?;
     if is_folder(rt, opened.as_str())? {
         return enter(rt, folder, opened.as_str(), &place, walk);
@@ -177,13 +195,16 @@ fn visit<R: Files + AllocGlobal + Clone + Drop>(
 fn finish<R: Files + AllocGlobal + Clone + Drop>(
     rt: &R,
     folder: &str,
+    exclusion: &Exclusion<'_>,
     walk: &mut Walk,
-) -> Result<(), ReadFault> {
+) -> Result<(), ReadFault>
+    ensures { (patterns : List (List ℕ)) → AreRead patterns exclusion.now.globs.items → AreIncludedPaths patterns (texts walk.old.files.items) → AreIncludedPaths patterns (texts walk.new.files.items) }
+{
     for _ in 0..NAMES + 1 {
         let Some(place) = walk.pending.pop() else {
             return Ok(());
         };
-        visit(rt, folder, place, walk)?;
+        visit(rt, folder, exclusion, place, walk)?;
     }
     Err(cannot_read(rt.alloc(), folder))
 }
@@ -192,7 +213,10 @@ fn finish<R: Files + AllocGlobal + Clone + Drop>(
 fn paths_below<R: Files + AllocGlobal + Clone + Drop>(
     rt: &R,
     folder: &str,
-) -> Result<Vec<String>, ReadFault> {
+    exclusion: &Exclusion<'_>,
+) -> Result<Vec<String>, ReadFault>
+    ensures { IfOk result (λ paths. (patterns : List (List ℕ)) → AreRead patterns exclusion.now.globs.items → AreIncludedPaths patterns (texts paths.items)) }
+{
     let mut walk = Walk {
         pending: Vec::new(rt.alloc()),
         files: Vec::new(rt.alloc()),
@@ -203,16 +227,20 @@ fn paths_below<R: Files + AllocGlobal + Clone + Drop>(
         level: 0,
     };
     enter(rt, folder, folder, &top, &mut walk)?;
-    finish(rt, folder, &mut walk)?;
+    finish(rt, folder, exclusion, &mut walk)?;
     Ok(walk.files)
 }
 
-/// The paths of the modules below a folder, in order.
-fn ordered_paths_below<R: Files + AllocGlobal + Clone + Drop>(
+/// The paths of the modules below a folder, sorted, but for those that a pattern excludes.
+fn sorted_paths_below<R: Files + AllocGlobal + Clone + Drop>(
     rt: &R,
     folder: &str,
-) -> Result<Vec<String>, ReadFault> {
-    let mut paths = paths_below(rt, folder)?;
+    excluded: &[String],
+) -> Result<Vec<String>, ReadFault>
+    ensures { IfOk result (λ paths. AreIncludedPaths (texts excluded.now) (texts paths.items)) }
+{
+    let exclusion = Exclusion::new(rt.alloc(), excluded)?;
+    let mut paths = paths_below(rt, folder, &exclusion)?;
     paths.sort_unstable();
     Ok(paths)
 }
@@ -233,7 +261,8 @@ fn source_at<R: Files + AllocGlobal>(
     folder: &str,
     path: String,
 ) -> Result<Source, ReadFault>
-    ensures { IfOk result (λ source. IsFrontOfModule source.bytes.items) }
+    ensures most { IfOk result (λ source. IsFrontOfModule source.bytes.items) }
+    ensures path { IfOk result (λ source. string_bytes source.path ≡ string_bytes path) }
 {
     let opened = joined(rt.alloc(), folder, path.as_str())?;
     let bytes = read_module(rt, opened.as_str())?;
@@ -245,7 +274,8 @@ fn read_all<R: Files + AllocGlobal>(
     folder: &str,
     paths: Vec<String>,
 ) -> Result<Vec<Source>, ReadFault>
-    ensures { IfOk result (λ sources. AreFronts sources.items) }
+    ensures most { IfOk result (λ sources. AreFronts sources.items) }
+    ensures paths { IfOk result (λ sources. map (λ (s : TreeSource). string_bytes s.path) sources.items ≡ texts paths.items) }
 {
     let mut sources = Vec::new(rt.alloc());
     for path in paths {
@@ -259,11 +289,13 @@ fn read_all<R: Files + AllocGlobal>(
 fn sources_below<R: Files + AllocGlobal + Clone + Drop>(
     rt: &R,
     folder: &str,
+    excluded: &[String],
 ) -> Result<Vec<Source>, ReadFault>
     ensures order { IfOk result (λ sources. ArePathsInOrder sources.items) }
     ensures most { IfOk result (λ sources. AreFronts sources.items) }
+    ensures included { IfOk result (λ sources. AreIncluded (texts excluded.now) sources.items) }
 {
-    let paths = ordered_paths_below(rt, folder)?;
+    let paths = sorted_paths_below(rt, folder, excluded)?;
     let sources = read_all(rt, folder, paths)?;
     // They are, but where one name stood twice among those of a folder.
     if in_order(sources.as_slice()) {
@@ -278,15 +310,19 @@ fn sources_below<R: Files + AllocGlobal + Clone + Drop>(
 /// over. All names are walked first, and then the files are read by path, each to one byte beyond the limit of a module.
 /// Refuses with `CannotRead` a folder or file that can't be read, a folder below more than 32 others, a name that isn't UTF-8, by its
 /// folder, a path that is too long for the system, a module that is no regular file, and more than 1,048,576 names, counted along
-/// links, by the folder that is walked; and with `Memory`.
+/// links, by the folder that is walked; and with `Memory`. What one of the patterns excludes is passed over without being opened or
+/// listed.
 pub fn sources_of<R: Files + AllocGlobal + Clone + Drop>(
     rt: &R,
     folder: &str,
+    excluded: &[String],
 ) -> Result<Vec<Source>, RunFault>
     ensures order { IfOk result (λ sources. ArePathsInOrder sources.items) }
     // Of each file one byte beyond a module's limit is taken at most.
     ensures most { IfOk result (λ sources. AreFronts sources.items) }
+    // None of the patterns matches a file's path or a folder on it.
+    ensures included { IfOk result (λ sources. AreIncluded (texts excluded.now) sources.items) }
     ensures fault { IfErr result IsReadFault }
 {
-    Ok(sources_below(rt, folder)?)
+    Ok(sources_below(rt, folder, excluded)?)
 }

@@ -1,6 +1,6 @@
-//! Runs: the files and folders that a job names, from any reader, the engines that cut, check, draw, tell imports and answer questions over any sink, and how a run ends.
-//! Stands on `oscip_job`, `oscip_tree`, `index_store` and the `cut_` crates, with `text_pieces` for long answers and `thiserror` for its faults.
-//! Its contract: what an engine puts is what the definitions say of its inputs, and nothing else; the inputs of a run are what the reader gave.
+//! Runs of jobs: the files and folders that a job names, from any reader; the engines that cut, check, draw, list and answer questions, over any sink; and how a run ends.
+//! Depends on `oscip_job`, `oscip_tree`, `index_store` and the `cut_` crates, on `text_pieces` for long answers and on `thiserror` for its faults.
+//! Its contract: an engine writes exactly what the definitions say of its inputs; the inputs of a run are what the reader gave.
 #![tactic(auto)]
 
 mod asking;
@@ -14,25 +14,33 @@ mod files;
 mod folder;
 mod imports;
 pub mod laws;
+mod listing;
 mod priced;
 mod reader;
 mod reading;
 mod ruling;
 mod run;
 mod stream;
+mod style;
+mod tree_run;
 
 pub use asking::answer_question;
 pub use crossing::crossings_tree;
 pub use drawing::{dot_net_bytes, dot_tree};
-pub use ending::{end_of, end_without_job, line_of_run, status_of_run, status_of_words};
+pub use ending::{
+    end_of, end_of_tree, end_without_job, line_of_run, status_of_run, status_of_words,
+};
 pub use engine::{READERS, check_net_bytes, check_tree, cut_net_bytes, cut_tree};
 pub use fault::{RunFault, fault_line, status_of};
-pub use faults::{faults_tree, run_faults};
+pub use faults::faults_tree;
 pub use files::read_file;
 pub use folder::sources_of;
 pub use imports::{net_tree, why_net_bytes, why_tree};
+pub use listing::{modules_tree, reach_net_bytes, reach_tree};
 pub use reader::{Reader, SystemFiles};
-pub use reading::{ask_tree, run_crossings, run_net, run_net_text, run_question, run_tree};
-pub use ruling::{rules_tree, run_rules};
+pub use reading::{run_net, run_question};
+pub use ruling::rules_tree;
 pub use run::{answer, answer_tree};
 pub use stream::Stream;
+pub use style::{style_of_job, style_of_tree};
+pub use tree_run::{TreeRun, run_tree, tree_files};

@@ -1,5 +1,6 @@
 //! Where what a job reads comes from.
 ghost use Rattle.std.specs.Prelude.{IfErr, IfOk};
+ghost use Rattle.cut_net.specs.Network.{texts};
 ghost use Rattle.oscip_run.specs.Faults.{IsReadFault};
 ghost use Rattle.oscip_run.specs.Readings.{FileOf, FolderOf, IsOfSystem, Reading, Refused};
 ghost use Rattle.oscip_tree.specs.Sources.{ArePathsInOrder};
@@ -19,9 +20,9 @@ pub trait Reader {
         ensures refused { IfErr result (λ fault. answers self.now (Refused path.now fault)) }
         ensures fault { IfErr result IsReadFault };
 
-    /// The files of the modules below a folder, in the order of their paths. Refuses with `CannotRead` or `Memory`.
-    fn modules(&self, path: &str) -> Result<Vec<Source>, RunFault>
-        ensures given { IfOk result (λ sources. answers self.now (FolderOf path.now sources.items)) }
+    /// The files of the modules below a folder, sorted by path, but for those that a pattern excludes. Fails with `CannotRead` or `Memory`.
+    fn modules(&self, path: &str, excluded: &[String]) -> Result<Vec<Source>, RunFault>
+        ensures given { IfOk result (λ sources. answers self.now (FolderOf path.now (texts excluded.now) sources.items)) }
         ensures order { IfOk result (λ sources. ArePathsInOrder sources.items) }
         ensures refused { IfErr result (λ fault. answers self.now (Refused path.now fault)) }
         ensures fault { IfErr result IsReadFault };
@@ -38,7 +39,7 @@ impl<R: Files + AllocGlobal + Clone + Drop> Reader for SystemFiles<'_, R> {
         read_file(self.0, path)
     }
 
-    fn modules(&self, path: &str) -> Result<Vec<Source>, RunFault> {
-        sources_of(self.0, path)
+    fn modules(&self, path: &str, excluded: &[String]) -> Result<Vec<Source>, RunFault> {
+        sources_of(self.0, path, excluded)
     }
 }

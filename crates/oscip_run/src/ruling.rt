@@ -1,22 +1,35 @@
-//! What the command that looks whether a tree keeps rules does with its files, over any sink.
-ghost use Rattle.std.specs.Prelude.{◌≡◌, IfOk, length, map};
+//! What the command that checks the rules of a tree does with its files, over any sink.
+ghost use Rattle.std.specs.Prelude.{◌≡◌, ◌<◌, ℕ, IfOk, Some, length, map, slice_get};
 ghost use Rattle.std.specs.String.{string_bytes};
 ghost use Rattle.byte_sink.specs.Sinks.{failures_by};
+ghost use Rattle.text_escape.specs.Places.{style_of};
+ghost use Rattle.cut_rules.specs.Folders.{ArePathsInOrder as AreFilesInOrder};
 ghost use Rattle.cut_rules.specs.declared.file.File.{File as TreeFile};
 ghost use Rattle.oscip_run.specs.Faults.{is_device};
-ghost use Rattle.oscip_run.specs.RuleRuns.{AreThese, IsFiledTree, IsFolderRulesRun, IsRulesRun};
+ghost use Rattle.oscip_run.specs.RuleRuns.{AreSitesIn, AreThese, IsRuledTree, IsRulesRun};
 ghost use Rattle.oscip_run.specs.Runs.{IsNeverRefused, IsRefusedTree};
 ghost use Rattle.oscip_tree.specs.Sources.{ArePathsInOrder};
+ghost use Rattle.oscip_tree.specs.declared.import_sites.ImportSite.{ImportSite as TreeSite};
 ghost use Rattle.oscip_tree.specs.declared.source.Source.{Source as TreeSource};
 
+use crate::RunFault;
 use crate::engine::READERS;
-use crate::{Reader, RunFault};
 use byte_sink::Sink;
 use cut_net::Net;
-use cut_rules::{File, Rules, write_verdict};
-use oscip_tree::{Source, located_net_of};
+use cut_rules::{File, Rules, Site, write_verdict};
+use oscip_tree::{ImportSite, Source, located_net_of};
 use std::alloc::{AllocError, Global};
 use std::thread::Threads;
+use text_escape::PlaceStyle;
+
+/// A tree as rules see it.
+#[derive(Clone, Copy)]
+struct RuledTree<'a> {
+    net: &'a Net,
+    files: &'a [File<'a>],
+    /// For each import of the network.
+    sites: &'a [Site<'a>],
+}
 
 /// The files of a tree, whose modules have these numbers.
 fn files_of<'a>(
@@ -38,61 +51,68 @@ fn files_of<'a>(
     Ok(files)
 }
 
-/// Reads the rules for a network and the files of its modules, and puts what is told of them.
-fn judge<S: Sink>(
+/// Where the imports of a tree are.
+fn sites_of<'a>(
     alloc: Global,
-    net: &Net,
-    files: &[File<'_>],
-    rules: &[u8],
-    sink: &mut S,
-) -> Result<bool, RunFault>
-    ensures run { IsRulesRun (AreThese net.now files.now) IsNeverRefused rules.now (S.taken sink.old) (S.taken sink.new) result }
-    ensures failures { S.failures sink.new ≡ failures_by is_device result (S.failures sink.old) }
+    sources: &'a [Source],
+    imports: &[ImportSite],
+) -> Result<Vec<Site<'a>>, AllocError>
+    requires { (k : ℕ) (i : TreeSite) → slice_get imports.now k ≡ Some i → i.file < length sources.now }
+    ensures { IfOk result (λ v. AreSitesIn sources.now imports.now v.items) }
 {
-    let rules = Rules::read(alloc, net, files, rules)?;
-    Ok(write_verdict(alloc, net, &rules, sink)?)
+    let mut sites = Vec::new(alloc);
+    for import in imports {
+        sites.push(Site {
+            path: sources[import.file].path.as_str(),
+            line: import.position.line,
+            column: import.position.column,
+        })?;
+    }
+    Ok(sites)
 }
 
-/// Reads the files of a tree and then its rules, and puts `yes` where they are kept, which is answered. Else it puts a line `no
-/// LINE A .. B` for each rule that is broken, by its line, and each module of the rule's first set, by name, from which a chain of
-/// one or more imports that aren't allowed leads into the second: the least of these chains, which has the fewest imports, and of
-/// those the least names.
-/// Refuses with `Tree` where the tree is refused, then with `Rules` where the rules are, and with `Device` or `Memory`.
+/// Reads the rules for a tree, and writes their verdict.
+fn judge<'a, S: Sink>(
+    alloc: Global,
+    tree: &RuledTree<'a>,
+    rules: &'a [u8],
+    style: PlaceStyle<'a>,
+    sink: &mut S,
+) -> Result<bool, RunFault>
+    requires files { AreFilesInOrder tree.now.files.now }
+    requires sites { length tree.now.sites.now ≡ length tree.now.net.now.imports }
+    ensures run { IsRulesRun (AreThese tree.now.net.now tree.now.files.now tree.now.sites.now) IsNeverRefused (style_of style.entry) rules.now (S.taken sink.old) (S.taken sink.new) result }
+    ensures failures { S.failures sink.new ≡ failures_by is_device result (S.failures sink.old) }
+{
+    let rules = Rules::read(alloc, tree.net, tree.files, rules)?;
+    Ok(write_verdict(alloc, tree.net, &rules, tree.sites, style, sink)?)
+}
+
+/// Reads the files of a tree and then its rules, and writes a line `PATH:LINE:COL: no LINE A .. M N` for each import that breaks a rule, and a line
+/// `stale LINE M N` for each `allow` line whose import the tree doesn't have; or `yes` if there is none, which is the result (`write_verdict`).
+/// Returns `Tree` for a fault of the tree, then `Rules` for one of the rules, and `Device` or `Memory`.
 pub fn rules_tree<R: Threads + Sync, S: Sink>(
     rt: &R,
     alloc: Global,
     sources: &[Source],
     rules: &[u8],
+    style: PlaceStyle<'_>,
     sink: &mut S,
 ) -> Result<bool, RunFault>
-    // The files stand in the order of their paths.
+    // The files are sorted by path.
     requires { ArePathsInOrder sources.now }
-    // What was read, and the lines that the sink took; after a refusal of the input it took nothing.
-    ensures run { IsRulesRun (IsFiledTree sources.now) (IsRefusedTree sources.now) rules.now (S.taken sink.old) (S.taken sink.new) result }
-    // Device is answered where the sink counted a failure, and nowhere else.
+    // What was read, and the lines that the sink took; after a fault of the input it took nothing.
+    ensures run { IsRulesRun (IsRuledTree sources.now) (IsRefusedTree sources.now) (style_of style.entry) rules.now (S.taken sink.old) (S.taken sink.new) result }
+    // Device is returned if the sink counted a failure, and nowhere else.
     ensures failures { S.failures sink.new ≡ failures_by is_device result (S.failures sink.old) }
 {
     let located = located_net_of(rt, alloc, sources, READERS)?;
     let files = files_of(alloc, sources, located.modules.as_slice())?;
-    judge(alloc, &located.net, files.as_slice(), rules, sink)
-}
-
-/// Looks whether the modules that the reader gives of this folder keep the rules that it gives of this path. True is that they do.
-/// Refuses with the fault of the reader, of the folder first, and then as `rules_tree` does.
-pub fn run_rules<R: Threads + Sync, F: Reader, S: Sink>(
-    rt: &R,
-    alloc: Global,
-    reader: &F,
-    folder: &str,
-    rules: &str,
-    sink: &mut S,
-) -> Result<bool, RunFault>
-    // Of what the reader gave the sink took what is told of the rules; where something can't be read it took nothing.
-    ensures run { IsFolderRulesRun (F.answers reader.now) folder.now rules.now (S.taken sink.old) (S.taken sink.new) result }
-    // Device is answered where the sink counted a failure, and nowhere else.
-    ensures failures { S.failures sink.new ≡ failures_by is_device result (S.failures sink.old) }
-{
-    let sources = reader.modules(folder)?;
-    let rules = reader.file(rules)?;
-    rules_tree(rt, alloc, sources.as_slice(), rules.as_slice(), sink)
+    let sites = sites_of(alloc, sources, located.imports.as_slice())?;
+    let tree = RuledTree {
+        net: &located.net,
+        files: files.as_slice(),
+        sites: sites.as_slice(),
+    };
+    judge(alloc, &tree, rules, style, sink)
 }

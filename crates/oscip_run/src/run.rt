@@ -9,7 +9,7 @@ ghost use Rattle.oscip_tree.specs.Sources.{ArePathsInOrder};
 
 use crate::{
     RunFault, check_net_bytes, check_tree, cut_net_bytes, cut_tree, dot_net_bytes, dot_tree,
-    why_net_bytes, why_tree,
+    reach_net_bytes, reach_tree, why_net_bytes, why_tree,
 };
 use byte_sink::Sink;
 use cut_solve::Gate;
@@ -53,6 +53,11 @@ pub fn answer<R: Threads + Wait + Sync, G: Gate + Sync, S: Sink>(
             let (first, last) = (names.from.as_str(), names.to.as_str());
             why_net_bytes(alloc, network, first, last, sink)
         }
+        NetQuestion::Reach(reaching) => {
+            let (module, direction) = (reaching.module.as_str(), reaching.direction);
+            reach_net_bytes(alloc, network, module, direction, sink)?;
+            Ok(true)
+        }
     }
 }
 
@@ -90,6 +95,11 @@ pub fn answer_tree<R: Threads + Wait + Sync, G: Gate + Sync, S: Sink>(
         NetQuestion::Why(names) => {
             let (first, last) = (names.from.as_str(), names.to.as_str());
             why_tree(rt, alloc, sources, first, last, sink)
+        }
+        NetQuestion::Reach(reaching) => {
+            let (module, direction) = (reaching.module.as_str(), reaching.direction);
+            reach_tree(rt, alloc, sources, module, direction, sink)?;
+            Ok(true)
         }
     }
 }

@@ -6,16 +6,17 @@ ghost use Rattle.std.specs.String.{string_bytes};
 
 use crate::faults::fault_told;
 use crate::inputs::{FOUR, ONE_HEX, ONE_INDEX, sources};
-use index_run::{AcceptedIndex, OpenBoard, answer_index_of_accepted};
+use index_run::{OpenBoard, answer_index};
 use oscip_job::{Indexing, Job, job_of};
 use oscip_run::{RunFault, faults_tree};
-use oscip_tree::{Source, TreeFault, in_order, tree_fault_text};
+use oscip_tree::{PartedFiles, Source, TreeFault, in_order, part_files, tree_fault_text};
 use std::alloc::{AllocError, Global};
 use std::process::Abort;
 use std::sync::Wait;
 use std::test::Fail;
 use std::thread::Threads;
 use test_doubles::ByOne;
+use text_escape::PlaceStyle;
 
 /// Files of which one is accepted alone, the first with a byte order mark, one with an underscore, one with a text behind its end.
 const SOME: &[(&str, &str)] = &[
@@ -72,7 +73,8 @@ fn puts_faults<R: Abort + Threads + AllocGlobal + Sync>(
 ) -> Result<(), AllocError> {
     assert!(rt; in_order(sources));
     let mut sink = ByOne::new(rt.alloc(), puts);
-    let told = answer_told(rt.alloc(), &faults_tree(rt, rt.alloc(), sources, &mut sink))?;
+    let ended = faults_tree(rt, rt.alloc(), sources, PlaceStyle::Plain, &mut sink);
+    let told = answer_told(rt.alloc(), &ended)?;
     assert_eq!(rt; told.as_str(), want);
     assert_eq!(rt; sink.taken.as_slice(), text);
     Ok(())
@@ -96,13 +98,17 @@ fn all_faults_are_told(rt: HostRuntime) -> Result<(), Fail> {
 const INDEXES: &[(&str, &[u8])] = &[("one.scip", ONE_INDEX), ("--hex", ONE_HEX)];
 
 /// The faults of the files that were left out, each on a line, followed by that of the run on the others.
-fn faults_told(alloc: Global, index: &AcceptedIndex) -> Result<String, AllocError> {
+fn faults_told(
+    alloc: Global,
+    faults: &[TreeFault],
+    ended: &Result<(), RunFault>,
+) -> Result<String, AllocError> {
     let mut told = String::new(alloc);
-    for fault in &index.faults {
-        told.push_str(tree_fault_text(alloc, fault)?.as_str())?;
+    for fault in faults {
+        told.push_str(tree_fault_text(alloc, PlaceStyle::Plain, fault)?.as_str())?;
         told.push('\n')?;
     }
-    if let Err(fault) = &index.ended {
+    if let Err(fault) = ended {
         told.push_str(fault_told(alloc, fault)?.as_str())?;
     }
     Ok(told)
@@ -138,8 +144,13 @@ fn puts_index<R: Abort + Threads + Wait + AllocGlobal + Sync>(
     assert!(rt; in_order(sources.as_slice()));
     let alloc = rt.alloc();
     let mut sink = ByOne::new(alloc, puts);
-    let index = answer_index_of_accepted(rt, alloc, indexing, sources, &OpenBoard, &mut sink)?;
-    assert_eq!(rt; faults_told(alloc, &index)?.as_bytes(), want);
+    let PartedFiles { accepted, faults } = part_files(rt, alloc, sources, 2)?;
+    let accepted = accepted.as_slice();
+    let ended = answer_index(rt, alloc, indexing, accepted, &OpenBoard, &mut sink);
+    assert_eq!(rt;
+        faults_told(alloc, faults.as_slice(), &ended)?.as_bytes(),
+        want
+    );
     assert_eq!(rt; sink.taken.as_slice(), text);
     Ok(())
 }

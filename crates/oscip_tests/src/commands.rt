@@ -5,15 +5,15 @@ ghost use Rattle.oscip_tree.specs.Sources.{ArePathsInOrder};
 
 use crate::faults::fault_told;
 use crate::inputs::{
-    FOUR, FOUR_BLOCKED, FOUR_BROKEN, FOUR_CROSSINGS, FOUR_CUT, FOUR_DOT, FOUR_NET, FOUR_PINS,
-    FOUR_RULES, FOUR_WHY, NONE_INDEX, ONE, ONE_HEX, ONE_INDEX, SIX, SIX_BLOCKED, SIX_CUT, SIX_DOT,
-    SIX_PINS, SIX_WHY, WRONG, WRONG_LINE, sources,
+    FOUR, FOUR_BLOCKED, FOUR_BROKEN, FOUR_CROSSINGS, FOUR_CUT, FOUR_DOT, FOUR_MODULES, FOUR_NET,
+    FOUR_PINS, FOUR_RULES, FOUR_WHY, NONE_INDEX, ONE, ONE_HEX, ONE_INDEX, SIX, SIX_BLOCKED,
+    SIX_CUT, SIX_DOT, SIX_PINS, SIX_WHY, WRONG, WRONG_LINE, sources,
 };
 use index_run::{OpenBoard, answer_index, unresolved_to};
 use oscip_job::{Job, JobFault, TreeQuestion, job_of};
 use oscip_run::{
-    RunFault, answer, answer_question, answer_tree, crossings_tree, faults_tree, net_tree,
-    rules_tree,
+    RunFault, answer, answer_question, answer_tree, crossings_tree, faults_tree, modules_tree,
+    net_tree, rules_tree,
 };
 use oscip_tree::{Source, in_order};
 use std::alloc::{AllocError, Global};
@@ -24,6 +24,7 @@ use std::test::Fail;
 use std::thread::Threads;
 use std::time::Clock;
 use test_doubles::{AllCome, ByOne};
+use text_escape::PlaceStyle;
 
 /// Words behind the program's name, files, prices, and what is put.
 type Command = (
@@ -73,6 +74,10 @@ const PUTS: &[Command] = &[
     (&["why", "four", "A", "D"], FOUR, None, FOUR_WHY),
     (&["rules", "four", "four.rules"], FOUR, None, FOUR_BROKEN),
     (&["faults", "four"], FOUR, None, b"yes\n"),
+    (&["modules", "four"], FOUR, None, FOUR_MODULES),
+    (&["reach", "four", "B"], FOUR, None, b"D\n"),
+    (&["reach", "--back", "four", "B"], FOUR, None, b"A\n"),
+    (&["reach-net", "six.net", "A"], &[], None, b"B\nM\n"),
     (&["why-net", "six.net", "A", "B"], &[], None, SIX_WHY),
     (
         &["index", "one", "one.scip", "--workers", "1"],
@@ -219,14 +224,24 @@ fn tree_told<R: Threads + Wait + AllocGlobal + Clock + Sync>(
         ),
         TreeQuestion::Crossings(names) => {
             let (from, to) = (names.from.as_str(), names.to.as_str());
-            puts_told(alloc, &crossings_tree(rt, alloc, sources, from, to, sink))
+            puts_told(
+                alloc,
+                &crossings_tree(rt, alloc, sources, from, to, PlaceStyle::Plain, sink),
+            )
         }
         TreeQuestion::Net => puts_told(alloc, &net_tree(rt, alloc, sources, sink)),
+        TreeQuestion::Modules => puts_told(
+            alloc,
+            &modules_tree(rt, alloc, sources, PlaceStyle::Plain, sink),
+        ),
         TreeQuestion::Rules(_) => answer_told(
             alloc,
-            &rules_tree(rt, alloc, sources, FOUR_RULES, sink),
+            &rules_tree(rt, alloc, sources, FOUR_RULES, PlaceStyle::Plain, sink),
         ),
-        TreeQuestion::Faults => answer_told(alloc, &faults_tree(rt, alloc, sources, sink)),
+        TreeQuestion::Faults => answer_told(
+            alloc,
+            &faults_tree(rt, alloc, sources, PlaceStyle::Plain, sink),
+        ),
     }
 }
 
@@ -254,9 +269,16 @@ fn told<R: Threads + Wait + AllocGlobal + Clock + Sync>(
             alloc,
             &answer_index(rt, alloc, indexing, sources, &OpenBoard, sink),
         ),
-        Job::Unresolved { .. } => puts_told(alloc, &unresolved_to(rt, alloc, sources, sink)),
+        Job::Unresolved { .. } => puts_told(
+            alloc,
+            &unresolved_to(rt, alloc, sources, PlaceStyle::Plain, sink),
+        ),
         Job::Ask { question, .. } => {
-            puts_told(alloc, &answer_question(alloc, question, ONE_INDEX, sink))
+            let style = PlaceStyle::Plain;
+            puts_told(
+                alloc,
+                &answer_question(alloc, question, ONE_INDEX, style, sink),
+            )
         }
     }
 }
@@ -326,7 +348,7 @@ fn has_whole<R: Abort + Threads + Wait + AllocGlobal + Clock + Sync>(
     let gate = AllCome::new(rt, 0);
     let told = told(rt, job, sources, prices, &gate, &mut sink)?;
     let put = if told.as_str() == "put" { "put" } else { "yes" };
-    let want = if text.starts_with(b"no ") { "no" } else { put };
+    let want = if text == FOUR_BROKEN { "no" } else { put };
     assert_eq!(rt; told.as_str(), want);
     assert_eq!(rt; (sink.failures, sink.empty), (0, 0));
     assert_eq!(rt; sink.taken.as_slice(), text);

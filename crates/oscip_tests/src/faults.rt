@@ -6,6 +6,7 @@ use oscip_run::{RunFault, fault_line, status_of};
 use oscip_tree::TreeFault;
 use std::alloc::{AllocError, Global};
 use std::test::Fail;
+use text_escape::PlaceStyle;
 
 /// What fails, or wants memory.
 enum Failing {
@@ -45,7 +46,7 @@ fn failing_fault(place: &Failing, path: String) -> RunFault {
 /// The status and the line of a fault.
 pub fn fault_told(alloc: Global, fault: &RunFault) -> Result<String, AllocError> {
     let status = status_of(fault);
-    let line = fault_line(alloc, fault)?;
+    let line = fault_line(alloc, PlaceStyle::Plain, fault)?;
     format!(in alloc; "{status} {line}")
 }
 

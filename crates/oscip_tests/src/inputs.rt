@@ -53,7 +53,10 @@ pub const FOUR_WHY: &[u8] = b"import A B 1\nimport B D 3\n";
 /// Rules that A and C break: one import of B is allowed, and C imports D.
 pub const FOUR_RULES: &[u8] = b"forbid A D\nset S B\nset S C\nforbid S D\nallow B D\n";
 
-pub const FOUR_BROKEN: &[u8] = b"no 1 A C D\nno 4 C D\n";
+pub const FOUR_BROKEN: &[u8] = b"C.Mod:0:17: no 1 A C D\nC.Mod:0:17: no 4 C D\n";
+
+/// Their modules.
+pub const FOUR_MODULES: &[u8] = b"A A.Mod\nB B.Mod\nC C.Mod\nD D.Mod\n";
 
 /// Prices with which A can't be cut from D, and the report of that.
 pub const FOUR_PINS: &[u8] = b"pin A B\npin B D\n";

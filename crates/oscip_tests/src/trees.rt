@@ -8,6 +8,7 @@ use std::alloc::{AllocError, Global};
 use std::process::Abort;
 use std::test::Fail;
 use std::thread::Threads;
+use text_escape::PlaceStyle;
 
 /// Files, and what is told of their tree.
 const TREES: &[(&[(&str, &str)], &str)] = &[
@@ -116,7 +117,7 @@ fn told_of<R: AllocGlobal + Threads + Sync>(
     let sources = sources(rt.alloc(), files)?;
     match read_tree(rt, rt.alloc(), sources.as_slice(), workers) {
         Ok(tree) => told_tree(rt.alloc(), &tree),
-        Err(fault) => tree_fault_text(rt.alloc(), &fault),
+        Err(fault) => tree_fault_text(rt.alloc(), PlaceStyle::Plain, &fault),
     }
 }
 

@@ -16,4 +16,5 @@ pub mod TreeRows
 pub mod FilesRead
 pub mod OwnFaults
 pub mod OneParting
+pub mod ImportSites
 pub mod LocatedFiles

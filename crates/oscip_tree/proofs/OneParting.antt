@@ -3,6 +3,7 @@ use Rattle.std.proofs.Common.{◌≡◌, ℕ, zero, suc, List, [], ◌∷◌, ma
 use Rattle.std.specs.Prelude.{◌↔◌, slice_get}
 use Rattle.std.proofs.lemmas.Option.{slice_get_within}
 use Rattle.std.proofs.lemmas.Bool.{false≢true}
+use Rattle.text_escape.specs.Places.{Style}
 use Rattle.oscip_tree.specs.OwnFaults.{ArePartedFiles, AreTreeFaults, HasOwnFault, IsSound, no_file, sound, faulty, of_files, of_imports, of_nothing}
 use Rattle.oscip_tree.specs.TreeFaults.{tree_fault_text}
 use Rattle.oscip_tree.specs.Trees.{AreAccepted, IsAccepted, IsFirstFault, IsTree, IsTreeFault, ModuleFile}
@@ -26,14 +27,14 @@ one_accepted _ _ _ _ _ (faulty own p) (sound is q) = absurd (not_both _ _ is own
 one_accepted (s ∷ sources) _ _ _ _ (faulty own p) (faulty also q) = one_accepted sources _ _ _ _ p q
 
 -- and what is told of the others
-pub one_told : (sources accepted others : List Source) (faults more : List TreeFault) → ArePartedFiles sources accepted faults → ArePartedFiles sources others more →
-    map tree_fault_text faults ≡ map tree_fault_text more
-one_told _ _ _ _ _ no_file no_file = refl
-one_told _ _ _ _ _ (sound is p) (sound also q) = one_told _ _ _ _ _ p q
-one_told _ _ _ _ _ (sound is p) (faulty own q) = absurd (not_both _ _ is own)
-one_told _ _ _ _ _ (faulty own p) (sound is q) = absurd (not_both _ _ is own)
-one_told (s ∷ sources) _ _ (fault ∷ faults) (other ∷ more) (faulty (known, own) p) (faulty (sure, also) q) =
-    ap₂ (λ (t : List ℕ) (ts : List (List ℕ)). t ∷ ts) (one_file_fault s fault other known sure own also) (one_told sources _ _ faults more p q)
+pub one_told : (style : Style) (sources accepted others : List Source) (faults more : List TreeFault) → ArePartedFiles sources accepted faults → ArePartedFiles sources others more →
+    map (tree_fault_text style) faults ≡ map (tree_fault_text style) more
+one_told style _ _ _ _ _ no_file no_file = refl
+one_told style _ _ _ _ _ (sound is p) (sound also q) = one_told style _ _ _ _ _ p q
+one_told style _ _ _ _ _ (sound is p) (faulty own q) = absurd (not_both _ _ is own)
+one_told style _ _ _ _ _ (faulty own p) (sound is q) = absurd (not_both _ _ is own)
+one_told style (s ∷ sources) _ _ (fault ∷ faults) (other ∷ more) (faulty (known, own) p) (faulty (sure, also) q) =
+    ap₂ (λ (t : List ℕ) (ts : List (List ℕ)). t ∷ ts) (one_file_fault style s fault other known sure own also) (one_told style sources _ _ faults more p q)
 
 -- of accepted files none has a fault
 none_faulty : (sources accepted : List Source) (faults : List TreeFault) → ((i : ℕ) (s : Source) → slice_get sources i ≡ Some s → IsSound s) → ArePartedFiles sources accepted faults → faults ≡ []
@@ -49,16 +50,16 @@ no_own_fault sources accepted files faults ok p = none_faulty sources accepted f
     (file, ok.each i s file at at_file)) p
 
 -- all that a tree is refused for is told in one way
-pub one_telling : (sources : List Source) (faults more : List TreeFault) → AreTreeFaults sources faults → AreTreeFaults sources more → map tree_fault_text faults ≡ map tree_fault_text more
-one_telling sources faults more (of_files p) (of_files q) = one_told sources _ _ faults more p q
-one_telling sources faults more (of_files p) (of_imports g) = let none : faults ≡ [] = no_own_fault sources _ g.files faults g.accepted p in absurd cc
-one_telling sources faults more (of_files p) (of_nothing tree) = let none : faults ≡ [] = no_own_fault sources _ _ faults tree.accepted p in absurd cc
-one_telling sources faults more (of_imports g) (of_files q) = let none : more ≡ [] = no_own_fault sources _ g.files more g.accepted q in absurd cc
-one_telling sources faults more (of_imports g) (of_imports k) = ap (λ (t : List ℕ). t ∷ []) (one_graph_fault sources _ _ g k)
-one_telling sources faults more (of_imports g) (of_nothing tree) = absurd (no_graph_fault sources _ _ tree g)
-one_telling sources faults more (of_nothing tree) (of_files q) = let none : more ≡ [] = no_own_fault sources _ _ more tree.accepted q in absurd cc
-one_telling sources faults more (of_nothing tree) (of_imports g) = absurd (no_graph_fault sources _ _ tree g)
-one_telling sources faults more (of_nothing tree) (of_nothing other) = refl
+pub one_telling : (style : Style) (sources : List Source) (faults more : List TreeFault) → AreTreeFaults sources faults → AreTreeFaults sources more → map (tree_fault_text style) faults ≡ map (tree_fault_text style) more
+one_telling style sources faults more (of_files p) (of_files q) = one_told style sources _ _ faults more p q
+one_telling style sources faults more (of_files p) (of_imports g) = let none : faults ≡ [] = no_own_fault sources _ g.files faults g.accepted p in absurd cc
+one_telling style sources faults more (of_files p) (of_nothing tree) = let none : faults ≡ [] = no_own_fault sources _ _ faults tree.accepted p in absurd cc
+one_telling style sources faults more (of_imports g) (of_files q) = let none : more ≡ [] = no_own_fault sources _ g.files more g.accepted q in absurd cc
+one_telling style sources faults more (of_imports g) (of_imports k) = ap (λ (t : List ℕ). t ∷ []) (one_graph_fault style sources _ _ g k)
+one_telling style sources faults more (of_imports g) (of_nothing tree) = absurd (no_graph_fault sources _ _ tree g)
+one_telling style sources faults more (of_nothing tree) (of_files q) = let none : more ≡ [] = no_own_fault sources _ _ more tree.accepted q in absurd cc
+one_telling style sources faults more (of_nothing tree) (of_imports g) = absurd (no_graph_fault sources _ _ tree g)
+one_telling style sources faults more (of_nothing tree) (of_nothing other) = refl
 
 -- nothing is told exactly of an accepted tree
 pub nothing_told : (sources : List Source) (faults : List TreeFault) → AreTreeFaults sources faults → faults ≡ [] ↔ ((files : List ModuleFile) × IsTree sources files)

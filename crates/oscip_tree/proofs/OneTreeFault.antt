@@ -1,11 +1,11 @@
 -- A refused tree has one fault.
 use Rattle.std.proofs.Common.{◌≡◌, ◌≢◌, ℕ, ◌<◌, false, List, [], ◌∷◌, ◌++◌, length, Some, Result, Ok, Err, refl, sym, ap, ap₂, ◌∙◌, subst, inl, inr, arith}
 use Rattle.std.specs.Prelude.{codes, slice_get}
-use Rattle.std.specs.Fmt.{decimal}
 use Rattle.std.specs.List.{flat_map}
 use Rattle.std.specs.String.{string_bytes}
 use Rattle.std.proofs.lemmas.Bool.{cases_order, false≢true}
 use Rattle.std.proofs.lemmas.Option.{slice_get_within}
+use Rattle.text_escape.specs.Places.{position_text, Style}
 use Rattle.ob_imports.specs.declared.fault.GraphFault.{GraphFault}
 use Rattle.ob_imports.specs.declared.fault.GraphFault.TheVariants as graphs
 use Rattle.ob_imports.specs.Files.{File}
@@ -36,7 +36,7 @@ use Rattle.ob_scope.specs.Scope.{IsFirstTwice}
 use Rattle.ob_scope.specs.Scoped.{IsScopeFault}
 use Rattle.ob_scope.proofs.Meanings.{first_once}
 use Rattle.oscip_tree.specs.OwnFaults.{IsSound}
-use Rattle.oscip_tree.specs.TreeFaults.{after_space, graph_fault_text, parse_fault_text, placed_text, scan_fault_text, scope_fault_text, tree_fault_text, wants_memory}
+use Rattle.oscip_tree.specs.TreeFaults.{after_space, graph_fault_text, parse_fault_text, placed_text, scan_fault_text, scope_fault_text, tree_fault_text, two_modules_text, wants_memory}
 use Rattle.oscip_tree.specs.Trees.{files_of, parse_offset, scan_offset, scope_offset, HasParseFault, HasScanFault, HasScopeFault, IsFault, IsFileFault, IsFirstFault, IsGraphFault, IsTreeFault}
 use Rattle.oscip_tree.specs.declared.source.Source.{Source}
 use Rattle.oscip_tree.specs.declared.tree_fault.TreeFault.{TreeFault}
@@ -93,9 +93,9 @@ one_column bytes offset line column row place p q =
     ]
 
 -- the same is told of two faults of one file
-one_text : (s : Source) (path other : List ℕ) (at to : Position) (m n : ℕ) (told says : List ℕ) (H G : List ℕ → Type 0) → IsFault s path at m H → IsFault s other to n G →
-    m ≡ n → told ≡ says → placed_text path at told ≡ placed_text other to says
-one_text s path other at to m n told says H G h k same e = λ i. same_path i ++ codes ":" ++ decimal (line i) ++ codes ":" ++ decimal (column i) ++ codes ": " ++ e i
+one_text : (style : Style) (s : Source) (path other : List ℕ) (at to : Position) (m n : ℕ) (told says : List ℕ) (H G : List ℕ → Type 0) → IsFault s path at m H → IsFault s other to n G →
+    m ≡ n → told ≡ says → placed_text style path at told ≡ placed_text style other to says
+one_text style s path other at to m n told says H G h k same e = λ i. style.prefix ++ same_path i ++ codes ":" ++ position_text style (line i) (column i) ++ codes ": " ++ e i
   where
     same_path : path ≡ other
     same_path = h.path_is ∙ sym k.path_is
@@ -175,32 +175,32 @@ one_scope_fault bytes f g some other (ts, m, reads, tree, h) k =
 -- ---- one file
 
 -- of a file's tokens, of its tree and of its names there is a fault where those before are right
-pub one_file_fault : (s : Source) (f g : TreeFault) → wants_memory f ≡ false → wants_memory g ≡ false → IsFileFault s f → IsFileFault s g → tree_fault_text f ≡ tree_fault_text g
-one_file_fault s (faults.Scan path at f) (faults.Scan other to g) some more (known, h) (sure, k) =
+pub one_file_fault : (style : Style) (s : Source) (f g : TreeFault) → wants_memory f ≡ false → wants_memory g ≡ false → IsFileFault s f → IsFileFault s g → tree_fault_text style f ≡ tree_fault_text style g
+one_file_fault style s (faults.Scan path at f) (faults.Scan other to g) some more (known, h) (sure, k) =
     let same : f ≡ g = one_scan_fault s.bytes.items f g known sure h.has_fault k.has_fault in
-    one_text s (string_bytes path) (string_bytes other) at to (scan_offset f) (scan_offset g) (scan_fault_text f) (scan_fault_text g) (HasScanFault f) (HasScanFault g) h k (ap scan_offset same) (ap scan_fault_text same)
-one_file_fault s (faults.Scan path at f) (faults.Parse other to g) some more (known, h) (sure, k) =
+    one_text style s (string_bytes path) (string_bytes other) at to (scan_offset f) (scan_offset g) (scan_fault_text f) (scan_fault_text g) (HasScanFault f) (HasScanFault g) h k (ap scan_offset same) (ap scan_fault_text same)
+one_file_fault style s (faults.Scan path at f) (faults.Parse other to g) some more (known, h) (sure, k) =
     let (ts, reads, _) = k.has_fault in absurd (known (no_scan_fault s.bytes.items ts f reads h.has_fault))
-one_file_fault s (faults.Scan path at f) (faults.Scope other to g) some more (known, h) (sure, k) =
+one_file_fault style s (faults.Scan path at f) (faults.Scope other to g) some more (known, h) (sure, k) =
     let (ts, m, reads, _, _) = k.has_fault in absurd (known (no_scan_fault s.bytes.items ts f reads h.has_fault))
-one_file_fault s (faults.Parse path at f) (faults.Scan other to g) some more (known, h) (sure, k) =
+one_file_fault style s (faults.Parse path at f) (faults.Scan other to g) some more (known, h) (sure, k) =
     let (ts, reads, _) = h.has_fault in absurd (sure (no_scan_fault s.bytes.items ts g reads k.has_fault))
-one_file_fault s (faults.Parse path at f) (faults.Parse other to g) some more (known, h) (sure, k) =
+one_file_fault style s (faults.Parse path at f) (faults.Parse other to g) some more (known, h) (sure, k) =
     let same : f ≡ g = one_parse_fault s.bytes.items f g known sure h.has_fault k.has_fault in
-    one_text s (string_bytes path) (string_bytes other) at to (parse_offset f) (parse_offset g) (parse_fault_text f) (parse_fault_text g) (HasParseFault f) (HasParseFault g) h k (ap parse_offset same) (ap parse_fault_text same)
-one_file_fault s (faults.Parse path at f) (faults.Scope other to g) some more (known, h) (sure, k) =
+    one_text style s (string_bytes path) (string_bytes other) at to (parse_offset f) (parse_offset g) (parse_fault_text f) (parse_fault_text g) (HasParseFault f) (HasParseFault g) h k (ap parse_offset same) (ap parse_fault_text same)
+one_file_fault style s (faults.Parse path at f) (faults.Scope other to g) some more (known, h) (sure, k) =
     let (ts, m, reads, tree, _) = k.has_fault in absurd (known (no_parse_fault s.bytes.items ts m f reads tree h.has_fault))
-one_file_fault s (faults.Scope path at f) (faults.Scan other to g) some more (known, h) (sure, k) =
+one_file_fault style s (faults.Scope path at f) (faults.Scan other to g) some more (known, h) (sure, k) =
     let (ts, m, reads, _, _) = h.has_fault in absurd (sure (no_scan_fault s.bytes.items ts g reads k.has_fault))
-one_file_fault s (faults.Scope path at f) (faults.Parse other to g) some more (known, h) (sure, k) =
+one_file_fault style s (faults.Scope path at f) (faults.Parse other to g) some more (known, h) (sure, k) =
     let (ts, m, reads, tree, _) = h.has_fault in absurd (sure (no_parse_fault s.bytes.items ts m g reads tree k.has_fault))
-one_file_fault s (faults.Scope path at f) (faults.Scope other to g) some more (known, h) (sure, k) =
+one_file_fault style s (faults.Scope path at f) (faults.Scope other to g) some more (known, h) (sure, k) =
     let same = one_scope_fault s.bytes.items f g known sure h.has_fault k.has_fault in
-    one_text s (string_bytes path) (string_bytes other) at to (scope_offset f) (scope_offset g) (scope_fault_text f) (scope_fault_text g) (HasScopeFault f) (HasScopeFault g) h k same.0 same.1
-one_file_fault s f (faults.Graph g) some more h k = absurd k
-one_file_fault s f faults.Memory some more h k = absurd (false≢true (sym more))
-one_file_fault s (faults.Graph f) g some more h k = absurd h
-one_file_fault s faults.Memory g some more h k = absurd (false≢true (sym some))
+    one_text style s (string_bytes path) (string_bytes other) at to (scope_offset f) (scope_offset g) (scope_fault_text f) (scope_fault_text g) (HasScopeFault f) (HasScopeFault g) h k same.0 same.1
+one_file_fault style s f (faults.Graph g) some more h k = absurd k
+one_file_fault style s f faults.Memory some more h k = absurd (false≢true (sym more))
+one_file_fault style s (faults.Graph f) g some more h k = absurd h
+one_file_fault style s faults.Memory g some more h k = absurd (false≢true (sym some))
 
 -- ---- all files
 
@@ -215,29 +215,29 @@ first_faulty sources fault f known = record {
   lacks = λ (file, ok). false≢true (sym known ∙ no_file_fault f.source file fault ok f.has_fault);
 }
 
-one_first_fault : (sources : List Source) (f g : TreeFault) → wants_memory f ≡ false → wants_memory g ≡ false → IsFirstFault sources f → IsFirstFault sources g → tree_fault_text f ≡ tree_fault_text g
-one_first_fault sources f g some more h k =
+one_first_fault : (style : Style) (sources : List Source) (f g : TreeFault) → wants_memory f ≡ false → wants_memory g ≡ false → IsFirstFault sources f → IsFirstFault sources g → tree_fault_text style f ≡ tree_fault_text style g
+one_first_fault style sources f g some more h k =
     let same : h.source ≡ k.source = one_first IsSound sources h.before h.after k.before k.after h.source k.source (first_faulty sources f h some) (first_faulty sources g k more) in
-    one_file_fault k.source f g some more (subst (λ (s : Source). IsFileFault s f) same h.has_fault) k.has_fault
+    one_file_fault style k.source f g some more (subst (λ (s : Source). IsFileFault s f) same h.has_fault) k.has_fault
 
 -- ---- the imports
 
 -- what is told of a graph, and of what files are refused for
-abbrev outcome_text : Result ImportGraph GraphRefusal → List ℕ
-outcome_text (Ok g) = []
-outcome_text (Err (TwoModules name first second)) = codes "TwoModules " ++ name ++ codes " " ++ first ++ codes " " ++ second
-outcome_text (Err (Cycle names)) = codes "Cycle" ++ flat_map after_space names
-outcome_text (Err TooMany) = codes "TooMany"
+abbrev outcome_text : Style → Result ImportGraph GraphRefusal → List ℕ
+outcome_text style (Ok g) = []
+outcome_text style (Err (TwoModules name first second)) = two_modules_text style name first second
+outcome_text style (Err (Cycle names)) = codes "Cycle" ++ flat_map after_space names
+outcome_text style (Err TooMany) = codes "TooMany"
 
-told_refusal : (fault : GraphFault) (refusal : GraphRefusal) → IsRefusalOf fault refusal → graph_fault_text fault ≡ outcome_text (Err refusal)
-told_refusal graphs.Memory refusal said = absurd said
-told_refusal fault refusal said = ap (λ (r : GraphRefusal). outcome_text (Err r)) (sym said)
+told_refusal : (style : Style) (fault : GraphFault) (refusal : GraphRefusal) → IsRefusalOf fault refusal → graph_fault_text style fault ≡ outcome_text style (Err refusal)
+told_refusal style graphs.Memory refusal said = absurd said
+told_refusal style fault refusal said = ap (λ (r : GraphRefusal). outcome_text style (Err r)) (sym said)
 
-pub one_graph_fault : (sources : List Source) (f g : GraphFault) → IsGraphFault sources f → IsGraphFault sources g → graph_fault_text f ≡ graph_fault_text g
-one_graph_fault sources f g h k =
+pub one_graph_fault : (style : Style) (sources : List Source) (f g : GraphFault) → IsGraphFault sources f → IsGraphFault sources g → graph_fault_text style f ≡ graph_fault_text style g
+one_graph_fault style sources f g h k =
     let files : files_of k.files ≡ files_of h.files = same_files sources k.files h.files k.accepted h.accepted in
     let outcome : IsGraphOutcome (files_of h.files) (Err k.refusal) = subst (λ (fs : List File). IsGraphOutcome fs (Err k.refusal)) files k.is_outcome in
-    told_refusal f h.refusal h.said ∙ ap outcome_text (one_outcome (files_of h.files) (Err h.refusal) (Err k.refusal) h.is_outcome outcome) ∙ sym (told_refusal g k.refusal k.said)
+    told_refusal style f h.refusal h.said ∙ ap (outcome_text style) (one_outcome (files_of h.files) (Err h.refusal) (Err k.refusal) h.is_outcome outcome) ∙ sym (told_refusal style g k.refusal k.said)
 
 -- ---- the tree
 
@@ -257,11 +257,11 @@ which sources faults.Memory known h = absurd (false≢true (sym known))
 apart : (sources : List Source) (fault : TreeFault) (g : GraphFault) → wants_memory fault ≡ false → IsFirstFault sources fault → IsGraphFault sources g → ⊥
 apart sources fault g known h k = false≢true (sym known ∙ no_first_fault sources k.files fault k.accepted h)
 
-pub one_tree_fault : (sources : List Source) (fault other : TreeFault) → IsTreeFault sources fault → IsTreeFault sources other → wants_memory fault ≡ false → wants_memory other ≡ false → tree_fault_text fault ≡ tree_fault_text other
-one_tree_fault sources fault other h k some more = go (which sources fault some h) (which sources other more k)
+pub one_tree_fault : (style : Style) (sources : List Source) (fault other : TreeFault) → IsTreeFault sources fault → IsTreeFault sources other → wants_memory fault ≡ false → wants_memory other ≡ false → tree_fault_text style fault ≡ tree_fault_text style other
+one_tree_fault style sources fault other h k some more = go (which sources fault some h) (which sources other more k)
   where
-    go : IsOfTree sources fault → IsOfTree sources other → tree_fault_text fault ≡ tree_fault_text other
-    go (of_file a) (of_file b) = one_first_fault sources fault other some more a b
+    go : IsOfTree sources fault → IsOfTree sources other → tree_fault_text style fault ≡ tree_fault_text style other
+    go (of_file a) (of_file b) = one_first_fault style sources fault other some more a b
     go (of_file a) (of_imports g e b) = absurd (apart sources fault g some a b)
     go (of_imports f e a) (of_file b) = absurd (apart sources other f more b a)
-    go (of_imports f e a) (of_imports g d b) = ap tree_fault_text e ∙ one_graph_fault sources f g a b ∙ sym (ap tree_fault_text d)
+    go (of_imports f e a) (of_imports g d b) = ap (tree_fault_text style) e ∙ one_graph_fault style sources f g a b ∙ sym (ap (tree_fault_text style) d)

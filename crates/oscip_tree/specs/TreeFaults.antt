@@ -1,8 +1,8 @@
 -- What is told of the fault of a tree, and which faults are want of memory.
 use Rattle.std.specs.Prelude.{ℕ, Bool, true, false, List, ◌∷◌, ◌++◌, codes}
 use Rattle.std.specs.List.{flat_map}
-use Rattle.std.specs.Fmt.{decimal}
 use Rattle.std.specs.String.{string_bytes}
+use Rattle.text_escape.specs.Places.{position_text, Style}
 use Rattle.cut_net.specs.Network.{texts}
 use Rattle.ob_scan.specs.declared.fault.ScanFault.{ScanFault}
 use Rattle.ob_scan.specs.declared.fault.ScanFault.TheVariants as scan
@@ -19,9 +19,9 @@ use Rattle.oscip_tree.specs.declared.tree_fault.TreeFault.TheVariants.{Scan, Par
 abbrev pub after_space : List ℕ → List ℕ
 after_space name = 32 ∷ name
 
--- the place and what is told of it, line and column from 0
-abbrev pub placed_text : List ℕ → Position → List ℕ → List ℕ
-placed_text path at told = path ++ codes ":" ++ decimal at.line ++ codes ":" ++ decimal at.column ++ codes ": " ++ told
+-- the place in this style, control characters as they are, and what is told of it
+abbrev pub placed_text : Style → List ℕ → Position → List ℕ → List ℕ
+placed_text style path at told = style.prefix ++ path ++ codes ":" ++ position_text style at.line at.column ++ codes ": " ++ told
 
 abbrev pub scan_fault_text : ScanFault → List ℕ
 scan_fault_text (scan.BadByte offset) = codes "BadByte"
@@ -42,19 +42,23 @@ scope_fault_text (scope.Twice name first second) = codes "Twice " ++ string_byte
 scope_fault_text (scope.TwiceField name first second) = codes "TwiceField " ++ string_bytes name
 scope_fault_text scope.Memory = codes "Memory"
 
-abbrev pub graph_fault_text : GraphFault → List ℕ
-graph_fault_text (graph.TwoModules name first second) = codes "TwoModules " ++ string_bytes name ++ codes " " ++ string_bytes first ++ codes " " ++ string_bytes second
-graph_fault_text (graph.Cycle names) = codes "Cycle" ++ flat_map after_space (texts names.items)
-graph_fault_text graph.TooMany = codes "TooMany"
-graph_fault_text graph.Memory = codes "Memory"
+-- two files of one module, their paths in this style
+abbrev pub two_modules_text : Style → List ℕ → List ℕ → List ℕ → List ℕ
+two_modules_text style name first second = codes "TwoModules " ++ name ++ codes " " ++ (style.prefix ++ first) ++ codes " " ++ (style.prefix ++ second)
 
--- what is told of the fault of a tree
-abbrev pub tree_fault_text : TreeFault → List ℕ
-tree_fault_text (Scan path at fault) = placed_text (string_bytes path) at (scan_fault_text fault)
-tree_fault_text (Parse path at fault) = placed_text (string_bytes path) at (parse_fault_text fault)
-tree_fault_text (Scope path at fault) = placed_text (string_bytes path) at (scope_fault_text fault)
-tree_fault_text (Graph fault) = graph_fault_text fault
-tree_fault_text Memory = codes "Memory"
+abbrev pub graph_fault_text : Style → GraphFault → List ℕ
+graph_fault_text style (graph.TwoModules name first second) = two_modules_text style (string_bytes name) (string_bytes first) (string_bytes second)
+graph_fault_text style (graph.Cycle names) = codes "Cycle" ++ flat_map after_space (texts names.items)
+graph_fault_text style graph.TooMany = codes "TooMany"
+graph_fault_text style graph.Memory = codes "Memory"
+
+-- what is told of the fault of a tree, its places in this style
+abbrev pub tree_fault_text : Style → TreeFault → List ℕ
+tree_fault_text style (Scan path at fault) = placed_text style (string_bytes path) at (scan_fault_text fault)
+tree_fault_text style (Parse path at fault) = placed_text style (string_bytes path) at (parse_fault_text fault)
+tree_fault_text style (Scope path at fault) = placed_text style (string_bytes path) at (scope_fault_text fault)
+tree_fault_text style (Graph fault) = graph_fault_text style fault
+tree_fault_text style Memory = codes "Memory"
 
 abbrev pub scan_wants_memory : ScanFault → Bool
 scan_wants_memory (scan.BadByte offset) = false

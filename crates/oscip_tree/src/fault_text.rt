@@ -3,7 +3,8 @@ ghost use Rattle.std.specs.Prelude.{◌≡◌, IfOk};
 ghost use Rattle.std.specs.List.{flat_map};
 ghost use Rattle.std.specs.String.{string_bytes};
 ghost use Rattle.cut_net.specs.Network.{texts};
-ghost use Rattle.oscip_tree.specs.TreeFaults.{after_space, graph_fault_text, graph_wants_memory, parse_fault_text, parse_wants_memory, placed_text, scan_fault_text, scan_wants_memory, scope_fault_text, scope_wants_memory, tree_fault_text, wants_memory};
+ghost use Rattle.text_escape.specs.Places.{style_of};
+ghost use Rattle.oscip_tree.specs.TreeFaults.{after_space, graph_fault_text, graph_wants_memory, parse_fault_text, parse_wants_memory, placed_text, scan_fault_text, scan_wants_memory, scope_fault_text, scope_wants_memory, tree_fault_text, two_modules_text, wants_memory};
 
 use crate::TreeFault;
 use ob_imports::GraphFault;
@@ -11,6 +12,7 @@ use ob_parse::ParseFault;
 use ob_scan::{Position, ScanFault};
 use ob_scope::ScopeFault;
 use std::alloc::{AllocError, Global};
+use text_escape::PlaceStyle;
 
 /// The names, each with a space in front.
 pub fn after_spaces(alloc: Global, names: &[String]) -> Result<String, AllocError>
@@ -24,13 +26,22 @@ pub fn after_spaces(alloc: Global, names: &[String]) -> Result<String, AllocErro
     Ok(text)
 }
 
-/// A place, and what is told of it.
-fn placed(alloc: Global, path: &str, at: Position, told: &str) -> Result<String, AllocError>
-    ensures { IfOk result (λ t. string_bytes t ≡ placed_text path.now at told.now) }
+/// A place in this style, control characters as they are, and what is told of it.
+fn placed(
+    alloc: Global,
+    style: PlaceStyle<'_>,
+    path: &str,
+    at: Position,
+    told: &str,
+) -> Result<String, AllocError>
+    ensures { IfOk result (λ t. string_bytes t ≡ placed_text (style_of style.entry) path.now at told.now) }
 {
-    let line = at.line;
-    let column = at.column;
-    format!(in alloc; "{path}:{line}:{column}: {told}")
+    let mut text = style.full_path(alloc, path)?;
+    text.push(':')?;
+    style.push_position(&mut text, at.line, at.column)?;
+    text.push_str(": ")?;
+    text.push_str(told)?;
+    Ok(text)
 }
 
 fn scan_fault_text(fault: &ScanFault) -> &'static str
@@ -67,15 +78,39 @@ fn scope_fault_text(alloc: Global, fault: &ScopeFault) -> Result<String, AllocEr
     }
 }
 
-fn graph_fault_text(alloc: Global, fault: &GraphFault) -> Result<String, AllocError>
-    ensures { IfOk result (λ t. string_bytes t ≡ graph_fault_text fault.now) }
+fn two_modules_text(
+    alloc: Global,
+    style: PlaceStyle<'_>,
+    name: &str,
+    first_path: &str,
+    second_path: &str,
+) -> Result<String, AllocError>
+    ensures { IfOk result (λ t. string_bytes t ≡ two_modules_text (style_of style.entry) name.now first_path.now second_path.now) }
+{
+    let first = style.full_path(alloc, first_path)?;
+    let second = style.full_path(alloc, second_path)?;
+    format!(in alloc; "TwoModules {name} {first} {second}")
+}
+
+fn graph_fault_text(
+    alloc: Global,
+    style: PlaceStyle<'_>,
+    fault: &GraphFault,
+) -> Result<String, AllocError>
+    ensures { IfOk result (λ t. string_bytes t ≡ graph_fault_text (style_of style.entry) fault.now) }
 {
     match fault {
         GraphFault::TwoModules {
             name,
             first_path,
             second_path,
-        } => format!(in alloc; "TwoModules {name} {first_path} {second_path}"),
+        } => two_modules_text(
+            alloc,
+            style,
+            name.as_str(),
+            first_path.as_str(),
+            second_path.as_str(),
+        ),
         GraphFault::Cycle { names } => {
             let names = after_spaces(alloc, names.as_slice())?;
             format!(in alloc; "Cycle{names}")
@@ -85,22 +120,28 @@ fn graph_fault_text(alloc: Global, fault: &GraphFault) -> Result<String, AllocEr
     }
 }
 
-/// What is told of the fault: its file's path, line and column and its name, or how the imports are refused.
-pub fn tree_fault_text(alloc: Global, fault: &TreeFault) -> Result<String, AllocError>
-    ensures { IfOk result (λ t. string_bytes t ≡ tree_fault_text fault.now) }
+/// The text of a fault: its file's path, line and column in this style and its name, or why the imports are rejected, paths in this
+/// style too. Control characters are as they are. Fails if memory runs out.
+pub fn tree_fault_text(
+    alloc: Global,
+    style: PlaceStyle<'_>,
+    fault: &TreeFault,
+) -> Result<String, AllocError>
+    // The whole text.
+    ensures { IfOk result (λ t. string_bytes t ≡ tree_fault_text (style_of style.entry) fault.now) }
 {
     match fault {
         TreeFault::Scan { path, at, fault } => {
-            placed(alloc, path.as_str(), *at, scan_fault_text(fault))
+            placed(alloc, style, path.as_str(), *at, scan_fault_text(fault))
         }
         TreeFault::Parse { path, at, fault } => {
-            placed(alloc, path.as_str(), *at, parse_fault_text(fault))
+            placed(alloc, style, path.as_str(), *at, parse_fault_text(fault))
         }
         TreeFault::Scope { path, at, fault } => {
             let told = scope_fault_text(alloc, fault)?;
-            placed(alloc, path.as_str(), *at, told.as_str())
+            placed(alloc, style, path.as_str(), *at, told.as_str())
         }
-        TreeFault::Graph(fault) => graph_fault_text(alloc, fault),
+        TreeFault::Graph(fault) => graph_fault_text(alloc, style, fault),
         TreeFault::Memory => String::from_str(alloc, "Memory"),
     }
 }

@@ -115,7 +115,7 @@ pub(crate) fn table_after(
 }
 
 /// The scopes of a file's module with this table of its syntax tree, or the fault of its names.
-fn scopes_in(
+pub(crate) fn scopes_in(
     alloc: Global,
     source: &Source,
     tokens: &Tokens,

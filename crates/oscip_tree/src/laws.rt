@@ -3,6 +3,7 @@
 ghost use Rattle.std.specs.Prelude.{◌≡◌, ◌↔◌, ◌∷◌, [], ℕ, Contains, false, length, map, true, List};
 ghost use Rattle.cut_net.specs.declared.priced.Priced.{Priced};
 ghost use Rattle.cut_net.specs.Network.{Network, name_of};
+ghost use Rattle.text_escape.specs.Places.{Style};
 ghost use Rattle.oscip_tree.specs.Crossings.{AreUses};
 ghost use Rattle.oscip_tree.specs.OwnFaults.{ArePartedFiles, AreTreeFaults};
 ghost use Rattle.oscip_tree.specs.TreeFaults.{tree_fault_text, wants_memory};
@@ -25,9 +26,9 @@ pub fn one_network()
 /// A refused tree has one fault but want of memory: one text is told of it, with its file, its line and its column where it is a
 /// file's. So where a file has no tree, it is fixed which of Syntax and TooDeep is told, and where.
 pub fn one_fault()
-    ensures { (sources : List Source) (fault other : TreeFault) → IsTreeFault sources fault → IsTreeFault sources other →
+    ensures { (style : Style) (sources : List Source) (fault other : TreeFault) → IsTreeFault sources fault → IsTreeFault sources other →
         wants_memory fault ≡ false → wants_memory other ≡ false →
-        tree_fault_text fault ≡ tree_fault_text other }
+        tree_fault_text style fault ≡ tree_fault_text style other }
 {}
 
 /// The places where one module uses another are as many as the import between them weighs in the tree's network.
@@ -40,14 +41,14 @@ pub fn weight_of_uses()
 pub fn one_parting()
     ensures accepted { (sources accepted others : List Source) (faults more : List TreeFault) →
         ArePartedFiles sources accepted faults → ArePartedFiles sources others more → accepted ≡ others }
-    ensures told { (sources accepted others : List Source) (faults more : List TreeFault) →
-        ArePartedFiles sources accepted faults → ArePartedFiles sources others more → map tree_fault_text faults ≡ map tree_fault_text more }
+    ensures told { (style : Style) (sources accepted others : List Source) (faults more : List TreeFault) →
+        ArePartedFiles sources accepted faults → ArePartedFiles sources others more → map (tree_fault_text style) faults ≡ map (tree_fault_text style) more }
 {}
 
 /// All that a tree is refused for is told in one way: nothing exactly where it is accepted, and the tree's fault first.
 pub fn one_telling()
-    ensures told { (sources : List Source) (faults more : List TreeFault) →
-        AreTreeFaults sources faults → AreTreeFaults sources more → map tree_fault_text faults ≡ map tree_fault_text more }
+    ensures told { (style : Style) (sources : List Source) (faults more : List TreeFault) →
+        AreTreeFaults sources faults → AreTreeFaults sources more → map (tree_fault_text style) faults ≡ map (tree_fault_text style) more }
     ensures nothing { (sources : List Source) (faults : List TreeFault) →
         AreTreeFaults sources faults → faults ≡ [] ↔ ((files : List ModuleFile) × IsTree sources files) }
     ensures first { (sources : List Source) (fault : TreeFault) (more : List TreeFault) → AreTreeFaults sources (fault ∷ more) → IsTreeFault sources fault }

@@ -1,22 +1,29 @@
-//! The network of a tree, and where the modules of its files stand in it.
-ghost use Rattle.std.specs.Prelude.{◌≡◌, ◌<◌, ℕ, All, Contains, IfErr, IfOk, length, map};
+//! The network of a tree, and where its modules and imports are in the files.
+ghost use Rattle.std.specs.Prelude.{◌≡◌, ◌<◌, ℕ, All, Contains, IfErr, IfOk, List, length, map};
 ghost use Rattle.cut_net.specs.Network.{name_of};
 ghost use Rattle.ob_scope.specs.Scoped.{ModuleScopes};
-ghost use Rattle.oscip_tree.specs.Located.{AreModulesOf};
+ghost use Rattle.oscip_tree.specs.Located.{AreModulesOf, AreSitesOf};
 ghost use Rattle.oscip_tree.specs.Trees.{IsNetOfTree, IsTreeFault};
+ghost use Rattle.oscip_tree.specs.declared.import_sites.LocatedScopes.{LocatedScopes as Located};
 
-use crate::tree_reading::{net_in, scoped_tree};
+use crate::files::read_files;
+use crate::import_sites::{ImportSite, LocatedScopes, import_sites};
+use crate::tree_reading::{net_in, tree_of};
 use crate::{Source, TreeFault};
 use cut_net::Net;
+use ob_scan::Position;
 use ob_scope::Scopes;
 use std::alloc::{AllocError, Global};
 use std::thread::Threads;
 
-/// The network of a tree, and of each of its files, in their order, the number that its module has there.
+/// The network of a tree, the number that each file's module has there, and where each import is.
 #[derive(Drop)]
 pub struct LocatedNet {
     pub net: Net,
+    /// For each file, in their order.
     pub modules: Vec<u32>,
+    /// For each import of the network, in their order.
+    pub imports: Vec<ImportSite>,
 }
 
 /// The numbers that the modules with these scopes have in a network.
@@ -35,19 +42,49 @@ fn modules_in(alloc: Global, net: &Net, scopes: &[Scopes]) -> Result<Vec<u32>, A
     Ok(modules)
 }
 
-/// The network of a tree, as `net_of` gives it, and the modules of its files.
+/// The scopes of modules apart from the positions of their import items.
+fn split(
+    alloc: Global,
+    files: Vec<LocatedScopes>,
+) -> Result<(Vec<Scopes>, Vec<Vec<Position>>), AllocError>
+    ensures scopes { IfOk result (λ x. x.0.items ≡ map (λ (l : Located). l.scopes) files.items) }
+    ensures items { IfOk result (λ x. x.1.items ≡ map (λ (l : Located). l.items) files.items) }
+{
+    let mut scopes = Vec::new(alloc);
+    let mut items = Vec::new(alloc);
+    for file in files {
+        scopes.push(file.scopes)?;
+        items.push(file.items)?;
+    }
+    Ok((scopes, items))
+}
+
+/// The network of a tree, as `net_of` gives it, with the modules of its files and the sites of its imports.
 pub fn located_net_of<R: Threads + Sync>(
     rt: &R,
     alloc: Global,
     sources: &[Source],
     workers: u32,
 ) -> Result<LocatedNet, TreeFault>
+    // The network is the tree's.
     ensures net { IfOk result (λ located. IsNetOfTree sources.now located.net) }
+    // Each file's module has its number there.
     ensures modules { IfOk result (λ located. AreModulesOf sources.now located.net located.modules.items) }
+    // Each import has the site of its first import item.
+    ensures imports { IfOk result (λ located. AreSitesOf sources.now located.net located.imports.items) }
+    // The fault is the tree's.
     ensures fault { IfErr result (IsTreeFault sources.now) }
 {
-    let tree = scoped_tree(rt, alloc, sources, workers)?;
+    let files: Vec<LocatedScopes> = read_files(rt, alloc, sources, workers)?;
+    let (scopes, items) = split(alloc, files)?;
+    let tree = tree_of(alloc, sources, scopes)?;
     let net = net_in(alloc, &tree)?;
-    let modules = modules_in(alloc, &net, tree.scopes.as_slice())?;
-    Ok(LocatedNet { net, modules })
+    let scopes = tree.scopes.as_slice();
+    let modules = modules_in(alloc, &net, scopes)?;
+    let imports = import_sites(alloc, &net, scopes, items.as_slice())?;
+    Ok(LocatedNet {
+        net,
+        modules,
+        imports,
+    })
 }

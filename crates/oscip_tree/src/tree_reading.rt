@@ -66,6 +66,22 @@ pub(crate) fn all_parsed(
     Ok(all)
 }
 
+/// The tree of files with these scopes, or the fault of its imports.
+pub(crate) fn tree_of(
+    alloc: Global,
+    sources: &[Source],
+    scopes: Vec<Scopes>,
+) -> Result<Box<Tree>, TreeFault>
+    requires { (files : List ModuleFile) × AreFilesRead sources.now files scopes.items }
+    ensures tree { IfOk result (λ tree. IsTreeOf sources.now tree.value) }
+    ensures scopes { IfOk result (λ tree. tree.value.scopes ≡ scopes) }
+    ensures fault { IfErr result (IsTreeFault sources.now) }
+{
+    let parsed = all_parsed(alloc, sources, scopes.as_slice())?;
+    let graph = graph(alloc, parsed.as_slice())?;
+    Ok(Box::new(alloc, Tree { graph, scopes })?)
+}
+
 /// The graph of the files with the scopes of each: of the first file that has a fault its fault, or else that of the imports.
 pub(crate) fn scoped_tree<R: Threads + Sync>(
     rt: &R,
@@ -77,9 +93,7 @@ pub(crate) fn scoped_tree<R: Threads + Sync>(
     ensures fault { IfErr result (IsTreeFault sources.now) }
 {
     let scopes: Vec<Scopes> = read_files(rt, alloc, sources, workers)?;
-    let parsed = all_parsed(alloc, sources, scopes.as_slice())?;
-    let graph = graph(alloc, parsed.as_slice())?;
-    Ok(Box::new(alloc, Tree { graph, scopes })?)
+    tree_of(alloc, sources, scopes)
 }
 
 /// The network of the imports of a tree that is read.

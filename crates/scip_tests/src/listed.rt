@@ -7,6 +7,7 @@ use std::alloc::{AllocError, Global};
 use std::process::Abort;
 use std::test::Fail;
 use test_doubles::ByOne;
+use text_escape::PlaceStyle;
 
 /// Three documents, the first and the last of one path. The first has a definition of `s` and a use of it, and definitions of a local
 /// symbol, of none, of one without a place, and one with another role beside that, on two lines; the second has control characters
@@ -66,16 +67,19 @@ pub(crate) fn put(
     ask: Ask,
     sink: &mut ByOne,
 ) -> Result<(), QueryFault> {
+    let style = PlaceStyle::Plain;
     match ask {
-        Ask::Symbols(path) => put_symbols(alloc, bytes, path, sink),
+        Ask::Symbols(path) => put_symbols(alloc, bytes, path, style, sink),
         Ask::Symbol(path, line, column) => {
             put_symbol(alloc, bytes, path, Position { line, column }, sink)
         }
         Ask::Definitions(path, symbol) => {
-            query_symbol(alloc, bytes, path, symbol, Which::Definitions, sink)
+            let which = Which::Definitions;
+            query_symbol(alloc, bytes, path, symbol, which, style, sink)
         }
         Ask::References(path, symbol) => {
-            query_symbol(alloc, bytes, path, symbol, Which::References, sink)
+            let which = Which::References;
+            query_symbol(alloc, bytes, path, symbol, which, style, sink)
         }
     }
 }

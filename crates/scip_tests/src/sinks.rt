@@ -7,6 +7,7 @@ use scip_index::{Document, Index, IndexWriter, Metadata, from_bytes};
 use std::alloc::{AllocError, Global};
 use std::test::Fail;
 use test_doubles::ByOne;
+use text_escape::PlaceStyle;
 
 /// What is put.
 #[derive(Clone, Copy)]
@@ -102,7 +103,8 @@ fn is_answered(put: Result<(), QueryFault>) -> Result<bool, AllocError> {
 /// Whether the lines are put.
 fn put_lines(alloc: Global, sink: &mut ByOne) -> Result<bool, AllocError> {
     let at = Position { line: 2, column: 0 };
-    is_answered(query(alloc, USES, "a", at, Which::References, sink))
+    let (which, style) = (Which::References, PlaceStyle::Plain);
+    is_answered(query(alloc, USES, "a", at, which, style, sink))
 }
 
 fn put(alloc: Global, what: What, sink: &mut ByOne) -> Result<bool, AllocError> {

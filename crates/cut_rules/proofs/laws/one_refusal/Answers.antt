@@ -1,5 +1,5 @@
-use Rattle.cut_rules.proofs.OneRefusal as one
+use Rattle.cut_rules.proofs.FaultLaws as faults
 use Rattle.cut_rules.proofs.laws.one_refusal.Goals as goal
 
 pub returns : goal.returns
-returns c = one.one_refusal
+returns c = faults.one_refusal

@@ -1,17 +1,19 @@
--- Piece after piece.
-use Rattle.std.proofs.Common.{◌+◌, ℕ, eqb, length, ap, refl, sym, ◌∙◌, subst, rules, tests}
+-- Line after line.
+use Rattle.std.proofs.Common.{◌+◌, ℕ, Err, eqb, length, ap, refl, sym, ◌∙◌, subst, rules, tests}
 use Rattle.std.proofs.lemmas.List.{length_push}
 use Rattle.std.proofs.lemmas.Option.{slice_get_read}
+use Rattle.std.proofs.lemmas.Result.{err_from_is_err_and}
 use Rattle.std.proofs.lemmas.Iterator.Consumers.{YieldsList-at, YieldsList-turn, YieldsList-end}
 use Rattle.std.proofs.lemmas.Iterator.Splits.{YieldsList-from_slice_split}
 use Rattle.cut_net.specs.Network.{texts}
-use Rattle.cut_rules.specs.Drafts.{IsDraft, IsTextSoFar}
+use Rattle.cut_rules.specs.declared.fault.RulesFault.{RulesFault}
+use Rattle.cut_rules.specs.Drafts.{IsDraft}
 use Rattle.cut_rules.specs.RuleLines.{pieces_of}
-use Rattle.cut_rules.proofs.Beginning.{empty_draft, refusal_is}
+use Rattle.cut_rules.proofs.TextLaws.{empty_draft}
 use Rattle.cut_rules.proofs.reading.draft_of.Goals as goal
 
 pub loop-piece-init : goal.loop-piece-init
-loop-piece-init c = (refl, empty_draft c.args.known.now.net.now c.args.known.now.files.now (texts c.args.known.now.sets.now) (pieces_of c.args.bytes.now) c.in_ok-draft.draft c.in_ok-draft.ensures)
+loop-piece-init c = (refl, empty_draft c.args.context.now.net.now c.args.context.now.files.now (texts c.args.context.now.sets.now) (pieces_of c.args.bytes.now) c.in_ok-draft.draft c.in_ok-draft.ensures)
 
 pub take-requires-clause-there : goal.take-requires-clause-there
 take-requires-clause-there c =
@@ -23,11 +25,10 @@ take-requires-clause-there c =
     let there = slice_get_read pieces _ count c.in-Some.piece.now refl turn.0 turn.1 in
     let (number, drafted) = c.loop-piece.invariant in
     let next = ap (λ (n : ℕ). n + 1) number in
-    let text : IsTextSoFar c.args.known.now.net.now c.args.known.now.files.now c.args.known.now.sets.now pieces (c.loop-piece.line + 1) c.in-Some.piece.now c.loop-piece.draft = record { place = count; number = next; there = there; sets_are = c.requires.sets; drafted = drafted } in
-    (pieces, text)
+    (pieces, record { place = count; number = next; there = there }, record { place = count; number = next; sets_are = c.requires.sets; drafted = drafted })
 
-pub returns-in-Err-clause-fault : goal.returns-in-Err-clause-fault
-returns-in-Err-clause-fault c =
+pub returns-in_err-take-clause-fault : goal.returns-in_err-take-clause-fault
+returns-in_err-take-clause-fault c =
     let turn = YieldsList-turn (YieldsList-at c.into_iter-piece-iterator.ensures.into_iter_gives
     (YieldsList-from_slice_split _ (λ b. eqb b 10) c.args.bytes.now c.split-piece-items.ensures.rest c.split-piece-items.ensures.done c.split-piece-items.ensures.closure (λ x b q k. search (rules, tests))))
     c.loop-piece.yielded _ c.loop-piece.yielded_by _ _ c.in-Some.piece c.in-Some.is c.next.ensures.steps in
@@ -36,8 +37,9 @@ returns-in-Err-clause-fault c =
     let there = slice_get_read pieces _ count c.in-Some.piece.now refl turn.0 turn.1 in
     let (number, drafted) = c.loop-piece.invariant in
     let next = ap (λ (n : ℕ). n + 1) number in
-    let text : IsTextSoFar c.args.known.now.net.now c.args.known.now.files.now c.args.known.now.sets.now pieces (c.loop-piece.line + 1) c.in-Some.piece.now c.loop-piece.draft = record { place = count; number = next; there = there; sets_are = c.requires.sets; drafted = drafted } in
-    refusal_is c.args.known.now.net.now c.args.known.now.files.now (texts c.args.known.now.sets.now) pieces (c.loop-piece.line + 1) count c.in-Err.fault c.at.result next c.at.ensures drafted.sound (c.in-Err.ensures pieces text)
+    let given = err_from_is_err_and c.from_residual-in_err-take.result c.from_residual-in_err-take.ensures.1 in
+    rw (given.1 ∙ ap (λ (e : RulesFault). Err e) given.2)
+    (c.in_err-take.ensures pieces (record { place = count; number = next; there = there }) (record { place = count; number = next; sets_are = c.requires.sets; drafted = drafted }))
 
 pub loop-piece-preserved : goal.loop-piece-preserved
 loop-piece-preserved c =
@@ -49,8 +51,11 @@ loop-piece-preserved c =
     let there = slice_get_read pieces _ count c.in-Some.piece.now refl turn.0 turn.1 in
     let (number, drafted) = c.loop-piece.invariant in
     let next = ap (λ (n : ℕ). n + 1) number in
-    let text : IsTextSoFar c.args.known.now.net.now c.args.known.now.files.now c.args.known.now.sets.now pieces (c.loop-piece.line + 1) c.in-Some.piece.now c.loop-piece.draft = record { place = count; number = next; there = there; sets_are = c.requires.sets; drafted = drafted } in
-    (next ∙ sym (length_push c.loop-piece.yielded c.in-Some.piece), subst (λ (n : ℕ). IsDraft c.args.known.now.net.now c.args.known.now.files.now (texts c.args.known.now.sets.now) pieces n c.take.new.self) (next ∙ sym (length_push c.loop-piece.yielded c.in-Some.piece)) (c.in_default.ensures pieces text))
+    let long = next ∙ sym (length_push c.loop-piece.yielded c.in-Some.piece) in (
+      long,
+      subst (λ (n : ℕ). IsDraft c.args.context.now.net.now c.args.context.now.files.now (texts c.args.context.now.sets.now) pieces n c.take.new.self) long
+          (c.in_ok-take.ensures pieces (record { place = count; number = next; there = there }) (record { place = count; number = next; sets_are = c.requires.sets; drafted = drafted })),
+    )
 
 pub returns-clause-drafted : goal.returns-clause-drafted
 returns-clause-drafted c =
@@ -58,4 +63,4 @@ returns-clause-drafted c =
     (YieldsList-from_slice_split _ (λ b. eqb b 10) c.args.bytes.now c.split-piece-items.ensures.rest c.split-piece-items.ensures.done c.split-piece-items.ensures.closure (λ x b q k. search (rules, tests))))
     c.loop-piece.yielded _ c.loop-piece.yielded_by _ _ c.in-None.is c.next.ensures.steps in
     let (number, drafted) = c.loop-piece.invariant in
-    subst (λ (n : ℕ). IsDraft c.args.known.now.net.now c.args.known.now.files.now (texts c.args.known.now.sets.now) (pieces_of c.args.bytes.now) n c.loop-piece.draft) done.1 drafted
+    subst (λ (n : ℕ). IsDraft c.args.context.now.net.now c.args.context.now.files.now (texts c.args.context.now.sets.now) (pieces_of c.args.bytes.now) n c.loop-piece.draft) done.1 drafted

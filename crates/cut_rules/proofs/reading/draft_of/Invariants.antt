@@ -5,4 +5,4 @@ use Rattle.cut_rules.specs.RuleLines.{pieces_of}
 use Rattle.cut_rules.proofs.reading.draft_of.Given as goal
 
 abbrev pub invariant-loop-piece : goal.invariant-loop-piece
-invariant-loop-piece l = (l.line ≡ length l.yielded) × IsDraft l.known.net.now l.known.files.now (texts l.known.sets.now) (pieces_of l.bytes) (length l.yielded) l.draft
+invariant-loop-piece l = (l.line ≡ length l.yielded) × IsDraft l.context.net.now l.context.files.now (texts l.context.sets.now) (pieces_of l.bytes) (length l.yielded) l.draft

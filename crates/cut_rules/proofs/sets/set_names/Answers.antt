@@ -9,7 +9,7 @@ use Rattle.std.proofs.lemmas.Iterator.Splits.{YieldsList-from_slice_split}
 use Rattle.cut_net.specs.Network.{texts}
 use Rattle.cut_rules.specs.Drafts.{IsSetWithin}
 use Rattle.cut_rules.specs.RuleLines.{pieces_of}
-use Rattle.cut_rules.proofs.Pieces.{all_sets, no_sets, none_more, one_more}
+use Rattle.cut_rules.proofs.Pieces.{all_sets, no_sets, none_more, one_more, piece_here}
 use Rattle.cut_rules.proofs.sets.set_names.Goals as goal
 
 pub loop-piece-init : goal.loop-piece-init
@@ -22,10 +22,10 @@ loop-piece-preserved-in_ok-push c =
     c.loop-piece.yielded _ c.loop-piece.yielded_by _ _ c.in-Some.piece c.in-Some.is c.next.ensures.steps in
     let pieces = pieces_of c.args.bytes.now in
     let count = length c.loop-piece.yielded in
-    let there = slice_get_read pieces _ count c.in-Some.piece.now refl turn.0 turn.1 in
+    let at = piece_here pieces count c.in-Some.piece.now (slice_get_read pieces _ count c.in-Some.piece.now refl turn.0 turn.1) in
     let new : texts c.push.new.self.items ≡ texts c.loop-piece.names.items ++ c.in-Some-set_in.name.now ∷ [] =
     ap texts c.in_ok-push.ensures.items ∙ map_push string_bytes c.loop-piece.names.items c.in_ok-from_str.field-0 ∙ ap (λ (t : List ℕ). texts c.loop-piece.names.items ++ t ∷ []) c.in_ok-from_str.ensures.ok in
-    one_more pieces count c.in-Some.piece.now there _ _ (length (c.loop-piece.yielded ++ c.in-Some.piece ∷ [])) c.in-Some-set_in.name.now (length_push c.loop-piece.yielded c.in-Some.piece) c.loop-piece.invariant new (sym c.in-Some-set_in.ensures)
+    one_more pieces count c.in-Some.piece.now at _ _ (length (c.loop-piece.yielded ++ c.in-Some.piece ∷ [])) c.in-Some-set_in.name.now (length_push c.loop-piece.yielded c.in-Some.piece) c.loop-piece.invariant new (sym c.in-Some-set_in.ensures)
 
 pub loop-piece-preserved : goal.loop-piece-preserved
 loop-piece-preserved c =
@@ -34,8 +34,8 @@ loop-piece-preserved c =
     c.loop-piece.yielded _ c.loop-piece.yielded_by _ _ c.in-Some.piece c.in-Some.is c.next.ensures.steps in
     let pieces = pieces_of c.args.bytes.now in
     let count = length c.loop-piece.yielded in
-    let there = slice_get_read pieces _ count c.in-Some.piece.now refl turn.0 turn.1 in
-    none_more pieces count c.in-Some.piece.now there _ _ (length (c.loop-piece.yielded ++ c.in-Some.piece ∷ [])) c.set_in.result (length_push c.loop-piece.yielded c.in-Some.piece) c.loop-piece.invariant c.set_in.ensures c.in_default.not-Some
+    let at = piece_here pieces count c.in-Some.piece.now (slice_get_read pieces _ count c.in-Some.piece.now refl turn.0 turn.1) in
+    none_more pieces count c.in-Some.piece.now at _ _ (length (c.loop-piece.yielded ++ c.in-Some.piece ∷ [])) c.set_in.result (length_push c.loop-piece.yielded c.in-Some.piece) c.loop-piece.invariant c.set_in.ensures c.in_default.not-Some
 
 pub returns : goal.returns
 returns c s =

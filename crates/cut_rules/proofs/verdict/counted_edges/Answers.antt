@@ -6,7 +6,7 @@ use Rattle.cut_net.specs.declared.priced.Priced.{Priced}
 use Rattle.cut_net.specs.Lines.{edge_of}
 use Rattle.cut_net.specs.Network.{none_there}
 use Rattle.cut_rules.specs.Judged.{IsCountedBefore}
-use Rattle.cut_rules.proofs.Telling.{counted_more, counted_same}
+use Rattle.cut_rules.proofs.NodeMarks.{counted_more, counted_same}
 use Rattle.cut_rules.proofs.verdict.counted_edges.Goals as goal
 use Rattle.cut_rules.proofs.verdict.counted_edges.Goals.{then-not-allowed-number+in_ok-push, else-not-allowed-number}
 

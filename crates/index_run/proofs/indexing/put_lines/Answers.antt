@@ -1,10 +1,11 @@
-use Rattle.std.proofs.Common.{◌++◌, [], arith, rules, subst, List}
+use Rattle.std.proofs.Common.{◌++◌, ◌∙◌, [], arith, rules, subst, List}
 use Rattle.std.specs.String.{string_bytes}
 use Rattle.std.proofs.lemmas.List.{take_all}
 use Rattle.std.proofs.lemmas.Result.{err_from_is_err_and}
 use Rattle.ob_board.specs.Unresolved.{plain_unresolved}
 use Rattle.ob_board.specs.declared.unresolved.Unresolved.{Unresolved}
 use Rattle.byte_sink.specs.Sinks.{AppendsFront}
+use Rattle.text_escape.specs.Places.{style_of}
 use Rattle.text_pieces.specs.Pieces.{PutsAllBut}
 use Rattle.text_pieces.proofs.Joining.{front_joined, joined, lines, lines_around, lines_more, puts_then}
 use Rattle.index_run.specs.IndexRuns.{unresolved_line}
@@ -13,21 +14,22 @@ use Rattle.index_run.proofs.indexing.put_lines.Goals as goal
 pub returns-in_err-gather_line-clause-puts : goal.returns-in_err-gather_line-clause-puts
 returns-in_err-gather_line-clause-puts g c =
     let p = err_from_is_err_and c.from_residual.result c.from_residual.ensures.1 in
-    let around = lines_around plain_unresolved unresolved_line c.args.rows.now c.loop-row.row-index c.row-item.result c.loop-row-test.true in
-    let broken = subst (λ (row : Unresolved). AppendsFront (g.S.Sink.taken c.loop-row.sink) (g.S.Sink.taken c.gather_line.new.sink) (string_bytes c.loop-row.text ++ unresolved_line (plain_unresolved row))) c.row-item.is c.in_err-gather_line.ensures.broken in
+    let around = lines_around plain_unresolved (unresolved_line (style_of c.args.style)) c.args.rows.now c.loop-row.row-index c.row-item.result c.loop-row-test.true in
+    let broken = subst (λ (row : Unresolved). AppendsFront (g.S.Sink.taken c.loop-row.sink) (g.S.Sink.taken c.gather_line.new.sink) (string_bytes c.loop-row.text ++ unresolved_line (style_of c.args.style) (plain_unresolved row))) c.row-item.is (rw c.loop-row.invariant.style at c.in_err-gather_line.ensures.broken) in
     rw p.1 (front_joined _ _ _ [] _ _ _ _ _ around c.loop-row.invariant.gathered broken)
 
 pub loop-row-preserved : goal.loop-row-preserved
 loop-row-preserved g c =
-    let more = lines_more plain_unresolved unresolved_line c.args.rows.now c.loop-row.row-index c.row-item.result c.loop-row-test.true in
-    let gathered = subst (λ (row : Unresolved). PutsAllBut (g.S.Sink.taken c.loop-row.sink) (g.S.Sink.taken c.gather_line.new.sink) (string_bytes c.loop-row.text ++ unresolved_line (plain_unresolved row)) (string_bytes c.gather_line.new.text)) c.row-item.is c.in_ok-gather_line.ensures.gathered in
+    let more = lines_more plain_unresolved (unresolved_line (style_of c.args.style)) c.args.rows.now c.loop-row.row-index c.row-item.result c.loop-row-test.true in
+    let gathered = subst (λ (row : Unresolved). PutsAllBut (g.S.Sink.taken c.loop-row.sink) (g.S.Sink.taken c.gather_line.new.sink) (string_bytes c.loop-row.text ++ unresolved_line (style_of c.args.style) (plain_unresolved row)) (string_bytes c.gather_line.new.text)) c.row-item.is (rw c.loop-row.invariant.style at c.in_ok-gather_line.ensures.gathered) in
     record {
       gathered = joined _ _ _ [] _ _ _ _ _ more c.loop-row.invariant.gathered gathered;
+      style = c.in_ok-gather_line.ensures.style ∙ c.loop-row.invariant.style;
       failures = search rules;
     }
 
 pub returns-clause-puts : goal.returns-clause-puts
 returns-clause-puts g c =
     let whole = take_all c.loop-row.row-index c.args.rows.now (omega arith) in
-    let all = subst (λ (rows : List Unresolved). PutsAllBut (g.S.Sink.taken c.args.sink.now) (g.S.Sink.taken c.loop-row.sink) (lines plain_unresolved unresolved_line rows) (string_bytes c.loop-row.text)) whole c.loop-row.invariant.gathered in
+    let all = subst (λ (rows : List Unresolved). PutsAllBut (g.S.Sink.taken c.args.sink.now) (g.S.Sink.taken c.loop-row.sink) (lines plain_unresolved (unresolved_line (style_of c.args.style)) rows) (string_bytes c.loop-row.text)) whole c.loop-row.invariant.gathered in
     puts_then _ _ _ _ (string_bytes c.loop-row.text) c.put_all.result all (rw c.as_bytes.ensures.value at c.put_all.ensures.puts)

@@ -2,12 +2,14 @@
 use Rattle.std.proofs.Common.{◌≡◌, take, map}
 use Rattle.std.specs.String.{string_bytes}
 use Rattle.ob_board.specs.Unresolved.{plain_unresolved}
+use Rattle.text_escape.specs.Places.{style_of, writer_style}
 use Rattle.text_pieces.specs.Pieces.{PutsAllBut}
 use Rattle.index_run.specs.IndexRuns.{unresolved_lines}
 use Rattle.index_run.proofs.indexing.put_lines.Given as goal
 
 abbrev pub invariant-loop-row : goal.invariant-loop-row
 invariant-loop-row g l = record {
-  gathered : PutsAllBut (g.S.Sink.taken l.initial.sink) (g.S.Sink.taken l.sink) (unresolved_lines (map plain_unresolved (take l.row-index l.rows))) (string_bytes l.text);
+  gathered : PutsAllBut (g.S.Sink.taken l.initial.sink) (g.S.Sink.taken l.sink) (unresolved_lines (style_of l.style) (map plain_unresolved (take l.row-index l.rows))) (string_bytes l.text);
+  style : writer_style l.writer ≡ style_of l.style;
   failures : g.S.Sink.failures l.sink ≡ g.S.Sink.failures l.initial.sink;
 }

@@ -9,4 +9,4 @@ pub returns-clause-hex : goal.returns-clause-hex
 returns-clause-hex c = λ sources package_name root before new other. puts_same (IsHexText sources package_name root) (hex_once sources package_name root) before new other
 
 pub returns-clause-unresolved : goal.returns-clause-unresolved
-returns-clause-unresolved c = λ sources before new other. puts_same (IsUnresolvedText sources) (unresolved_once sources) before new other
+returns-clause-unresolved c = λ style sources before new other. puts_same (IsUnresolvedText style sources) (unresolved_once sources style) before new other

@@ -1,5 +1,6 @@
 use Rattle.std.proofs.Common.{ap, map}
 use Rattle.std.proofs.lemmas.Result.{err_from_is_err_and}
+use Rattle.text_escape.specs.Places.{style_of}
 use Rattle.index_store.specs.Lines.{place_lines}
 use Rattle.index_store.specs.Queries.{plain_place}
 use Rattle.index_store.proofs.TellingRuns.{lacking, told_front}
@@ -14,13 +15,13 @@ pub returns-in_err-put_lines-clause-run : goal.returns-in_err-put_lines-clause-r
 returns-in_err-put_lines-clause-run g c index means =
     let p = err_from_is_err_and c.from_residual-in_err-put_lines.result c.from_residual-in_err-put_lines.ensures.1 in
     let places = c.in_ok-places.ensures.exact index means in
-    rw (p.1, p.2) (told_front _ _ _ _ _ (place_lines (map plain_place c.in_ok-places.places.items)) _
-    (record { index = index; means = means; has = c.in_ok-check_path.ensures.has index means; tells = ap place_lines places }) (rw c.as_slice.ensures.value at c.in_err-put_lines.ensures.puts))
+    rw (p.1, p.2) (told_front _ _ _ _ _ (place_lines (style_of c.args.style) (map plain_place c.in_ok-places.places.items)) _
+    (record { index = index; means = means; has = c.in_ok-check_path.ensures.has index means; tells = ap (place_lines (style_of c.args.style)) places }) (rw c.as_slice.ensures.value at c.in_err-put_lines.ensures.puts))
 
 pub returns-clause-run : goal.returns-clause-run
 returns-clause-run g c index means =
     let places = c.in_ok-places.ensures.exact index means in (
-      place_lines (map plain_place c.in_ok-places.places.items),
-      record { index = index; means = means; has = c.in_ok-check_path.ensures.has index means; tells = ap place_lines places },
+      place_lines (style_of c.args.style) (map plain_place c.in_ok-places.places.items),
+      record { index = index; means = means; has = c.in_ok-check_path.ensures.has index means; tells = ap (place_lines (style_of c.args.style)) places },
       rw c.as_slice.ensures.value at c.in_ok-put_lines.ensures.puts,
     )

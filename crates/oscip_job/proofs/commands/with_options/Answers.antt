@@ -1,4 +1,4 @@
 use Rattle.oscip_job.proofs.commands.with_options.Goals as goal
 
 pub returns : goal.returns
-returns c app reads = c.with_flag.ensures _ (c.with_flag-command.ensures _ (c.with_workers-command.ensures _ (c.with_text-command-2.ensures _ (c.with_text-command.ensures app reads))))
+returns c app reads = c.with_flag.ensures _ (c.with_workers-command.ensures _ (c.with_text-command-2.ensures _ (c.with_text-command.ensures app reads)))

@@ -2,11 +2,12 @@
 use Rattle.std.proofs.Common.{◌≡◌, take}
 use Rattle.std.specs.String.{string_bytes}
 use Rattle.text_pieces.specs.Pieces.{PutsAllBut}
+use Rattle.text_escape.specs.Places.{style_of}
 use Rattle.oscip_run.specs.FaultRuns.{fault_lines}
 use Rattle.oscip_run.proofs.faults.put_lines.Given as goal
 
 abbrev pub invariant-loop-fault : goal.invariant-loop-fault
 invariant-loop-fault g l = record {
-  gathered : PutsAllBut (g.S.Sink.taken l.initial.sink) (g.S.Sink.taken l.sink) (fault_lines (take l.fault-index l.faults)) (string_bytes l.text);
+  gathered : PutsAllBut (g.S.Sink.taken l.initial.sink) (g.S.Sink.taken l.sink) (fault_lines (style_of l.style) (take l.fault-index l.faults)) (string_bytes l.text);
   failures : g.S.Sink.failures l.sink ≡ g.S.Sink.failures l.initial.sink;
 }

@@ -5,7 +5,7 @@ use Rattle.std.proofs.lemmas.Result.{IfOk-weaker}
 use Rattle.digraph.specs.declared.edge.Edge.{Edge}
 use Rattle.digraph.specs.Chains.{Chain}
 use Rattle.digraph.specs.Edges as edges
-use Rattle.digraph.specs.Levels.{IsLeastChain}
+use Rattle.digraph.specs.ShortestPaths.{IsLeastChain}
 use Rattle.cut_net.specs.Lines.{edge_of}
 use Rattle.cut_net.proofs.Cycles.{pairs_ascend, pairs_between, IfNone_then}
 use Rattle.cut_net.proofs.PinChains.{least_of_pins, no_pin_chain, pins_between}

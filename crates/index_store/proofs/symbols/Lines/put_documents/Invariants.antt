@@ -3,6 +3,7 @@ use Rattle.std.proofs.Common.{◌≡◌, ◌+◌, ◌++◌, ℕ, List, length}
 use Rattle.std.specs.Prelude.{option_copied}
 use Rattle.std.specs.List.{flat_map}
 use Rattle.std.specs.String.{string_bytes}
+use Rattle.text_escape.specs.Places.{writer_style}
 use Rattle.text_pieces.specs.Pieces.{PutsAllBut}
 use Rattle.index_store.specs.Direct.{documents_of}
 use Rattle.index_store.specs.Symbols.{lines_of_document, AreTextDocuments}
@@ -10,9 +11,10 @@ use Rattle.index_store.proofs.symbols.Lines.put_documents.Given as goal
 
 abbrev pub invariant-loop-document : goal.invariant-loop-document
 invariant-loop-document g l = record {
-  gathered : (so_far : List ℕ) × (flat_map (lines_of_document (option_copied l.asked)) (documents_of l.index) ≡ so_far ++ flat_map (lines_of_document (option_copied l.asked)) (documents_of l.rest))
+  gathered : (so_far : List ℕ) × (flat_map (lines_of_document (writer_style l.initial.self.places) (option_copied l.asked)) (documents_of l.index) ≡ so_far ++ flat_map (lines_of_document (writer_style l.initial.self.places) (option_copied l.asked)) (documents_of l.rest))
       × PutsAllBut (g.S.Sink.taken l.initial.sink) (g.S.Sink.taken l.sink) (string_bytes l.initial.self.text ++ so_far) (string_bytes l.self.text);
   texts : AreTextDocuments (documents_of l.rest);
+  style : writer_style l.self.places ≡ writer_style l.initial.self.places;
   failures : g.S.Sink.failures l.sink ≡ g.S.Sink.failures l.initial.sink;
   within : l.rest.start + length l.rest.bytes.now ≡ l.index.start + length l.index.bytes.now;
 }

@@ -2,6 +2,7 @@
 use Rattle.std.proofs.Common.{◌≡◌, ◌+◌, ◌++◌, ℕ, List, length}
 use Rattle.std.specs.String.{string_bytes}
 use Rattle.proto_wire.specs.Inside.{records_of}
+use Rattle.text_escape.specs.Places.{writer_style}
 use Rattle.text_pieces.specs.Pieces.{PutsAllBut}
 use Rattle.scip_index.specs.Meaning.{document_of}
 use Rattle.index_store.specs.Symbols.{lines_in, HaveTextSymbols}
@@ -9,9 +10,10 @@ use Rattle.index_store.proofs.symbols.Lines.put_in.Given as goal
 
 abbrev pub invariant-loop-occurrence : goal.invariant-loop-occurrence
 invariant-loop-occurrence g l = record {
-  gathered : (so_far : List ℕ) × (lines_in l.with_local l.path (document_of (records_of l.document)).occurrences ≡ so_far ++ lines_in l.with_local l.path (document_of (records_of l.rest)).occurrences)
+  gathered : (so_far : List ℕ) × (lines_in (writer_style l.initial.self.places) l.with_local l.path (document_of (records_of l.document)).occurrences ≡ so_far ++ lines_in (writer_style l.initial.self.places) l.with_local l.path (document_of (records_of l.rest)).occurrences)
       × PutsAllBut (g.S.Sink.taken l.initial.sink) (g.S.Sink.taken l.sink) (string_bytes l.initial.self.text ++ so_far) (string_bytes l.self.text);
   texts : HaveTextSymbols (document_of (records_of l.rest)).occurrences;
+  style : writer_style l.self.places ≡ writer_style l.initial.self.places;
   failures : g.S.Sink.failures l.sink ≡ g.S.Sink.failures l.initial.sink;
   within : l.rest.start + length l.rest.bytes.now ≡ l.document.start + length l.document.bytes.now;
 }

@@ -1,0 +1,72 @@
+//! The modules that a module reaches, and those that reach it.
+ghost use Rattle.std.specs.Prelude.{◌≡◌, ◌≢◌, ◌↔◌, ◌<◌, ◌≤◌, ℕ, All, AllPairs, Contains, IfOk, length};
+ghost use Rattle.digraph.specs.Chains.{IsAcyclic};
+ghost use Rattle.digraph.specs.Edges.{AreBetween, IsAscending, Leads};
+ghost use Rattle.cut_net.specs.Cuts.{Any, Imports};
+ghost use Rattle.cut_report.specs.Reach.{Reaches};
+
+use crate::chain::edges_of;
+use cut_net::Net;
+use digraph::{Edge, flipped, graph_of, put_in_order};
+use std::alloc::{AllocError, Global};
+
+/// The nodes to which a path of one or more edges leads from the start, in ascending order.
+fn nodes_after(
+    alloc: Global,
+    edges: &[Edge],
+    nodes: usize,
+    start: u32,
+) -> Result<Vec<u32>, AllocError>
+    requires between { AreBetween edges.now nodes }
+    requires ascending { IsAscending edges.now }
+    requires few_nodes { nodes ≤ 8192 }
+    requires start { start < nodes }
+    requires acyclic { IsAcyclic (Leads edges.now) }
+    ensures ascending { IfOk result (λ reached. AllPairs (λ m n. m < n) reached.items) }
+    ensures exact { IfOk result (λ reached. (n : ℕ) → Contains reached.items n ↔ Reaches (Leads edges.now) start n) }
+    ensures within { IfOk result (λ reached. All (λ n. n < nodes) reached.items) }
+{
+    let graph = graph_of(alloc, edges, nodes)?;
+    let search = graph.search_from(alloc, &[start], &[])?;
+    let mut reached = Vec::new(alloc);
+    for node in 0..nodes {
+        let node = node as u32;
+        // The search counts the start as reached, but no path leads back to it.
+        if node != start && search.has_reached(node) {
+            reached.push(node)?;
+        }
+    }
+    Ok(reached)
+}
+
+/// The modules that a module reaches by one or more imports, in ascending order. Imports of weight 0 count. Fails if an allocation fails.
+pub fn reached_modules(alloc: Global, net: &Net, from: u32) -> Result<Vec<u32>, AllocError>
+    requires { from < length net.now.names }
+    // Each is listed once, in the order of the names.
+    ensures ascending { IfOk result (λ reached. AllPairs (λ m n. m < n) reached.items) }
+    // The modules are exactly those to which a path leads.
+    ensures exact { IfOk result (λ reached. (n : ℕ) → Contains reached.items n ↔ Reaches (Imports net.now.imports Any) from n) }
+    // They are modules of the network.
+    ensures within { IfOk result (λ reached. All (λ n. n < length net.now.names) reached.items) }
+{
+    net.keeps();
+    let edges = edges_of(alloc, net.imports())?;
+    nodes_after(alloc, edges.as_slice(), net.nodes() as usize, from)
+}
+
+/// The modules that reach a module by one or more imports, in ascending order. Imports of weight 0 count. Fails if an allocation fails.
+pub fn reaching_modules(alloc: Global, net: &Net, to: u32) -> Result<Vec<u32>, AllocError>
+    requires { to < length net.now.names }
+    // Each is listed once, in the order of the names.
+    ensures ascending { IfOk result (λ reaching. AllPairs (λ m n. m < n) reaching.items) }
+    // The modules are exactly those from which a path leads.
+    ensures exact { IfOk result (λ reaching. (n : ℕ) → Contains reaching.items n ↔ Reaches (Imports net.now.imports Any) n to) }
+    // They are modules of the network.
+    ensures within { IfOk result (λ reaching. All (λ n. n < length net.now.names) reaching.items) }
+{
+    net.keeps();
+    let edges = edges_of(alloc, net.imports())?;
+    let mut reversed = flipped(alloc, edges.as_slice())?;
+    put_in_order(&mut reversed);
+    nodes_after(alloc, reversed.as_slice(), net.nodes() as usize, to)
+}

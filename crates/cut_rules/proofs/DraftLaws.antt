@@ -1,0 +1,248 @@
+-- One line more.
+use Rattle.std.proofs.Common.{◌≡◌, ℕ, ◌+◌, ◌<◌, ◌≤◌, ◌⊎◌, inl, inr, true, false, Bool, List, [], ◌∷◌, ◌++◌, length, get_or, set, Some, Result, Err, sym, ap, ◌∙◌, subst, arith}
+use Rattle.std.specs.Prelude.{◌↔◌}
+use Rattle.std.specs.BTreeSet.{BTreeSet}
+use Rattle.std.proofs.lemmas.Bool.{cases_eq}
+use Rattle.std.proofs.lemmas.List.{get_or-set_other, get_or-set_same, length-set, length_push}
+use Rattle.std.proofs.lemmas.List.Elements.{Contains-append_left, Contains-get_or, Contains-push, Contains-push_cases}
+use Rattle.std.proofs.lemmas.List.Quantifiers.{all_pairs_push}
+use Rattle.digraph.specs.Marks.{marked}
+use Rattle.texts.proofs.FieldCuts.{some_is}
+use Rattle.cut_net.specs.Network.{Network, name_of, none_there}
+use Rattle.cut_net.specs.Prices.{is_named}
+use Rattle.cut_net.specs.WellFormed.{IsNetwork}
+use Rattle.cut_net.proofs.Noting.{named_is, named_true, same_place}
+use Rattle.cut_rules.specs.declared.draft.Draft.{Draft}
+use Rattle.cut_rules.specs.declared.fault.RulesFault.{RulesFault}
+use Rattle.cut_rules.specs.declared.file.File.{File}
+use Rattle.cut_rules.specs.declared.rule.Rule.{Rule}
+use Rattle.cut_rules.specs.declared.rule.RuleKind.{RuleKind}
+use Rattle.cut_rules.specs.declared.rule.StaleAllow.{StaleAllow}
+use Rattle.cut_rules.specs.declared.table.SetTable.{SetTable}
+use Rattle.cut_rules.specs.RuleLines.{Selector, Module, Folder, Named, Tree, Adds, Restricts, Allow, Says}
+use Rattle.cut_rules.specs.Rules.{HasFault, HasPattern, IsStale, LacksImport, LineFault, Selects}
+use Rattle.cut_rules.specs.Faults.{IsRefusal, UnlessMemory}
+use Rattle.cut_rules.specs.Drafts.{number_of, pattern_count, AreAllowed, AreLinesOf, ArePairs, AreRules, AreStale, IsAddedWithin, IsAddition, IsDraft, IsRuleOf, IsTable, Takes}
+use Rattle.cut_rules.proofs.LineLaws.{says_one}
+use Rattle.cut_rules.proofs.LineLists.{lines_push, lines_same}
+use Rattle.cut_rules.proofs.Numbers.{number_once}
+use Rattle.cut_rules.proofs.Pieces.{within_next}
+
+module _ (net : Network) (files : List File) (sets pieces : List (List ℕ)) (count : ℕ) where
+  abbrev next : ℕ
+  next = count + 1
+
+  added_next : (x : List ℕ) (m : ℕ) → IsAddedWithin net files pieces next x m ↔ (IsAddedWithin net files pieces count x m ⊎ ((selector : Selector) × Says pieces next (Adds x selector) × Selects net files selector m))
+  added_next x m =
+      let both = within_next (λ (l : ℕ). (selector : Selector) × Says pieces l (Adds x selector) × Selects net files selector m) count in (
+        λ (line, le, selector, says, is). elim (both.0 (line, le, (selector, says, is))) [
+          | inl (l, low, own) ↦ inl (l, low, own.0, own.1, own.2)
+          | inr own ↦ inr own
+        ],
+        λ either. elim either [
+          | inl (line, le, selector, says, is) ↦ (line, omega arith, selector, says, is)
+          | inr (selector, says, is) ↦ (next, omega arith, selector, says, is)
+        ],
+      )
+
+  -- ---- a line that doesn't concern them
+
+  pub table_same : (table : SetTable) → ((s : List ℕ) (selector : Selector) → Says pieces next (Adds s selector) → ⊥) → IsTable net files sets pieces count table → IsTable net files sets pieces next table
+  table_same table none is = record {
+    are = λ x number m low named.
+        let more = added_next x m in (
+          λ has. more.1 (inl ((is.are x number m low named).0 has)),
+          λ within. (is.are x number m low named).1 (elim (more.0 within) [ inl old ↦ old | inr (selector, says, own) ↦ absurd (none x selector says) ]),
+        );
+    patterns = let (lines, of, long) = is.patterns in (lines, lines_same (HasPattern pieces) count lines of (λ (s, pattern, says). none s (Named pattern) says), long);
+    few = is.few;
+    sized = is.sized;
+  }
+
+  pub rules_same : (rules : List Rule) → ((kind : RuleKind) (x y : List ℕ) → Says pieces next (Restricts kind x y) → ⊥) → AreRules net sets pieces count rules → AreRules net sets pieces next rules
+  rules_same rules none are = record {
+    each = λ r has. let own = are.each r has in let le = own.0 in (omega arith, own.1);
+    all = λ line kind x y le says. elim (cases_eq line next) [
+      | inl e ↦ absurd (none kind x y (subst (λ (n : ℕ). Says pieces n (Restricts kind x y)) e says))
+      | inr ne ↦ are.all line kind x y (omega (arith, ne)) says
+    ];
+    ascending = are.ascending;
+    few = are.few;
+  }
+
+  pub allowed_same : (allowed : List Bool) → ((m n : List ℕ) → Says pieces next (Allow m n) → ⊥) → AreAllowed net pieces count allowed → AreAllowed net pieces next allowed
+  allowed_same allowed none are = record {
+    size = are.size;
+    are = λ k lt.
+        let both = within_next (λ (l : ℕ). Says pieces l (Allow (name_of net (get_or net.imports k none_there).from) (name_of net (get_or net.imports k none_there).to))) count in (
+          λ e. both.1 (inl ((are.are k lt).0 e)),
+          λ within. (are.are k lt).1 (elim (both.0 within) [ inl old ↦ old | inr says ↦ absurd (none _ _ says) ]),
+        );
+  }
+
+  pub stale_same : (stale : List StaleAllow) → ((m n : List ℕ) → IsStale net pieces next m n → ⊥) → AreStale net pieces count stale → AreStale net pieces next stale
+  stale_same stale none are = record {
+    each = λ s has. let own = are.each s has in let le = own.0 in (omega arith, own.1);
+    all = λ line m n le is. elim (cases_eq line next) [
+      | inl e ↦ absurd (none m n (subst (λ (l : ℕ). IsStale net pieces l m n) e is))
+      | inr ne ↦ are.all line m n (omega (arith, ne)) is
+    ];
+    ascending = are.ascending;
+  }
+
+  pub pairs_same : {K : Type 0} (keys : BTreeSet K) (first second : K → List ℕ) → ((m n : List ℕ) → Says pieces next (Allow m n) → ⊥) → ArePairs keys first second pieces count → ArePairs keys first second pieces next
+  pairs_same keys first second none are m n =
+      let both = within_next (λ (l : ℕ). Says pieces l (Allow m n)) count in (
+        λ e. both.1 (inl ((are m n).0 e)),
+        λ within. (are m n).1 (elim (both.0 within) [ inl old ↦ old | inr says ↦ absurd (none m n says) ]),
+      )
+
+  -- ---- a line that adds modules to a set
+
+  pub table_added : (old new : SetTable) (s : List ℕ) (name : ℕ) (selector : Selector) (any : Bool) → Says pieces next (Adds s selector) → number_of net sets s ≡ Some name → IsAddition net files old name selector any new → new.patterns ≤ 4096
+      → IsTable net files sets pieces count old → IsTable net files sets pieces next new
+  table_added old new s name selector any says number is few table = record {
+    are = λ x k m low named.
+        let more = added_next x m in
+        let added = is.added k m low in (
+          λ has. more.1 (elim (added.0 has) [
+            | inl was ↦ inl ((table.are x k m low named).0 was)
+            | inr (same, own) ↦
+                let e : s ≡ x = number_once net sets s x k (number ∙ ap (λ (n : ℕ). Some n) same) named in
+                inr (selector, subst (λ (t : List ℕ). Says pieces next (Adds t selector)) e says, own)
+          ]),
+          λ within. added.1 (elim (more.0 within) [
+            | inl was ↦ inl ((table.are x k m low named).1 was)
+            | inr (other, also, own) ↦
+                let e = says_one pieces next (Adds x other) (Adds s selector) also says in
+                let set_is : x ≡ s = cc in
+                let selector_is : other ≡ selector = cc in
+                inr (some_is name k (sym number ∙ ap (number_of net sets) (sym set_is) ∙ named), subst (λ (t : Selector). Selects net files t m) selector_is own)
+          ]),
+        );
+    patterns = pattern_lines selector says is.patterns;
+    few = few;
+    sized = is.sized;
+  }
+    where
+      none_here : (t : Selector) → Says pieces next (Adds s t) → ((pattern : List ℕ) → t ≡ Named pattern → ⊥) → HasPattern pieces next → ⊥
+      none_here t here apart (x, pattern, also) = let e = says_one pieces next (Adds s t) (Adds x (Named pattern)) here also in apart pattern cc
+
+      pattern_lines : (t : Selector) → Says pieces next (Adds s t) → new.patterns ≡ old.patterns + pattern_count t → (lines : List ℕ) × AreLinesOf (HasPattern pieces) next lines × (length lines ≡ new.patterns)
+      pattern_lines (Module m) here sum = let (lines, of, long) = table.patterns in (lines, lines_same (HasPattern pieces) count lines of (none_here (Module m) here (λ pattern e. cc)), omega arith)
+      pattern_lines (Folder path) here sum = let (lines, of, long) = table.patterns in (lines, lines_same (HasPattern pieces) count lines of (none_here (Folder path) here (λ pattern e. cc)), omega arith)
+      pattern_lines (Named pattern) here sum =
+          let (lines, of, long) = table.patterns in
+          let more = length_push lines next in
+          (lines ++ next ∷ [], lines_push (HasPattern pieces) count lines of (s, pattern, here), omega arith)
+      pattern_lines Tree here sum = let (lines, of, long) = table.patterns in (lines, lines_same (HasPattern pieces) count lines of (none_here Tree here (λ pattern e. cc)), omega arith)
+
+  -- ---- a rule
+
+  pub rules_added : (rules : List Rule) (rule : Rule) (x y : List ℕ) → Says pieces next (Restricts rule.kind x y) → rule.line ≡ next → number_of net sets x ≡ Some rule.first → number_of net sets y ≡ Some rule.second → length rules < 4096
+      → AreRules net sets pieces count rules → AreRules net sets pieces next (rules ++ rule ∷ [])
+  rules_added rules rule x y says line first second few are = record {
+    each = λ r has. elim (Contains-push_cases rules rule r has) [
+      | inl old ↦ let own = are.each r old in let le = own.0 in (omega arith, own.1)
+      | inr same ↦ subst (λ (r : Rule). (r.line ≤ next) × IsRuleOf net sets pieces r) same (omega arith, (x, y, subst (λ (n : ℕ). Says pieces n (Restricts rule.kind x y)) (sym line) says, first, second))
+    ];
+    all = λ l kind m n le also. elim (cases_eq l next) [
+      | inl e ↦ (rule, Contains-push rules rule, line ∙ sym e)
+      | inr ne ↦ let old = are.all l kind m n (omega (arith, ne)) also in (old.0, Contains-append_left rules (rule ∷ []) old.0 old.1, old.2)
+    ];
+    ascending = all_pairs_push (λ (r s : Rule). r.line < s.line) rules rule are.ascending (λ k d lt. let le = (are.each (get_or rules k d) (Contains-get_or rules k d lt)).0 in omega arith);
+    few = (let long = length_push rules rule in omega arith);
+  }
+
+  -- ---- an allowed import
+
+  module _ (m n : List ℕ) (says : Says pieces next (Allow m n)) where
+    same_names : (k l : List ℕ) → Says pieces next (Allow k l) → (k ≡ m) × (l ≡ n)
+    same_names k l also = let e = says_one pieces next (Allow k l) (Allow m n) also says in (cc, cc)
+
+    pub allowed_added : IsNetwork net → (allowed : List Bool) (number : ℕ) → number < length net.imports → is_named net m n (get_or net.imports number none_there) ≡ true → AreAllowed net pieces count allowed
+        → AreAllowed net pieces next (set allowed number true)
+    allowed_added network allowed number low named are = record {
+      size = length-set allowed number true ∙ are.size;
+      are = λ k lt. elim (cases_eq k number) [
+        | inl e ↦ (
+          λ _. (next, omega arith, subst (λ (j : ℕ). Says pieces next (Allow (name_of net (get_or net.imports j none_there).from) (name_of net (get_or net.imports j none_there).to))) (sym e) here),
+          λ _. let size = are.size in ap (marked (set allowed number true)) e ∙ get_or-set_same allowed number true false (omega arith),
+        )
+        | inr ne ↦
+            let other : marked (set allowed number true) k ≡ marked allowed k = get_or-set_other allowed number k true false ne in
+            let both = within_next (λ (l : ℕ). Says pieces l (Allow (name_of net (get_or net.imports k none_there).from) (name_of net (get_or net.imports k none_there).to))) count in (
+              λ e. both.1 (inl ((are.are k lt).0 (sym other ∙ e))),
+              λ within. other ∙ (are.are k lt).1 (elim (both.0 within) [ inl old ↦ old | inr also ↦ absurd (ne (once k lt also)) ]),
+            )
+      ];
+    }
+      where
+        there : (m ≡ name_of net (get_or net.imports number none_there).from) × (n ≡ name_of net (get_or net.imports number none_there).to)
+        there = named_is net m n (get_or net.imports number none_there) named
+
+        here : Says pieces next (Allow (name_of net (get_or net.imports number none_there).from) (name_of net (get_or net.imports number none_there).to))
+        here = subst (λ (x : List ℕ). Says pieces next (Allow x (name_of net (get_or net.imports number none_there).to))) there.0 (subst (λ (y : List ℕ). Says pieces next (Allow m y)) there.1 says)
+
+        once : (k : ℕ) → k < length net.imports → Says pieces next (Allow (name_of net (get_or net.imports k none_there).from) (name_of net (get_or net.imports k none_there).to)) → k ≡ number
+        once k lt also =
+            let (first, second) = same_names _ _ also in
+            same_place net network k number m n lt low (named_true net m n (get_or net.imports k none_there) (sym first) (sym second)) named
+
+    -- an import that the network has isn't stale
+    pub fresh : (number : ℕ) → number < length net.imports → is_named net m n (get_or net.imports number none_there) ≡ true → (k l : List ℕ) → IsStale net pieces next k l → ⊥
+    fresh number low named k l (also, lacks) =
+        let (first, second) = same_names k l also in
+        lacks (get_or net.imports number none_there) (Contains-get_or net.imports number none_there low)
+        (subst (λ (x : List ℕ). is_named net x l (get_or net.imports number none_there) ≡ true) (sym first) (subst (λ (y : List ℕ). is_named net m y (get_or net.imports number none_there) ≡ true) (sym second) named))
+
+    -- an import that the network lacks has no mark
+    pub allowed_other : (allowed : List Bool) → LacksImport net m n → AreAllowed net pieces count allowed → AreAllowed net pieces next allowed
+    allowed_other allowed lacks are = record {
+      size = are.size;
+      are = λ k lt.
+          let i = get_or net.imports k none_there in
+          let both = within_next (λ (l : ℕ). Says pieces l (Allow (name_of net i.from) (name_of net i.to))) count in (
+            λ e. both.1 (inl ((are.are k lt).0 e)),
+            λ within. (are.are k lt).1 (elim (both.0 within) [
+              | inl old ↦ old
+              | inr also ↦
+                  let (first, second) = same_names _ _ also in
+                  absurd (lacks i (Contains-get_or net.imports k none_there lt) (named_true net m n i (sym first) (sym second)))
+            ]),
+          );
+    }
+
+    pub stale_added : (stale : List StaleAllow) (s : StaleAllow) → s.line ≡ next → s.importer.now ≡ m → s.imported.now ≡ n → LacksImport net m n → AreStale net pieces count stale → AreStale net pieces next (stale ++ s ∷ [])
+    stale_added stale s line importer imported lacks are = record {
+      each = λ t has. elim (Contains-push_cases stale s t has) [
+        | inl old ↦ let own = are.each t old in let le = own.0 in (omega arith, own.1)
+        | inr same ↦ subst (λ (t : StaleAllow). (t.line ≤ next) × IsStale net pieces t.line t.importer.now t.imported.now) same (
+          omega arith,
+          subst (λ (l : ℕ). IsStale net pieces l s.importer.now s.imported.now) (sym line)
+              (subst (λ (x : List ℕ). IsStale net pieces next x s.imported.now) (sym importer) (subst (λ (y : List ℕ). IsStale net pieces next m y) (sym imported) (says, lacks))),
+        )
+      ];
+      all = λ l x y le is. elim (cases_eq l next) [
+        | inl e ↦ (s, Contains-push stale s, line ∙ sym e)
+        | inr ne ↦ let old = are.all l x y (omega (arith, ne)) is in (old.0, Contains-append_left stale (s ∷ []) old.0 old.1, old.2)
+      ];
+      ascending = all_pairs_push (λ (t u : StaleAllow). t.line < u.line) stale s are.ascending (λ k d lt. let le = (are.each (get_or stale k d) (Contains-get_or stale k d lt)).0 in omega arith);
+    }
+
+-- ---- what came of a line
+
+module _ (net : Network) (files : List File) (sets pieces : List (List ℕ)) where
+  pub made : (line n : ℕ) → line ≡ n → (draft : Draft) → ((l : ℕ) (fault : LineFault) → l ≤ line → HasFault net files pieces l fault → ⊥) → IsTable net files sets pieces n draft.table → AreRules net sets pieces n draft.rules.items
+      → AreAllowed net pieces n draft.allowed.items → AreStale net pieces n draft.stale.items → ArePairs draft.pairs (λ key. key.0.now) (λ key. key.1.now) pieces n → IsDraft net files sets pieces line draft
+  made line n e draft sound table rules allowed stale pairs = record {
+    sound = sound;
+    table = subst (λ (m : ℕ). IsTable net files sets pieces m draft.table) (sym e) table;
+    rules = subst (λ (m : ℕ). AreRules net sets pieces m draft.rules.items) (sym e) rules;
+    allowed = subst (λ (m : ℕ). AreAllowed net pieces m draft.allowed.items) (sym e) allowed;
+    stale = subst (λ (m : ℕ). AreStale net pieces m draft.stale.items) (sym e) stale;
+    pairs = subst (λ (m : ℕ). ArePairs draft.pairs (λ key. key.0.now) (λ key. key.1.now) pieces m) (sym e) pairs;
+  }
+
+  pub refused : (line : ℕ) (fault : RulesFault) (result : Result (Unit {0}) RulesFault) (draft : Draft) → result ≡ Err fault → UnlessMemory fault (IsRefusal net files pieces fault) → Takes net files sets pieces line result draft
+  refused line fault result draft is u = rw is u

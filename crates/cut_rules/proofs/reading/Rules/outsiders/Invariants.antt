@@ -1,0 +1,11 @@
+use Rattle.std.proofs.Common.{◌≡◌, ◌<◌, ℕ, true, length, take, vec_len}
+use Rattle.std.specs.Prelude.{◌↔◌, Contains}
+use Rattle.digraph.specs.Marks.{marked}
+use Rattle.cut_rules.specs.Judged.{IsOutsiderOf}
+use Rattle.cut_rules.proofs.reading.Rules.outsiders.Given as goal
+
+abbrev pub invariant-loop-rule : goal.invariant-loop-rule
+invariant-loop-rule l = record {
+  size : vec_len l.marks ≡ length l.net.names;
+  are : (n : ℕ) → n < length l.net.names → (marked l.marks.items n ≡ true) ↔ IsOutsiderOf l.self (take l.rule-index l.rule-items) l.first n;
+}

@@ -1,0 +1,12 @@
+//! Where imports are in files.
+
+/// Where an import is in the file of its importing module.
+#[derive(Clone, Copy)]
+pub struct Site<'a> {
+    /// The path of the file below the tree's folder, with `/` between names.
+    pub path: &'a str,
+    /// The line, from 0.
+    pub line: u32,
+    /// The column, from 0, in bytes.
+    pub column: u32,
+}

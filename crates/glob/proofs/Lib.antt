@@ -1,0 +1,3 @@
+mod Floating
+mod Patterns
+mod Excluding

@@ -1,0 +1,38 @@
+-- Patterns of names. A name is a list of bytes.
+use Rattle.std.specs.Prelude.{◌≡◌, ℕ, ◌==◌, Bool, List, [], ◌∷◌, ◌++◌, map, Option, Some, None}
+use Rattle.std.specs.List.{slice_split}
+use Rattle.glob.specs.declared.pattern.Floating.{Floating}
+use Rattle.glob.specs.declared.pattern.Glob.{Glob}
+
+-- the name consists of these pieces in order, with any bytes between each two
+abbrev pub Interleaves : List (List ℕ) → List ℕ → Type 0
+Interleaves [] name = ⊥
+Interleaves (piece ∷ []) name = name ≡ piece
+Interleaves (piece ∷ next ∷ pieces) name = (between rest : List ℕ) × (name ≡ piece ++ (between ++ rest)) × Interleaves (next ∷ pieces) rest
+
+-- the byte is `*`
+abbrev pub is_star : ℕ → Bool
+is_star byte = byte == 42
+
+-- the name matches the pattern: `*` matches any bytes, also none, and every other byte itself
+abbrev pub Matches : List ℕ → List ℕ → Type 0
+Matches pattern name = Interleaves (slice_split is_star pattern) name
+
+-- ---- how it is found out
+
+-- after any bytes the text consists of these pieces
+abbrev pub Floats : List (List ℕ) → List ℕ → Type 0
+Floats pieces text = (between rest : List ℕ) × (text ≡ between ++ rest) × Interleaves pieces rest
+
+-- the pieces after the first star
+abbrev pub pieces_of : Floating → List (List ℕ)
+pieces_of floating = map (λ piece. piece.now) floating.inner.items ++ floating.last.now ∷ []
+
+-- what is left of a text after its first piece: nothing without a star, and else the pieces after the star
+abbrev pub FitsRest : Option Floating → List ℕ → Type 0
+FitsRest None rest = rest ≡ []
+FitsRest (Some floating) rest = Floats (pieces_of floating) rest
+
+-- the name begins with the first piece, and the rest fits
+abbrev pub Fits : Glob → List ℕ → Type 0
+Fits glob name = (rest : List ℕ) × (name ≡ glob.first.now ++ rest) × FitsRest glob.floating rest

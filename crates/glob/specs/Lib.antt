@@ -1,0 +1,2 @@
+pub mod Globs
+pub mod Exclusions

@@ -1,0 +1,130 @@
+//! Which files and folders patterns exclude.
+ghost use Rattle.std.specs.Prelude.{◌≡◌, ◌↔◌, Contains, IfOk, IsTrue, map};
+ghost use Rattle.std.specs.String.{string_bytes};
+ghost use Rattle.glob.specs.Exclusions.{names_of, AreGlobs, AreRead, Excludes, ExcludesBy, FitEach, IsExcludedBy};
+ghost use Rattle.glob.specs.declared.exclusion.PathGlob.TheVariants.{Name};
+
+use crate::Glob;
+use std::alloc::{AllocError, Global};
+
+/// A pattern of paths.
+#[derive(Drop)]
+pub(crate) enum PathGlob<'a> {
+    /// Of any name of a path.
+    Name(Glob<'a>),
+    /// Of the first names of a path, one for each.
+    Path(Vec<Glob<'a>>),
+}
+
+/// The patterns of files and folders that are excluded. A pattern with a `/` is matched against a whole path, any other against the last
+/// name of a path.
+#[derive(Drop)]
+pub struct Exclusion<'a> {
+    pub(crate) globs: Vec<PathGlob<'a>>,
+}
+
+/// The names of a path.
+fn names_in(alloc: Global, path: &[u8]) -> Result<Vec<&[u8]>, AllocError>
+    ensures { IfOk result (λ names. map (λ n. n.now) names.items ≡ names_of path.now) }
+{
+    let mut names = Vec::new(alloc);
+    for name in path.split(|byte| *byte == b'/') {
+        names.push(name)?;
+    }
+    Ok(names)
+}
+
+/// The patterns of names.
+fn globs_of<'a>(alloc: Global, patterns: &[&'a [u8]]) -> Result<Vec<Glob<'a>>, AllocError>
+    ensures { IfOk result (λ globs. AreGlobs (map (λ p. p.now) patterns.now) globs.items) }
+{
+    let mut globs = Vec::new(alloc);
+    for pattern in patterns {
+        globs.push(Glob::new(alloc, pattern)?)?;
+    }
+    Ok(globs)
+}
+
+/// Whether one of the names matches.
+fn has_match(glob: &Glob<'_>, names: &[&[u8]]) -> bool
+    ensures { IsTrue result ↔ ExcludesBy (Name glob.now) (map (λ n. n.now) names.now) }
+{
+    for name in names {
+        if glob.matches(name) {
+            return true;
+        }
+    }
+    false
+}
+
+/// Whether the names begin with ones that match.
+fn begins_with(globs: &[Glob<'_>], names: &[&[u8]]) -> bool
+    ensures { IsTrue result ↔ FitEach globs.now (map (λ n. n.now) names.now) }
+{
+    if globs.len() > names.len() {
+        return false;
+    }
+    for place in 0..globs.len() {
+        if !globs[place].matches(names[place]) {
+            return false;
+        }
+    }
+    true
+}
+
+impl<'a> PathGlob<'a> {
+    fn new(alloc: Global, pattern: &'a [u8]) -> Result<PathGlob<'a>, AllocError>
+        ensures { IfOk result (λ glob. (path : _) → Excludes pattern.now path ↔ ExcludesBy glob (names_of path)) }
+    {
+        if !pattern.contains(&b'/') {
+            return Ok(PathGlob::Name(Glob::new(alloc, pattern)?));
+        }
+        let names = names_in(alloc, pattern)?;
+        Ok(PathGlob::Path(globs_of(alloc, names.as_slice())?))
+    }
+
+    fn excludes(&self, names: &[&[u8]]) -> bool
+        ensures { IsTrue result ↔ ExcludesBy self.now (map (λ n. n.now) names.now) }
+    {
+        match self {
+            PathGlob::Name(glob) => has_match(glob, names),
+            PathGlob::Path(globs) => begins_with(globs.as_slice(), names),
+        }
+    }
+}
+
+/// The patterns of paths.
+fn path_globs_of<'a>(alloc: Global, patterns: &'a [String]) -> Result<Vec<PathGlob<'a>>, AllocError>
+    ensures { IfOk result (λ globs. AreRead (map string_bytes patterns.now) globs.items) }
+{
+    let mut globs = Vec::new(alloc);
+    for pattern in patterns {
+        globs.push(PathGlob::new(alloc, pattern.as_bytes())?)?;
+    }
+    Ok(globs)
+}
+
+impl<'a> Exclusion<'a> {
+    /// Reads the patterns. Fails if an allocation does.
+    pub fn new(alloc: Global, patterns: &'a [String]) -> Result<Exclusion<'a>, AllocError>
+        // It excludes exactly the paths that the patterns exclude.
+        ensures { IfOk result (λ exclusion. AreRead (map string_bytes patterns.now) exclusion.globs.items) }
+    {
+        let globs = path_globs_of(alloc, patterns)?;
+        Ok(Exclusion { globs })
+    }
+
+    /// Whether a pattern matches the path, or a folder on it. Fails if an allocation does.
+    pub fn excludes(&self, alloc: Global, path: &str) -> Result<bool, AllocError>
+        // Exactly if one of the patterns excludes it.
+        ensures { IfOk result (λ excludes. IsTrue excludes ↔ IsExcludedBy self.now.globs.items (names_of path.now)) }
+    {
+        let names = names_in(alloc, path.as_bytes())?;
+        for glob in &self.globs {
+            if glob.excludes(names.as_slice()) {
+                return Ok(true);
+            }
+        }
+        Ok(false)
+    }
+}

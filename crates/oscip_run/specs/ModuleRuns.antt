@@ -1,0 +1,66 @@
+-- What a run that lists the modules of a tree reads and writes.
+use Rattle.std.specs.Prelude.{◌≡◌, ◌<◌, ℕ, List, ◌++◌, map, slice_get, slice_index, Option, Some, None, option_map, Result, Contains, codes}
+use Rattle.std.specs.List.{flat_map}
+use Rattle.std.specs.String.{string_bytes}
+use Rattle.cut_net.specs.Network.{Network}
+use Rattle.oscip_run.specs.ImportRuns.{IsToldRun}
+use Rattle.oscip_run.specs.Runs.{IsRefusedTree}
+use Rattle.oscip_run.specs.declared.fault.RunFault.{RunFault}
+use Rattle.oscip_run.specs.declared.listing.ListedModule.{ListedModule}
+use Rattle.oscip_tree.specs.Trees.{AreAccepted, IsNetOfTree, ModuleFile, names}
+use Rattle.oscip_tree.specs.declared.source.Source.{Source}
+use Rattle.text_escape.specs.Places.{path_text, Style}
+
+-- the name of a module, and the path of its file if it has one
+pub record ModuleEntry : Type 0 where
+  pub name : List ℕ
+  pub path : Option (List ℕ)
+
+-- what follows the name in the line of an entry: a blank and the path in this style, if there is one
+abbrev pub path_suffix : Style → Option (List ℕ) → List ℕ
+path_suffix style (Some path) = codes " " ++ path_text style path
+path_suffix style None = codes ""
+
+-- the line of an entry
+abbrev pub entry_line : Style → ModuleEntry → List ℕ
+entry_line style entry = entry.name ++ path_suffix style entry.path ++ codes "\n"
+
+-- a line for each entry, in their order
+abbrev pub entry_lines : Style → List ModuleEntry → List ℕ
+entry_lines style entries = flat_map (entry_line style) entries
+
+-- one of the files has this path and declares the module of this name
+abbrev pub IsDeclaredIn : List ModuleFile → List ℕ → List ℕ → Type 0
+IsDeclaredIn files name path = (file : ModuleFile) × Contains files file × (names file 1 ≡ name) × (file.path ≡ path)
+
+-- the path is that of the file that declares the module; without a path no file does
+abbrev pub IsPathOf : List ModuleFile → List ℕ → Option (List ℕ) → Type 0
+IsPathOf files name (Some path) = IsDeclaredIn files name path
+IsPathOf files name None = (path : List ℕ) → IsDeclaredIn files name path → ⊥
+
+-- the text has a line for each module of the tree's network, in the order of the names, with the path of the file that declares it
+pub record IsModulesText (style : Style) (sources : List Source) (text : List ℕ) : Type 0 where
+  pub net : Network
+  pub is_net : IsNetOfTree sources net
+  pub files : List ModuleFile
+  pub accepted : AreAccepted sources files
+  pub entries : List ModuleEntry
+  pub named : map (λ (entry : ModuleEntry). entry.name) entries ≡ net.names
+  pub paths : (entry : ModuleEntry) → Contains entries entry → IsPathOf files entry.name entry.path
+  pub lines : text ≡ entry_lines style entries
+
+-- a run that lists the modules of a tree
+abbrev pub IsModulesRun : Style → List Source → Option (List ℕ) → Option (List ℕ) → Result (Unit {0}) RunFault → Type 0
+IsModulesRun style sources = IsToldRun (IsModulesText style sources) (IsRefusedTree sources)
+
+-- ---- how entries are made
+
+-- the entry of a listed module
+abbrev pub entry_of : ListedModule → ModuleEntry
+entry_of listed = record { name = listed.name.now; path = option_map (λ path. path.now) listed.path }
+
+-- of the first files, whose modules have these numbers: a path is that of a file of the module, and without a path there is no such file
+abbrev pub IsPathAt : List Source → List ℕ → ℕ → ℕ → Option (List ℕ) → Type 0
+IsPathAt sources modules count m (Some path) =
+    (i : ℕ) × (i < count) × (slice_index modules i ≡ m) × (source : Source) × (slice_get sources i ≡ Some source) × (path ≡ string_bytes source.path)
+IsPathAt sources modules count m None = (i : ℕ) → i < count → slice_index modules i ≡ m → ⊥

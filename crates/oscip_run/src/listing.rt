@@ -1,0 +1,260 @@
+//! What the commands that list modules do with the bytes of files, over any sink.
+ghost use Rattle.std.specs.Prelude.{◌≡◌, ◌↔◌, ◌++◌, ◌<◌, All, AllPairs, Contains, IfErr, IfOk, OnOk, length, map, option_copied, option_map, slice_index_or, ℕ, None};
+ghost use Rattle.std.specs.String.{string_bytes};
+ghost use Rattle.byte_sink.specs.Sinks.{failures_after, failures_by, AppendsFront, Puts};
+ghost use Rattle.cut_net.specs.Network.{name_of};
+ghost use Rattle.oscip_run.specs.Faults.{is_device};
+ghost use Rattle.oscip_run.specs.ModuleRuns.{entry_line, entry_lines, entry_of, path_suffix, IsModulesRun, IsPathAt, ModuleEntry};
+ghost use Rattle.oscip_run.specs.ReachRuns.{named_entry, IsReached, IsReachRun};
+ghost use Rattle.oscip_run.specs.Runs.{IsNetOfText, IsNeverRefused, IsRefusedText, IsRefusedTree, IsThis};
+ghost use Rattle.oscip_tree.specs.Sources.{ArePathsInOrder};
+ghost use Rattle.oscip_tree.specs.Trees.{IsNetOfTree};
+ghost use Rattle.text_escape.specs.Places.{style_of};
+ghost use Rattle.text_pieces.specs.Pieces.{PutsAllBut};
+
+use crate::RunFault;
+use crate::engine::READERS;
+use byte_sink::{Sink, SinkFault, put_all};
+use cut_net::Net;
+use cut_report::{reached_modules, reaching_modules};
+use cut_solve::module_of;
+use oscip_job::Direction;
+use oscip_tree::{Source, located_net_of, net_of};
+use std::alloc::{AllocError, Global};
+use std::thread::Threads;
+use text_escape::{PlaceStyle, escaped};
+use text_pieces::put_enough;
+
+/// A module in a list, and the path of its file if it has one.
+#[derive(Drop)]
+struct ListedModule<'a> {
+    name: &'a str,
+    path: Option<&'a str>,
+}
+
+/// Appends a blank and the path, if there is one, to the text.
+fn push_path(
+    alloc: Global,
+    style: PlaceStyle<'_>,
+    text: &mut String,
+    path: Option<&str>,
+) -> Result<(), AllocError>
+    ensures { OnOk result (string_bytes text.new ≡ string_bytes text.old ++ path_suffix (style_of style.entry) (option_copied path.entry)) }
+{
+    let Some(path) = path else {
+        return Ok(());
+    };
+    let path = style.full_path(alloc, path)?;
+    let path = escaped(alloc, path.as_str())?;
+    write!(text, " {path}")
+}
+
+/// Appends the line of a module to the text.
+fn push_line(
+    alloc: Global,
+    style: PlaceStyle<'_>,
+    text: &mut String,
+    listed: &ListedModule,
+) -> Result<(), AllocError>
+    ensures { OnOk result (string_bytes text.new ≡ string_bytes text.old ++ entry_line (style_of style.entry) (entry_of listed.now)) }
+{
+    text.push_str(listed.name)?;
+    push_path(alloc, style, text, listed.path)?;
+    text.push('\n')
+}
+
+/// Appends the line of a module to the text, and writes the text if it is long.
+fn gather_line<S: Sink>(
+    alloc: Global,
+    style: PlaceStyle<'_>,
+    text: &mut String,
+    listed: &ListedModule,
+    sink: &mut S,
+) -> Result<(), SinkFault>
+    ensures gathered { OnOk result (PutsAllBut (S.taken sink.old) (S.taken sink.new)
+        (string_bytes text.old ++ entry_line (style_of style.entry) (entry_of listed.now)) (string_bytes text.new)) }
+    ensures broken { IfErr result (λ _. AppendsFront (S.taken sink.old) (S.taken sink.new)
+        (string_bytes text.old ++ entry_line (style_of style.entry) (entry_of listed.now))) }
+    ensures failures { S.failures sink.new ≡ failures_after result (S.failures sink.old) }
+{
+    push_line(alloc, style, text, listed).map_err(|_| SinkFault::Memory)?;
+    put_enough(text, sink)
+}
+
+/// Writes the lines of modules, in their order. After an error the sink has taken a prefix of them.
+fn write_lines<S: Sink>(
+    alloc: Global,
+    style: PlaceStyle<'_>,
+    modules: &[ListedModule<'_>],
+    sink: &mut S,
+) -> Result<(), SinkFault>
+    ensures puts { Puts (S.taken sink.old) (S.taken sink.new) result (entry_lines (style_of style.entry) (map entry_of modules.now)) }
+    ensures failures { S.failures sink.new ≡ failures_after result (S.failures sink.old) }
+{
+    let mut text = String::new(alloc);
+    for listed in modules {
+        gather_line(alloc, style, &mut text, listed, sink)?;
+    }
+    put_all(sink, text.as_bytes())
+}
+
+/// The modules of these numbers, without paths.
+fn named_modules<'a>(
+    alloc: Global,
+    net: &'a Net,
+    numbers: &[u32],
+) -> Result<Vec<ListedModule<'a>>, AllocError>
+    requires { All (λ m. m < length net.now.names) numbers.now }
+    ensures { IfOk result (λ listed. map entry_of listed.items ≡ map (named_entry net.now) numbers.now) }
+{
+    let mut listed = Vec::with_capacity(alloc, numbers.len())?;
+    for number in numbers {
+        let name = net.name(*number);
+        listed.push(ListedModule { name, path: None })?;
+    }
+    Ok(listed)
+}
+
+/// The modules that are reached from one in a direction by one or more imports, in ascending order.
+fn reach_of(
+    alloc: Global,
+    net: &Net,
+    start: u32,
+    direction: Direction,
+) -> Result<Vec<u32>, AllocError>
+    requires { start < length net.now.names }
+    ensures ascending { IfOk result (λ reached. AllPairs (λ m n. m < n) reached.items) }
+    ensures exact { IfOk result (λ reached. (n : ℕ) → Contains reached.items n ↔ IsReached net.now direction start n) }
+    ensures within { IfOk result (λ reached. All (λ m. m < length net.now.names) reached.items) }
+{
+    match direction {
+        Direction::Imported => reached_modules(alloc, net, start),
+        Direction::Importing => reaching_modules(alloc, net, start),
+    }
+}
+
+/// Writes the names of the modules of a network that are reached from the module of this name in a direction.
+fn reach_in<S: Sink>(
+    alloc: Global,
+    net: &Net,
+    name: &str,
+    direction: Direction,
+    sink: &mut S,
+) -> Result<(), RunFault>
+    ensures run { IsReachRun (IsThis net.now) IsNeverRefused name.now direction (S.taken sink.old) (S.taken sink.new) result }
+    ensures failures { S.failures sink.new ≡ failures_by is_device result (S.failures sink.old) }
+{
+    let start = module_of(alloc, net, name)?;
+    let reached = reach_of(alloc, net, start, direction)?;
+    let listed = named_modules(alloc, net, reached.as_slice())?;
+    write_lines(alloc, PlaceStyle::Plain, listed.as_slice(), sink)?;
+    Ok(())
+}
+
+/// Reads a network, and writes the modules that the module of this name reaches by one or more imports, or those that reach it: a name a line,
+/// sorted. Imports of weight 0 count. A module doesn't reach itself, since a network has no cycle.
+/// Fails with `Net` if the network is rejected, then with `Solve` if no module has the name, and with `Device` or `Memory`.
+pub fn reach_net_bytes<S: Sink>(
+    alloc: Global,
+    network: &[u8],
+    name: &str,
+    direction: Direction,
+    sink: &mut S,
+) -> Result<(), RunFault>
+    // What was read, and the names that the sink took, exactly those to which, or from which, a path leads; after an error of the input the sink
+    // took nothing.
+    ensures run { IsReachRun (IsNetOfText network.now) (IsRefusedText network.now) name.now direction (S.taken sink.old) (S.taken sink.new) result }
+    // Device is returned if the sink counted a failure, and only then.
+    ensures failures { S.failures sink.new ≡ failures_by is_device result (S.failures sink.old) }
+{
+    let net = Net::read(alloc, network)?;
+    reach_in(alloc, &net, name, direction, sink)
+}
+
+/// Reads the files of a tree, and writes the modules that a module of it reaches, or those that reach it, as `reach_net_bytes` does.
+/// Fails with `Tree` if the tree is rejected, then with `Solve` if no module has the name, and with `Device` or `Memory`.
+pub fn reach_tree<R: Threads + Sync, S: Sink>(
+    rt: &R,
+    alloc: Global,
+    sources: &[Source],
+    name: &str,
+    direction: Direction,
+    sink: &mut S,
+) -> Result<(), RunFault>
+    // The files are sorted by path.
+    requires { ArePathsInOrder sources.now }
+    // What was read, and the names that the sink took, exactly those to which, or from which, a path leads; after an error of the input the sink
+    // took nothing.
+    ensures run { IsReachRun (IsNetOfTree sources.now) (IsRefusedTree sources.now) name.now direction (S.taken sink.old) (S.taken sink.new) result }
+    // Device is returned if the sink counted a failure, and only then.
+    ensures failures { S.failures sink.new ≡ failures_by is_device result (S.failures sink.old) }
+{
+    let net = net_of(rt, alloc, sources, READERS)?;
+    reach_in(alloc, &net, name, direction, sink)
+}
+
+/// For each module the path of its file, if it has one. The files' modules have these numbers.
+fn paths_by_module<'a>(
+    alloc: Global,
+    sources: &'a [Source],
+    modules: &[u32],
+    nodes: usize,
+) -> Result<Vec<Option<&'a str>>, AllocError>
+    requires as_many { length modules.now ≡ length sources.now }
+    requires within { All (λ m. m < nodes) modules.now }
+    ensures size { IfOk result (λ paths. length paths.items ≡ nodes) }
+    ensures paths { IfOk result (λ paths. (m : ℕ) → IsPathAt sources.now modules.now (length sources.now) m (option_map (λ path. path.now) (slice_index_or paths.items m None))) }
+{
+    let mut paths = vec![in alloc; None; nodes]?;
+    for place in 0..sources.len() {
+        paths[modules[place] as usize] = Some(sources[place].path.as_str());
+    }
+    Ok(paths)
+}
+
+/// The modules of a network with these paths.
+fn located_modules<'a>(
+    alloc: Global,
+    net: &'a Net,
+    paths: &[Option<&'a str>],
+) -> Result<Vec<ListedModule<'a>>, AllocError>
+    requires { length paths.now ≡ length net.now.names }
+    ensures names { IfOk result (λ listed. map (λ (entry : ModuleEntry). entry.name) (map entry_of listed.items) ≡ net.now.names) }
+    ensures paths { IfOk result (λ listed. map (λ (entry : ModuleEntry). entry.path) (map entry_of listed.items) ≡ map (option_map (λ path. path.now)) paths.now) }
+{
+    let mut listed = Vec::with_capacity(alloc, paths.len())?;
+    for node in 0..net.nodes() {
+        let name = net.name(node);
+        let path = paths[node as usize];
+        listed.push(ListedModule { name, path })?;
+    }
+    Ok(listed)
+}
+
+/// Reads the files of a tree, and writes its modules, a line each, sorted by name: the name, and after a blank the path of the file that declares
+/// the module, in this style and with its control characters written out. An external module, which is only imported, has a line with its name alone. A tree without
+/// files has no line.
+/// Fails with `Tree` if the tree is rejected, and with `Device` or `Memory`.
+pub fn modules_tree<R: Threads + Sync, S: Sink>(
+    rt: &R,
+    alloc: Global,
+    sources: &[Source],
+    style: PlaceStyle<'_>,
+    sink: &mut S,
+) -> Result<(), RunFault>
+    // The files are sorted by path.
+    requires { ArePathsInOrder sources.now }
+    // What was read, and the lines that the sink took: exactly the modules of the tree's network, each with the file that declares it; after an
+    // error of the input the sink took nothing.
+    ensures run { IsModulesRun (style_of style.entry) sources.now (S.taken sink.old) (S.taken sink.new) result }
+    // Device is returned if the sink counted a failure, and only then.
+    ensures failures { S.failures sink.new ≡ failures_by is_device result (S.failures sink.old) }
+{
+    let located = located_net_of(rt, alloc, sources, READERS)?;
+    let net = &located.net;
+    let modules = located.modules.as_slice();
+    let paths = paths_by_module(alloc, sources, modules, net.nodes() as usize)?;
+    let listed = located_modules(alloc, net, paths.as_slice())?;
+    write_lines(alloc, style, listed.as_slice(), sink)?;
+    Ok(())
+}

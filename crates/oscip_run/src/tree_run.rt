@@ -1,0 +1,218 @@
+//! Runs on the modules of a tree, over any reader and any sink.
+ghost use Rattle.std.specs.Io.KnownBytes.{Keeps};
+ghost use Rattle.std.specs.Prelude.{◌≡◌, IfErr, IfOk, map};
+ghost use Rattle.std.specs.String.{string_bytes};
+ghost use Rattle.byte_sink.specs.Sinks.{failures_by};
+ghost use Rattle.oscip_job.specs.Jobs.{HasNetWorkers, HasTreeWorkers};
+ghost use Rattle.oscip_run.specs.Faults.{is_device};
+ghost use Rattle.oscip_run.specs.FileRuns.{IsTreeNetRun};
+ghost use Rattle.oscip_run.specs.CrossingRuns.{IsCrossingsRun};
+ghost use Rattle.oscip_run.specs.ImportRuns.{IsNetTextRun};
+ghost use Rattle.oscip_run.specs.JobRuns.{without_answer};
+ghost use Rattle.oscip_run.specs.ModuleRuns.{IsModulesRun};
+ghost use Rattle.oscip_run.specs.Readings.{given_bytes};
+ghost use Rattle.oscip_run.specs.Runs.{IsRefusedTree};
+ghost use Rattle.oscip_run.specs.TreeQuestionRuns.{IsRulesFileRun, IsTreeQuestionRun, NeverSaysNo};
+ghost use Rattle.oscip_run.specs.TreeRuns.{AreTreeFiles, IsTreeQuestionRunOn, IsTreeUnread};
+ghost use Rattle.oscip_tree.specs.Sources.{ArePathsInOrder};
+ghost use Rattle.oscip_tree.specs.Trees.{IsNetOfTree};
+ghost use Rattle.text_escape.specs.Places.{style_of};
+
+use crate::engine::READERS;
+use crate::reading::{bytes_or_none, read_beside};
+use crate::{
+    Reader, RunFault, answer_tree, crossings_tree, faults_tree, modules_tree, net_tree, rules_tree,
+    style_of_tree,
+};
+use byte_sink::Sink;
+use cut_solve::OpenGate;
+use oscip_job::{NetQuestion, SourceTree, TreeQuestion, TwoNames};
+use oscip_tree::{PartedFiles, Source, TreeFault, part_files};
+use std::alloc::Global;
+use std::sync::Wait;
+use std::thread::Threads;
+use text_escape::PlaceStyle;
+
+/// How a run on the modules of a tree ended.
+#[derive(Drop)]
+pub struct TreeRun {
+    /// The faults of the files that were left out, in the order of the files.
+    pub faults: Vec<TreeFault>,
+    /// The result of the command on the other files; false is a `no`.
+    pub ended: Result<bool, RunFault>,
+}
+
+/// The modules that the reader gives of a tree. If the tree skips faults, the files that have one of their own are left out, and these
+/// faults are returned as well. The files are checked in at most as many chunks as there are workers. Fails with the fault of the
+/// reader, or with `Memory`.
+pub fn tree_files<R: Threads + Sync, F: Reader>(
+    rt: &R,
+    alloc: Global,
+    reader: &F,
+    tree: &SourceTree,
+    workers: u32,
+) -> Result<PartedFiles, RunFault>
+    // The files of the tree's folder without the excluded ones, and the faults of those that are left out.
+    ensures files { IfOk result (λ parted. AreTreeFiles (F.answers reader.now) tree.now parted.accepted.items parted.faults.items) }
+    // The files are sorted by path.
+    ensures order { IfOk result (λ parted. ArePathsInOrder parted.accepted.items) }
+    // The reader refused the folder with this fault, or memory ran out.
+    ensures fault { IfErr result (IsTreeUnread (F.answers reader.now) tree.now) }
+{
+    let sources = reader.modules(tree.folder.as_str(), tree.excluded.as_slice())?;
+    if tree.skips_faults {
+        return Ok(part_files(rt, alloc, sources, workers)?);
+    }
+    Ok(PartedFiles {
+        accepted: sources,
+        faults: Vec::new(alloc),
+    })
+}
+
+/// Answers a question on the network of these modules. The report is read first, then the prices.
+fn ask_net<R: Threads + Wait + Sync, F: Reader, S: Sink>(
+    rt: &R,
+    alloc: Global,
+    reader: &F,
+    sources: &[Source],
+    question: &NetQuestion,
+    sink: &mut S,
+) -> Result<bool, RunFault>
+    requires in_order { ArePathsInOrder sources.now }
+    requires workers { HasNetWorkers question.now }
+    ensures run { IsTreeNetRun (F.answers reader.now) sources.now question.now (S.taken sink.old) (S.taken sink.new) result }
+    ensures failures { S.failures sink.new ≡ failures_by is_device result (S.failures sink.old) }
+{
+    let beside = read_beside(reader, question)?;
+    let report = bytes_or_none(&beside.report);
+    let prices = beside.prices.as_deref();
+    answer_tree(
+        rt, alloc, question, sources, report, &OpenGate, prices, sink,
+    )
+}
+
+/// Writes where one of these modules uses another.
+fn ask_crossings<R: Threads + Sync, S: Sink>(
+    rt: &R,
+    alloc: Global,
+    sources: &[Source],
+    names: &TwoNames,
+    style: PlaceStyle<'_>,
+    sink: &mut S,
+) -> Result<bool, RunFault>
+    requires { ArePathsInOrder sources.now }
+    ensures run { IsCrossingsRun (style_of style.entry) sources.now (string_bytes names.now.from) (string_bytes names.now.to) (S.taken sink.old) (S.taken sink.new) (without_answer result) }
+    ensures answer { NeverSaysNo result }
+    ensures failures { S.failures sink.new ≡ failures_by is_device result (S.failures sink.old) }
+{
+    let (from, to) = (names.from.as_str(), names.to.as_str());
+    crossings_tree(rt, alloc, sources, from, to, style, sink)?;
+    Ok(true)
+}
+
+/// Writes the network of these modules.
+fn ask_network<R: Threads + Sync, S: Sink>(
+    rt: &R,
+    alloc: Global,
+    sources: &[Source],
+    sink: &mut S,
+) -> Result<bool, RunFault>
+    requires { ArePathsInOrder sources.now }
+    ensures run { IsNetTextRun (IsNetOfTree sources.now) (IsRefusedTree sources.now) (S.taken sink.old) (S.taken sink.new) (without_answer result) }
+    ensures answer { NeverSaysNo result }
+    ensures failures { S.failures sink.new ≡ failures_by is_device result (S.failures sink.old) }
+{
+    net_tree(rt, alloc, sources, sink)?;
+    Ok(true)
+}
+
+/// Lists these modules.
+fn ask_modules<R: Threads + Sync, S: Sink>(
+    rt: &R,
+    alloc: Global,
+    sources: &[Source],
+    style: PlaceStyle<'_>,
+    sink: &mut S,
+) -> Result<bool, RunFault>
+    requires { ArePathsInOrder sources.now }
+    ensures run { IsModulesRun (style_of style.entry) sources.now (S.taken sink.old) (S.taken sink.new) (without_answer result) }
+    ensures answer { NeverSaysNo result }
+    ensures failures { S.failures sink.new ≡ failures_by is_device result (S.failures sink.old) }
+{
+    modules_tree(rt, alloc, sources, style, sink)?;
+    Ok(true)
+}
+
+/// Checks these modules against the rules that the reader gives of a path.
+fn ask_rules<R: Threads + Sync, F: Reader, S: Sink>(
+    rt: &R,
+    alloc: Global,
+    reader: &F,
+    sources: &[Source],
+    path: &str,
+    style: PlaceStyle<'_>,
+    sink: &mut S,
+) -> Result<bool, RunFault>
+    requires { ArePathsInOrder sources.now }
+    ensures run { IsRulesFileRun (F.answers reader.now) (style_of style.entry) sources.now path.now (S.taken sink.old) (S.taken sink.new) result }
+    ensures failures { S.failures sink.new ≡ failures_by is_device result (S.failures sink.old) }
+{
+    let rules = reader.file(path)?;
+    rules_tree(rt, alloc, sources, rules.as_slice(), style, sink)
+}
+
+/// Answers a question on these modules, with locations in this style. Other files that the question names are read first. Returns false
+/// for a `no`. Fails with the fault of the reader, and then as the engine of the question does.
+fn ask_tree<R: Threads + Wait + Sync, F: Reader, S: Sink>(
+    rt: &R,
+    alloc: Global,
+    reader: &F,
+    sources: &[Source],
+    question: &TreeQuestion,
+    style: PlaceStyle<'_>,
+    sink: &mut S,
+) -> Result<bool, RunFault>
+    // The files are sorted by path.
+    requires in_order { ArePathsInOrder sources.now }
+    requires workers { HasTreeWorkers question.now }
+    // What the reader gave of the question's paths, and what the engine of the question wrote.
+    ensures run { IsTreeQuestionRun (F.answers reader.now) (style_of style.entry) sources.now question.now (S.taken sink.old) (S.taken sink.new) result }
+    // Device is returned if the sink counted a failure, and only then.
+    ensures failures { S.failures sink.new ≡ failures_by is_device result (S.failures sink.old) }
+{
+    match question {
+        TreeQuestion::OfNet(question) => ask_net(rt, alloc, reader, sources, question, sink),
+        TreeQuestion::Crossings(names) => ask_crossings(rt, alloc, sources, names, style, sink),
+        TreeQuestion::Net => ask_network(rt, alloc, sources, sink),
+        TreeQuestion::Rules(rules) => {
+            ask_rules(rt, alloc, reader, sources, rules.as_str(), style, sink)
+        }
+        TreeQuestion::Faults => faults_tree(rt, alloc, sources, style, sink),
+        TreeQuestion::Modules => ask_modules(rt, alloc, sources, style, sink),
+    }
+}
+
+/// Answers a question on the modules that the reader gives of a tree. Fails with the fault of the reader for the tree's folder, or with
+/// `Memory`, before anything is written.
+pub fn run_tree<R: Threads + Wait + Sync, F: Reader, S: Sink>(
+    rt: &R,
+    alloc: Global,
+    reader: &F,
+    tree: &SourceTree,
+    question: &TreeQuestion,
+    sink: &mut S,
+) -> Result<TreeRun, RunFault>
+    requires workers { HasTreeWorkers question.now }
+    // Which files the run used, the faults of those that were left out, and what the run on the files did.
+    ensures run { IsTreeQuestionRunOn (F.answers reader.now) tree.now question.now (S.taken sink.old) (S.taken sink.new) result }
+    // That run ended with Device if the sink counted a failure, and only then.
+    ensures failures { IfOk result (λ run. S.failures sink.new ≡ failures_by is_device run.ended (S.failures sink.old)) }
+    // If there was no run, the sink didn't fail.
+    ensures failed { IfErr result (λ _. S.failures sink.new ≡ S.failures sink.old) }
+{
+    let PartedFiles { accepted, faults } = tree_files(rt, alloc, reader, tree, READERS)?;
+    let sources = accepted.as_slice();
+    let style = style_of_tree(tree);
+    let ended = ask_tree(rt, alloc, reader, sources, question, style, sink);
+    Ok(TreeRun { faults, ended })
+}
