@@ -2,8 +2,8 @@
 // or, with the seed 0, on every front of the examples and on each of them with one byte changed at each place.
 // Each run has to end within two seconds, by itself, with a status and a line that docs/FORMATS.md names; a cut that was put
 // has to pass the check, an index to be the same by one worker and by four, a symbol to be defined by its text where it is by its
-// place, and the first of a tree's faults to be what other commands tell. It stops at the first run that does otherwise,
-// and keeps its folder. Works in a new folder below TMPDIR.
+// place, the first of a tree's faults to be what other commands tell, and an answer without some files to be that of a tree which
+// doesn't have them. It stops at the first run that does otherwise, and keeps its folder. Works in a new folder below TMPDIR.
 #include <algorithm>
 #include <cerrno>
 #include <csignal>
@@ -150,27 +150,29 @@ Ended run(const Words &words) {
 
 #define FILE_FAULT "[^\n]+:\\d+:\\d+: (BadByte|BadNumber|OpenString|OpenComment|TooLong|Syntax|EndName|TooDeep|Twice \\w+|TwiceField \\w+)"
 #define IMPORTS_FAULT "TwoModules \\w+ \\S+ \\S+|TooMany|Cycle( \\w+)+"
-const char *const FAULT = "oscip: (" FILE_FAULT
-    "|\\d+: (BadLine|TwiceImport|TooMany|UnknownName|Order|NoSuchImport|TwicePrice|SetIsModule|NoSuchModule|TwiceAllowed|EmptySet)"
-    "|" IMPORTS_FAULT "|WeightOverflow|PriceOverflow|NoEnd|NoDocument|SameModule|NoSuchModule [^]*"
-    "|(Truncated|LongVarint|Group|ZeroField|BadText) \\d+)\n";
+#define ANY_FAULT "oscip: (" FILE_FAULT \
+    "|\\d+: (BadLine|TwiceImport|TooMany|UnknownName|Order|NoSuchImport|TwicePrice|(SetIsModule|NoSuchModule|EmptySet|TwiceAllowed [^ \n]+) [^\n]*)" \
+    "|" IMPORTS_FAULT "|WeightOverflow|PriceOverflow|NoEnd|NoDocument|SameModule|NoSuchModule [^]*" \
+    "|(Truncated|LongVarint|Group|ZeroField|BadText) \\d+)\n"
+const char *const FAULT = ANY_FAULT;
 const char *const FAULTS = "((" FILE_FAULT ")\n)+|(" IMPORTS_FAULT ")\n";
 const char *const LEFT_OUT = "(oscip: (" FILE_FAULT ")\n)+";
-const char *const NO_INDEX = "(oscip: (" FILE_FAULT ")\n)*oscip: (" FILE_FAULT "|" IMPORTS_FAULT ")\n";
+const char *const LEFT_OUT_AND_FAULT = "(oscip: (" FILE_FAULT ")\n)*" ANY_FAULT;
 const char *const NO_FILE = "oscip: cannot (read|write)( [^]*)?\n";
-const char *const NO_INDEX_FILE = "(oscip: (" FILE_FAULT ")\n)*oscip: cannot (read|write)( [^]*)?\n";
+const char *const LEFT_OUT_AND_NO_FILE = "(oscip: (" FILE_FAULT ")\n)*oscip: cannot (read|write)( [^]*)?\n";
 const char *const REPORT = "cut \\w+ \\w+\n(weight \\d+\n(remove \\w+ \\w+ \\d+\n)*(flow \\w+ \\w+ [1-9]\\d*\n)*|blocked( \\w+)+\n)end\n";
 const char *const PLACES = "([^]*:\\d+:\\d+-\\d+:\\d+\n)*";
 const char *const NETWORK = "(module \\w+\n)*(import \\w+ \\w+ \\d+\n)*";
 const char *const PATH_LINES = "(import \\w+ \\w+ \\d+\n)+";
 const char *const DEFINED = "([^\n]*:\\d+:\\d+-\\d+:\\d+ [^\n]+\n)*";
-const char *const BROKEN = "(no [1-9]\\d*( \\w+){2,}\n)+";
+const char *const BROKEN = "([^\n]+:\\d+:\\d+: no [1-9]\\d*( \\w+){2,}\n)*(stale [1-9]\\d* [^ \n]+ [^ \n]+\n)*";
+const char *const NO = "no (StillChain|WrongWeight|WrongValue|(OverWeight|NoSuchImport|NotPinned) \\w+ \\w+|NotKept \\w+)\n";
 
 // What standard output has to be after status 0.
 const std::map<Text, const char *> ANSWERS = {
     {"cut", REPORT}, {"cut-net", REPORT}, {"check", "yes\n"}, {"check-net", "yes\n"}, {"dot", "digraph [^]*\\}\n"}, {"dot-net", "digraph [^]*\\}\n"},
     {"def", PLACES}, {"refs", PLACES}, {"crossings", PLACES}, {"net", NETWORK}, {"why", PATH_LINES}, {"why-net", PATH_LINES},
-    {"rules", "yes\n"}, {"faults", "yes\n"}, {"symbol", "([^\n]+\n)?"}, {"symbols", DEFINED}, {"unresolved", "([^]*:\\d+:\\d+ \\w+\n)*"}, {"index", "([0-9a-f]*\n)?"}};
+    {"modules", "(\\w+( [^\n]+)?\n)*"}, {"reach", "(\\w+\n)*"}, {"reach-net", "(\\w+\n)*"}, {"rules", "yes\n"}, {"faults", "yes\n"}, {"symbol", "([^\n]+\n)?"}, {"symbols", DEFINED}, {"unresolved", "([^]*:\\d+:\\d+ \\w+\n)*"}, {"index", "([0-9a-f]*\n)?"}};
 
 bool is_like(const Text &text, const char *pattern) {
     static std::map<const char *, std::regex> made;
@@ -180,24 +182,25 @@ bool is_like(const Text &text, const char *pattern) {
     return text.size() > 4000 || std::regex_match(text, found->second);
 }
 
+// Whether standard output is that of a command that says no.
+bool is_no(const Text &command, const Text &put) {
+    if (command == "why" || command == "why-net") return put.empty();
+    if (command == "faults") return is_like(put, FAULTS);
+    if (command == "rules") return !put.empty() && is_like(put, BROKEN);
+    return (command == "check" || command == "check-net") && is_like(put, NO);
+}
+
 bool is_documented(const Words &words, const Ended &ended) {
-    const Text &put = ended.put, &told = ended.told;
+    const Text &put = ended.put, &told = ended.told, command = words.empty() ? "" : words[0];
     const bool leaves_out = std::find(words.begin(), words.end(), "--skip-faults") != words.end();
+    auto answer = ANSWERS.find(command);
+    const bool is_answer = answer == ANSWERS.end() || is_like(put, answer->second);
     switch (ended.status) {
-    case 0: {
-        auto answer = ANSWERS.find(words.empty() ? "" : words[0]);
-        return told.empty() && (answer == ANSWERS.end() || is_like(put, answer->second) || put.find("Usage") != Text::npos);
-    }
-    case 1: return put.empty() && is_like(told, leaves_out ? NO_INDEX : FAULT);
+    case 0: return told.empty() && (is_answer || put.find("Usage") != Text::npos);
+    case 1: return put.empty() && is_like(told, leaves_out ? LEFT_OUT_AND_FAULT : FAULT);
     case 2: return put.empty() && told.rfind("error: ", 0) == 0;
-    case 3: return is_like(told, leaves_out ? NO_INDEX_FILE : NO_FILE);
-    case 5:
-        if (words[0] == "index") return is_like(told, LEFT_OUT) && is_like(put, "([0-9a-f]*\n)?");
-        if (!told.empty()) return false;
-        if (words[0] == "why" || words[0] == "why-net") return put.empty();
-        if (words[0] == "faults") return is_like(put, FAULTS);
-        if (words[0] == "rules") return is_like(put, BROKEN);
-        return is_like(put, "no (StillChain|WrongWeight|WrongValue|(OverWeight|NoSuchImport|NotPinned) \\w+ \\w+|NotKept \\w+)\n");
+    case 3: return is_like(told, leaves_out ? LEFT_OUT_AND_NO_FILE : NO_FILE);
+    case 5: return told.empty() ? is_no(command, put) : leaves_out && is_like(told, LEFT_OUT) && (is_answer || is_no(command, put));
     default: return false;
     }
 }
@@ -237,7 +240,8 @@ Examples examples_of(const Text &at) {
     found.prices = {"pin Edit Printer\nprice Dictionary Sync 7\nprice Printer Net 1099511627\n", "pin A B\nprice C D 3\n", "pin A B\npin B D\n",
                     "price A M 0\npin M B\n", "pin A U\npin U D\nprice V U 1099511627776\n", "pin A B\nprice B C 5\n", read_file(at + "/editor.prices")};
     found.rules = {read_file(at + "/editor.rules"), "forbid A D\nallow A B\n", "set Low D\nset Low B\nforbid Low Low\nforbid C Low\n",
-                   "# of a folder\n\nfolder In in\nforbid In D\nforbid B In\nallow C D\n"};
+                   "# of a folder\n\nfolder In in\nforbid In D\nforbid B In\nallow C D\n",
+                   "tree All\nnamed Few *A*\nmay Few C # but not B\nforbid-import All SYSTEM\nallow A Gone\n"};
     for (const auto &it : std::filesystem::recursive_directory_iterator(at + "/editor"))
         if (it.is_regular_file()) found.modules.push_back(read_file(it.path()));
     found.indexes.push_back(read_file(at + "/foreign.scip"));
@@ -273,7 +277,8 @@ void try_net(const Examples &examples) {
     const Text &net = one_of(examples.nets);
     write_file("net", one_in(8) ? net : changed(net, examples.reports));
     write_file("report", changed(one_of(examples.reports), examples.nets));
-    switch (below(5)) {
+    switch (below(6)) {
+    case 5: tried(one_in(2) ? Words{"reach-net", "net", some_name()} : Words{"reach-net", "net", some_name(), "--back"}); break;
     case 0: tried(priced({"check-net", "net", "report"}, examples)); break;
     case 1: tried(priced(pictured({"dot-net", "net", "report"}), examples)); break;
     case 2: tried({"why-net", "net", some_name(), some_name()}); break;
@@ -314,6 +319,40 @@ void tried_why(const Text &first, const Text &last) {
     if (one.status != other.status || one.put != other.put) stop(words, other, "not the chain in the tree");
 }
 
+// Words of a command that reads the tree, of which another run gives the same answer.
+Words some_command() {
+    switch (below(4)) {
+    case 0: return {"net", "tree"};
+    case 1: return {"modules", "tree"};
+    case 2: return {"reach", "tree", some_name()};
+    default: return {"crossings", "tree", some_name(), some_name()};
+    }
+}
+
+// With --skip-faults a command has the answer that it has once the files of these lines of faults are removed.
+void tried_without(const Text &faults) {
+    Words words = some_command(), skipping = words;
+    skipping.push_back("--skip-faults");
+    Ended skipped = tried(skipping);
+    std::istringstream lines(faults);
+    Text line;
+    bool is_whole = true;
+    while (std::getline(lines, line))
+        if (std::filesystem::remove("tree/" + line.substr(0, line.find(':')))) is_whole = false;
+    Ended rest = tried(words);
+    if (skipped.put != rest.put || skipped.status != (rest.status == 0 && !is_whole ? 5 : rest.status)) stop(skipping, skipped, "not the answer for the other files");
+}
+
+// A folder that is excluded is as one that isn't there.
+void tried_excluding() {
+    Words words = some_command(), excluding = words;
+    excluding.push_back(one_in(2) ? "--exclude=in" : "--exclude=in/*");
+    Ended excluded = tried(excluding);
+    std::filesystem::remove_all("tree/in");
+    Ended rest = tried(words);
+    if (excluded.put != rest.put || excluded.told != rest.told || excluded.status != rest.status) stop(excluding, excluded, "not the answer without the folder");
+}
+
 // The faults of all files: the first is that of any other command. An index that leaves these files out reports each, and then the
 // fault of the imports, if it has one.
 void tried_faults() {
@@ -330,6 +369,7 @@ void tried_faults() {
     bool has_first = net.status == 1 && net.told == all.substr(0, all.find('\n') + 1);
     bool has_all = index.status == 5 ? index.told == all : index.status == 1 && index.told.rfind(all, 0) == 0;
     if (!has_first || !has_all) stop(words, index, "not the faults of the tree");
+    tried_without(faults.put);
 }
 
 void try_tree(const Examples &examples) {
@@ -345,12 +385,14 @@ void try_tree(const Examples &examples) {
         write_file("tree/More.Mod", one_in(4) ? module : changed(module, examples.modules));
     }
     write_file("report", changed(one_of(examples.reports), examples.nets));
-    switch (below(12)) {
-    case 9: tried_faults(); break;
+    switch (below(15)) {
+    case 12: tried(some_command()); break;
+    case 13: tried_excluding(); break;
+    case 9: case 14: tried_faults(); break;
     case 10: case 11: {
         const Text &rules = one_of(examples.rules);
         write_file("rules", one_in(3) ? rules : changed(rules, examples.nets));
-        tried({"rules", "tree", "rules"});
+        tried(one_in(2) ? Words{"rules", "tree", "rules"} : Words{"rules", "tree", "rules", one_in(2) ? "--editor" : "--skip-faults"});
         break;
     }
     case 0: tried(priced({"check", "tree", "report"}, examples)); break;
@@ -369,7 +411,7 @@ void try_tree(const Examples &examples) {
     }
 }
 
-const Words SAID = {"cut", "cut-net", "check", "check-net", "dot", "dot-net", "def", "refs", "crossings", "why", "why-net", "rules", "faults", "symbol", "symbols", "--symbol=x", "--symbol", "--skip-faults", "--atomic", "index", "unresolved", "help", "--help", "-h", "-V", "--version",
+const Words SAID = {"cut", "cut-net", "check", "check-net", "dot", "dot-net", "def", "refs", "crossings", "why", "why-net", "rules", "faults", "symbol", "symbols", "modules", "reach", "reach-net", "--back", "--symbol=x", "--symbol", "--skip-faults", "--editor", "--exclude", "--exclude=*.Mod", "--atomic", "index", "unresolved", "help", "--help", "-h", "-V", "--version",
     "--workers", "--workers=2", "--workers=99", "--prices", "--prices=prices", "--hex", "--flow", "--package", "--package=p", "--package= p", "--root=r", "--", "-", "net", "report", "tree", "index", "gone", "A", "B", "0", "3",
     "-1", "2147483648", "", "\xff"};
 

@@ -724,6 +724,16 @@ def in_folders(modules, deep):
     return {f"t/{it % (deep + 1) * 'd/'}M{it}.Mod": b"MODULE M%d; END M%d." % (it, it) for it in range(modules)}
 
 
+def in_long_paths(modules, deep=1):
+    """So many modules that import Z, in folders within one another whose names have 200 letters each."""
+    return {f"t/{deep * (199 * 'a' + 'c/')}M{it}.Mod": b"MODULE M%d; IMPORT Z; END M%d." % (it, it) for it in range(modules)}
+
+
+def named(name):
+    """A module of this name, which imports Z."""
+    return {"t/M.Mod": b"MODULE %s; IMPORT Z; END %s." % (name, name)}
+
+
 def folders_of(name, deep):
     """Lines by which the modules of each of these folders are in a set."""
     return b"".join(b"folder %s %s\n" % (name, b"/".join(levels * [b"d"])) for levels in range(1, deep + 1))
@@ -864,6 +874,11 @@ GROWN = [
             "sets of one module, and a rule": (lambda k: ruled(near(1, 0), b"".join(b"set S%d Z\n" % it for it in range(many(100_000) * k)), b"forbid S0 S1\n"),),
             "sets whose names fall together": (lambda k: ruled(near(1, 0), *[b"set %s Z\n" % it for it in together(k)], b"forbid M0 Z\n"),),
             "sets whose names of 200 letters differ in the last ones": (lambda k: ruled(near(1, 0), *[b"set %s Z\n" % it for it in long_names(many(5_000) * k)], b"forbid M0 Z\n"),),
+            "a pattern of many stars": (lambda k: ruled(near(512, 1), b"named S M%s\nforbid Z S\n" % (many(500_000) * k * b"*")),),
+            "a pattern of many pieces, and a name that has them": (lambda k: ruled(named(many(200_000) * k * b"a"), b"named S %s*\nforbid Z S\n" % (many(100_000) * k * b"*a")),),
+            "a pattern of half a name that is nearly in its first half": (lambda k: ruled(named(many(200_000) * k * b"a" + b"b"), b"named S *%sb\nforbid Z S\n" % (many(100_000) * k * b"a")),),
+            "patterns, for 512 names": (lambda k: ruled(near(512, 1), b"".join(b"named S *M*%d*\n" % (it % 512) for it in range(many(2_000) * k)), b"forbid Z S\n"),),
+            "lines with a comment": (lambda k: ruled(near(1, 0), b"set S Z\n", many(100_000) * k * b"set S Z # a comment\n"),),
             "sets of a folder each, from the last name to the first": (lambda k: ruled(in_folders(64, 32), *[b"folder S%06d %s\n" % (999_999 - it, b"d/" * (it % 31) + b"d") for it in range(many(50_000) * k)]),),
         },
     ),
@@ -879,7 +894,24 @@ GROWN = [
         ["rules", "t", "rules"],
         DENIED,
         {
+            "imports that are allowed and aren't there": (lambda k: ruled(near(1, 0), b"".join(b"allow M%d N\n" % it for it in range(many(50_000) * k))),),
+            "lines of imports that aren't allowed, each with a path of 200 letters": (lambda k: ruled(in_long_paths(many(1_000) * k), set_of(b"A", numbered(many(1_000) * k)), b"forbid-import A Z\n"),),
+            "modules that may import nothing, by 2,048 rules": (lambda k: ruled(near(64, 1), set_of(b"A", numbered(64)), b"set B M0\n", many(1_024) * k * b"forbid-import A B\n"),),
             "modules of a set behind fifteen, each of which imports as many": (lambda k: ruled(behind_hubs(many(1_000) * k), set_of(b"A", numbered(many(1_000) * k)), b"forbid A Z\n"),),
+        },
+    ),
+    (
+        ["modules", "t", "--exclude", "*a*a*a*a*b", "--exclude", "*/*a*b*/*", "--exclude", 100 * "*a"],
+        ANSWERED,
+        {
+            "paths of 2,000 letters, and three patterns of many stars": (lambda k: in_long_paths(many(500) * k, 8),),
+        },
+    ),
+    (
+        ["modules", "t", *[word for it in range(500) for word in ("--exclude", f"*d/*{it}*.txt")]],
+        ANSWERED,
+        {
+            "paths in 32 folders, and 500 patterns": (lambda k: in_folders(many(1_000) * k, 32),),
         },
     ),
     (

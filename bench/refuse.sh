@@ -188,6 +188,17 @@ trial 0 rules editor editor.rules
 trial 1 rules four twice.rules
 trial 1 rules wrong four.rules
 trial 3 rules four absent.rules
+trial 5 rules --skip-faults --editor broken four.rules
+trial 0 modules editor
+trial 0 modules --editor four
+trial 0 modules --exclude b --exclude '*/*.mod' --exclude 'E*' four
+trial 5 modules --skip-faults broken
+trial 0 reach editor Edit
+trial 0 reach --back four D
+trial 1 reach four Absent
+trial 0 reach-net large.net Editor
+trial 5 net --skip-faults broken
+trial 0 cut --exclude E.Mod --exclude 'F*' broken A D
 trial 0 faults editor
 trial 5 faults wrong
 trial 0 why four A D
