@@ -22,7 +22,7 @@ use Rattle.cut_rules.specs.declared.table.SetTable.{SetTable}
 use Rattle.cut_rules.specs.RuleLines.{Selector, Module, Folder, Named, Tree, Adds, Restricts, Allow, Says}
 use Rattle.cut_rules.specs.Rules.{HasFault, HasPattern, IsStale, LacksImport, LineFault, Selects}
 use Rattle.cut_rules.specs.Faults.{IsRefusal, UnlessMemory}
-use Rattle.cut_rules.specs.Drafts.{number_of, pattern_count, AreAllowed, AreLinesOf, ArePairs, AreRules, AreStale, IsAddedWithin, IsAddition, IsDraft, IsRuleOf, IsTable, Takes}
+use Rattle.cut_rules.specs.Drafts.{number_of, pattern_count, AreAllowed, AreLinesOf, ArePairs, AreRules, AreStale, IsAddedWithin, IsAddition, IsDraft, IsLastSet, IsRuleOf, IsTable, Takes}
 use Rattle.cut_rules.proofs.LineLaws.{says_one}
 use Rattle.cut_rules.proofs.LineLists.{lines_push, lines_same}
 use Rattle.cut_rules.proofs.Numbers.{number_once}
@@ -234,14 +234,15 @@ module _ (net : Network) (files : List File) (sets pieces : List (List ℕ)) (co
 
 module _ (net : Network) (files : List File) (sets pieces : List (List ℕ)) where
   pub made : (line n : ℕ) → line ≡ n → (draft : Draft) → ((l : ℕ) (fault : LineFault) → l ≤ line → HasFault net files pieces l fault → ⊥) → IsTable net files sets pieces n draft.table → AreRules net sets pieces n draft.rules.items
-      → AreAllowed net pieces n draft.allowed.items → AreStale net pieces n draft.stale.items → ArePairs draft.pairs (λ key. key.0.now) (λ key. key.1.now) pieces n → IsDraft net files sets pieces line draft
-  made line n e draft sound table rules allowed stale pairs = record {
+      → AreAllowed net pieces n draft.allowed.items → AreStale net pieces n draft.stale.items → ArePairs draft.pairs (λ key. key.0.now) (λ key. key.1.now) pieces n → IsLastSet net sets draft.last_set → IsDraft net files sets pieces line draft
+  made line n e draft sound table rules allowed stale pairs last_set = record {
     sound = sound;
     table = subst (λ (m : ℕ). IsTable net files sets pieces m draft.table) (sym e) table;
     rules = subst (λ (m : ℕ). AreRules net sets pieces m draft.rules.items) (sym e) rules;
     allowed = subst (λ (m : ℕ). AreAllowed net pieces m draft.allowed.items) (sym e) allowed;
     stale = subst (λ (m : ℕ). AreStale net pieces m draft.stale.items) (sym e) stale;
     pairs = subst (λ (m : ℕ). ArePairs draft.pairs (λ key. key.0.now) (λ key. key.1.now) pieces m) (sym e) pairs;
+    last_set = last_set;
   }
 
   pub refused : (line : ℕ) (fault : RulesFault) (result : Result (Unit {0}) RulesFault) (draft : Draft) → result ≡ Err fault → UnlessMemory fault (IsRefusal net files pieces fault) → Takes net files sets pieces line result draft

@@ -1,11 +1,10 @@
 -- The end of a verdict.
-use Rattle.std.proofs.Common.{◌≡◌, ◌∙◌, ◌<◌, ◌&&◌, ℕ, Bool, true, false, inl, inr, List, [], ◌∷◌, ◌++◌, Option, Result, Ok, Err, Some, Vec, vec_len, length, map, refl, sym, ap, ap₂, subst, codes, append-nil, arith}
-use Rattle.std.specs.Prelude.{◌==◌, AllPairs, Contains, IfErr, OnOk, if◌then◌else◌, not, slice_get}
+use Rattle.std.proofs.Common.{◌≡◌, ◌∙◌, ◌<◌, ℕ, Bool, true, false, List, [], ◌∷◌, ◌++◌, Option, Result, Ok, Err, Vec, vec_len, length, map, refl, sym, ap, subst, codes, append-nil, arith}
+use Rattle.std.specs.Prelude.{◌==◌, AllPairs, Contains, if◌then◌else◌, not}
 use Rattle.std.specs.declared.alloc.Global.{Global}
 use Rattle.std.specs.List.{flat_map}
 use Rattle.std.specs.Io.KnownBytes.{Appends}
 use Rattle.std.proofs.KnownBytes.{Appends-trans}
-use Rattle.std.proofs.lemmas.Bool.{cases_Bool}
 use Rattle.std.proofs.lemmas.Bool.Decides.{nat_tests}
 use Rattle.std.proofs.lemmas.List.{get_or-map, length-map}
 use Rattle.byte_sink.specs.declared.sink.SinkFault.{SinkFault}
@@ -20,7 +19,7 @@ use Rattle.cut_rules.specs.declared.file.File.{File}
 use Rattle.cut_rules.specs.declared.reading.Rules.{Rules}
 use Rattle.cut_rules.specs.declared.rule.StaleAllow.{StaleAllow}
 use Rattle.cut_rules.specs.declared.site.Site.{Site}
-use Rattle.cut_rules.specs.RuleLines.{RuleLine, Allow, Says}
+use Rattle.cut_rules.specs.RuleLines.{Allow, Says}
 use Rattle.cut_rules.specs.Rules.{IsStale}
 use Rattle.cut_rules.specs.Outcomes.{AreRulesOf}
 use Rattle.cut_rules.specs.Verdicts.{is_clean, is_none, lines_text, stale_line, stale_of, verdict_text, violation_line, AreStaleLines, AreViolations, Stale, Violation}

@@ -1,33 +1,31 @@
 -- The search for a rule finds the paths that its line forbids.
-use Rattle.std.proofs.Common.{◌≡◌, ◌∙◌, ℕ, ◌+◌, ◌<◌, ◌≤◌, ◌⊎◌, inl, inr, true, false, List, [], ◌∷◌, length, get_or, Option, Some, None, refl, sym, ap, subst, arith}
-use Rattle.std.specs.Prelude.{◌↔◌, All, Contains, slice_get}
+use Rattle.std.proofs.Common.{◌≡◌, ◌∙◌, ℕ, ◌+◌, ◌<◌, ◌⊎◌, inl, inr, true, false, List, [], ◌∷◌, length, get_or, Option, Some, None, refl, sym, ap, subst, arith}
+use Rattle.std.specs.Prelude.{◌↔◌, All, Contains}
 use Rattle.std.proofs.lemmas.Bool.{cases_Bool}
 use Rattle.std.proofs.lemmas.List.{get_or_default}
 use Rattle.std.proofs.lemmas.List.Elements.{All-contains, Contains-get_or}
-use Rattle.std.proofs.lemmas.Option.{slice_get_within}
 use Rattle.digraph.specs.declared.edge.Edge.{Edge}
 use Rattle.digraph.specs.declared.graph.Graph.{Graph}
 use Rattle.digraph.specs.Chains.{IsChain}
 use Rattle.digraph.specs.Edges.{Leads}
 use Rattle.digraph.specs.Marks.{marked}
-use Rattle.digraph.proofs.Members.{first_member, first_or_later, later_member, no_member}
+use Rattle.digraph.proofs.Members.{first_member, first_or_later, no_member}
 use Rattle.texts.proofs.FieldCuts.{some_is}
 use Rattle.cut_net.specs.declared.priced.Priced.{Priced}
 use Rattle.cut_net.specs.Lines.{edge_of}
 use Rattle.cut_net.specs.Network.{Network, index_of, name_of, none_there, texts, unpinned}
 use Rattle.cut_net.specs.WellFormed.{IsNetwork}
-use Rattle.cut_net.proofs.Noting.{names_apart}
-use Rattle.cut_net.proofs.Places.{index_again, index_takes}
+use Rattle.cut_net.proofs.Places.{index_takes}
 use Rattle.cut_rules.specs.declared.file.File.{File}
 use Rattle.cut_rules.specs.declared.reading.Rules.{Rules}
 use Rattle.cut_rules.specs.declared.rule.Rule.{Rule}
 use Rattle.cut_rules.specs.declared.rule.RuleKind.{RuleKind}
 use Rattle.cut_rules.specs.declared.rule.RuleKind.TheVariants as kinds
 use Rattle.cut_rules.specs.declared.rule_search.RuleSearch.{RuleSearch}
-use Rattle.cut_rules.specs.RuleLines.{RuleLine, Allow, Forbid, ForbidImport, May, Restricts, Says}
-use Rattle.cut_rules.specs.Rules.{Added, Counts, IsIn, Itself}
-use Rattle.cut_rules.specs.Drafts.{number_by, number_of, IsAddedWithin, IsMember}
-use Rattle.cut_rules.specs.Judged.{IsBarredBy, IsCounted, IsCountedGraph, IsFirstRule, IsMayOf, IsNamed, IsOutsider, IsRepeated, IsRuleSearch, IsSearchFor, IsTarget, IsTargetBy}
+use Rattle.cut_rules.specs.RuleLines.{Allow, Forbid, ForbidImport, May, Restricts, Says}
+use Rattle.cut_rules.specs.Rules.{Counts, IsIn}
+use Rattle.cut_rules.specs.Drafts.{number_by, number_of}
+use Rattle.cut_rules.specs.Judged.{IsBarredBy, IsCountedGraph, IsFirstRule, IsNamed, IsOutsider, IsRepeated, IsRuleSearch, IsSearchFor, IsTargetBy}
 use Rattle.cut_rules.specs.Outcomes.{AreRulesOf}
 use Rattle.digraph.specs.ShortestPaths.{IsPathAround}
 use Rattle.cut_rules.specs.Verdicts.{ByForbid, ByForbidImport, ByMay, IsEntryPath, IsFirstMay, IsForbidden}

@@ -1,8 +1,7 @@
 -- One line more.
-use Rattle.std.proofs.Common.{◌≡◌, ℕ, zero, suc, ◌+◌, ◌<◌, ◌≤◌, ◌⊎◌, inl, inr, List, [], ◌∷◌, ◌++◌, length, Option, Some, None, refl, sym, ap, ◌∙◌, subst, arith}
+use Rattle.std.proofs.Common.{◌≡◌, ℕ, zero, suc, ◌+◌, ◌<◌, ◌≤◌, ◌⊎◌, inl, inr, List, [], ◌∷◌, length, Option, Some, None, refl, sym, ap, ◌∙◌, subst, arith}
 use Rattle.std.specs.Prelude.{◌↔◌, Contains, slice_get, option_map, option_and_then}
 use Rattle.std.proofs.lemmas.Bool.{cases_eq}
-use Rattle.std.proofs.lemmas.List.Elements.{Contains-append_left, Contains-push, Contains-push_cases}
 use Rattle.std.proofs.lemmas.Option.{option_and_then_some}
 use Rattle.texts.proofs.FieldCuts.{some_is}
 use Rattle.cut_rules.specs.RuleLines.{RuleLine, Selector, Adds, Restricts, Allow, IsPieceAt, Says, Spells}
@@ -70,19 +69,19 @@ module _ (pieces : List (List ℕ)) (count : ℕ) (piece : List ℕ) (at : IsPie
 
 module _ (pieces : List (List ℕ)) (count : ℕ) (piece : List ℕ) (at : IsPieceAt pieces (count + 1) piece) (old : List (List ℕ)) where
   -- the names so far, with the set of this line
-  pub one_more : (new : List (List ℕ)) (n : ℕ) (name : List ℕ) → n ≡ count + 1 → ((s : List ℕ) → Contains old s ↔ IsSetWithin pieces count s) → new ≡ old ++ name ∷ [] → set_of piece ≡ Some name
+  pub one_more : (new : List (List ℕ)) (n : ℕ) (name : List ℕ) → n ≡ count + 1 → ((s : List ℕ) → Contains old s ↔ IsSetWithin pieces count s) → ((s : List ℕ) → Contains new s ↔ (Contains old s ⊎ (s ≡ name))) → set_of piece ≡ Some name
       → (s : List ℕ) → Contains new s ↔ IsSetWithin pieces n s
   one_more new n name next are is here s =
       let more = sets_next pieces count piece at s in
-      rw (is, next) (
-        λ has. more.1 (elim (Contains-push_cases old name s has) [
+      rw next (
+        λ has. more.1 (elim ((is s).0 has) [
           | inl was ↦ inl ((are s).0 was)
-          | inr same ↦ inr (here ∙ ap (λ (t : List ℕ). Some t) same)
+          | inr same ↦ inr (here ∙ ap (λ (t : List ℕ). Some t) (sym same))
         ]),
-        λ within. elim (more.0 within) [
-          | inl was ↦ Contains-append_left old (name ∷ []) s ((are s).1 was)
-          | inr e ↦ subst (Contains (old ++ name ∷ [])) (some_is name s (sym here ∙ e)) (Contains-push old name)
-        ],
+        λ within. (is s).1 (elim (more.0 within) [
+          | inl was ↦ inl ((are s).1 was)
+          | inr e ↦ inr (sym (some_is name s (sym here ∙ e)))
+        ]),
       )
 
   pub none_more : {T : Type 0} (v : T → List ℕ) (n : ℕ) (o : Option T) → n ≡ count + 1 → ((s : List ℕ) → Contains old s ↔ IsSetWithin pieces count s) → option_map v o ≡ set_of piece

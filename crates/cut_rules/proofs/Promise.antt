@@ -4,15 +4,15 @@ use Rattle.std.specs.Prelude.{Contains}
 use Rattle.std.proofs.lemmas.List.{get_or_default}
 use Rattle.std.proofs.lemmas.List.Elements.{Contains-append_cases, Contains-get_or}
 use Rattle.digraph.specs.Chains.{IsChain}
-use Rattle.digraph.proofs.Members.{first_member, first_or_later, later_member, no_member, one_member}
+use Rattle.digraph.proofs.Members.{first_member, later_member, no_member, one_member}
 use Rattle.cut_net.specs.declared.priced.Priced.{Priced}
 use Rattle.cut_net.specs.Network.{Network, none_there}
 use Rattle.cut_rules.specs.declared.file.File.{File}
 use Rattle.cut_rules.specs.declared.rule.RuleKind.{RuleKind}
 use Rattle.cut_rules.specs.declared.rule.RuleKind.TheVariants as kinds
-use Rattle.cut_rules.specs.RuleLines.{RuleLine, Forbid, ForbidImport, May, Restricts, Says}
+use Rattle.cut_rules.specs.RuleLines.{Forbid, ForbidImport, May, Restricts, Says}
 use Rattle.cut_rules.specs.Rules.{Counts, IsAllowed, IsIn}
-use Rattle.cut_rules.specs.Verdicts.{import_at, Breaks, BreaksRule, ByForbid, ByForbidImport, ByMay, IsEntryPath, IsFirstMay, IsForbidden, IsForbiddenPath, IsOnPath, IsViolation, PathByForbid, PathByForbidImport, PathByMay, Violation}
+use Rattle.cut_rules.specs.Verdicts.{import_at, Breaks, BreaksRule, ByForbid, ByForbidImport, ByMay, IsForbidden, IsForbiddenPath, IsOnPath, PathByForbid, PathByForbidImport, PathByMay}
 use Rattle.cut_rules.proofs.LineLaws.{says_one}
 
 -- one edge more

@@ -1,9 +1,7 @@
 -- One rule after the other, in the order of their lines.
-use Rattle.std.proofs.Common.{◌≡◌, ◌∙◌, ◌+◌, ◌<◌, ◌≤◌, ◌⊎◌, ℕ, inl, inr, List, [], ◌∷◌, ◌++◌, Some, length, get_or, sym, ap, subst, arith}
-use Rattle.std.specs.Prelude.{AllPairs, Contains, slice_get}
+use Rattle.std.proofs.Common.{◌≡◌, ◌∙◌, ◌+◌, ◌<◌, ◌≤◌, ℕ, inl, inr, List, [], Some, length, sym, ap, arith}
+use Rattle.std.specs.Prelude.{AllPairs, slice_get}
 use Rattle.std.proofs.lemmas.Bool.{cases_eq, cases_lt}
-use Rattle.std.proofs.lemmas.List.{get_or_default}
-use Rattle.std.proofs.lemmas.List.Elements.{Contains-get_or}
 use Rattle.std.proofs.lemmas.Option.{get_or_from_slice_get, same_Some, slice_get-get_or, slice_get_within}
 use Rattle.digraph.proofs.Members.{no_member}
 use Rattle.cut_net.specs.Network.{Network}
@@ -13,9 +11,9 @@ use Rattle.cut_rules.specs.declared.rule.Rule.{Rule}
 use Rattle.cut_rules.specs.declared.rule.RuleKind.{RuleKind}
 use Rattle.cut_rules.specs.declared.rule.RuleKind.TheVariants as kinds
 use Rattle.cut_rules.specs.RuleLines.{Restricts, Says}
-use Rattle.cut_rules.specs.Judged.{AreBelow, AreOfRule, IsBound}
+use Rattle.cut_rules.specs.Judged.{AreOfRule, IsBound}
 use Rattle.cut_rules.specs.Outcomes.{AreRulesOf}
-use Rattle.cut_rules.specs.Verdicts.{Breaks, ByForbid, ByForbidImport, ByMay, IsForbidden, Violation}
+use Rattle.cut_rules.specs.Verdicts.{Breaks, ByForbid, ByForbidImport, ByMay, IsForbidden}
 use Rattle.cut_rules.proofs.Pieces.{says_low}
 use Rattle.cut_rules.proofs.Violations.{IsGap}
 

@@ -61,6 +61,7 @@ module _ (net : Network) (files : List File) (sets pieces : List (List ℕ)) whe
       λ e. absurd (false≢true (sym (ap (list_any _) is.pairs) ∙ e)),
       λ (line, le, says). absurd (no_line_at line (Allow m n) le says),
     );
+    last_set = rw is.last_set tt;
   }
     where
       none_in : (number m : ℕ) → IsMember files draft.table number m → ⊥

@@ -1,15 +1,13 @@
 -- What is written of an import, and of one rule after the other.
-use Rattle.std.proofs.Common.{◌≡◌, ◌∙◌, ◌+◌, ◌<◌, ◌≤◌, ◌⊎◌, ℕ, Bool, true, false, inl, inr, List, [], ◌∷◌, ◌++◌, Option, Some, Result, Ok, Err, length, get_or, map, take, drop, refl, sym, ap, subst, codes, arith, append_assoc, append-nil}
-use Rattle.std.specs.Prelude.{Contains, OnOk, if◌then◌else◌, not, slice_get}
+use Rattle.std.proofs.Common.{◌≡◌, ◌∙◌, ◌+◌, ◌<◌, ℕ, Bool, true, false, List, [], ◌∷◌, ◌++◌, Option, Some, Result, Ok, Err, length, get_or, map, take, drop, sym, ap, subst, codes, append_assoc, append-nil}
+use Rattle.std.specs.Prelude.{OnOk, if◌then◌else◌, slice_get}
 use Rattle.std.specs.Result.{is_err, is_ok}
 use Rattle.std.specs.Fmt.{decimal}
 use Rattle.std.specs.List.{flat_map}
 use Rattle.std.proofs.KnownBytes.{Appends-nil}
 use Rattle.std.proofs.lemmas.Grind.{flat_map-append}
-use Rattle.std.proofs.lemmas.Bool.{cases_Bool, cases_eq, cases_lt}
 use Rattle.std.proofs.lemmas.List.{get_or_default, map-append}
 use Rattle.std.proofs.lemmas.List.Elements.{Contains-get_or}
-use Rattle.std.proofs.lemmas.Option.{same_Some, slice_get-get_or, slice_get_within}
 use Rattle.byte_sink.specs.Sinks.{AppendsFront}
 use Rattle.text_escape.specs.Places.{Style, location_text}
 use Rattle.text_pieces.specs.Pieces.{PutsAllBut}
@@ -21,13 +19,12 @@ use Rattle.cut_net.specs.Network.{Network, name_of, none_there}
 use Rattle.cut_net.specs.WellFormed.{IsNetwork}
 use Rattle.cut_rules.specs.declared.file.File.{File}
 use Rattle.cut_rules.specs.declared.reading.Rules.{Rules}
-use Rattle.cut_rules.specs.declared.rule.Rule.{Rule}
 use Rattle.cut_rules.specs.declared.rule_search.RuleSearch.{RuleSearch}
 use Rattle.cut_rules.specs.declared.rule.StaleAllow.{StaleAllow}
 use Rattle.cut_rules.specs.declared.site.Site.{Site}
-use Rattle.cut_rules.specs.Judged.{AreBelow, AreOfRule, IsBound, IsSearchFor}
+use Rattle.cut_rules.specs.Judged.{AreOfRule, IsSearchFor}
 use Rattle.cut_rules.specs.Outcomes.{AreRulesOf}
-use Rattle.cut_rules.specs.Verdicts.{import_at, site_text, spaced, stale_line, stale_of, violation_line, Breaks, IsViolation, Violation}
+use Rattle.cut_rules.specs.Verdicts.{import_at, site_text, spaced, stale_line, stale_of, violation_line, Breaks, Violation}
 use Rattle.cut_rules.proofs.Pieces.{says_low}
 use Rattle.cut_rules.proofs.Violations.{least_as, one_here}
 

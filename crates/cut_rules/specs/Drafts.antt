@@ -1,5 +1,5 @@
 -- Rules that are read line by line. A name has a number: a module its own, and a set its index among the sets, after the numbers of all modules.
-use Rattle.std.specs.Prelude.{◌≡◌, ◌↔◌, ◌⊎◌, ℕ, ◌+◌, ◌<◌, ◌≤◌, Bool, true, false, List, [], length, Option, Some, None, Result, Ok, Err, String, option_map, slice_get, slice_index_or, AllPairs, Contains}
+use Rattle.std.specs.Prelude.{◌≡◌, ◌↔◌, ◌⊎◌, ℕ, ◌+◌, ◌<◌, ◌≤◌, Bool, true, false, List, [], length, Option, Some, None, Result, Ok, Err, String, IfSome, option_map, slice_get, slice_index_or, AllPairs, Contains}
 use Rattle.std.specs.BTreeSet.{BTreeSet, contains_by}
 use Rattle.std.specs.Cmp.Lexicographic.{slice_cmp}
 use Rattle.std.specs.Ordering.{nat_cmp, ordering_then}
@@ -7,6 +7,7 @@ use Rattle.digraph.specs.Marks.{marked}
 use Rattle.cut_net.specs.Network.{Network, index_of, name_of, none_there, texts, unpinned}
 use Rattle.cut_rules.specs.declared.draft.Draft.{Draft}
 use Rattle.cut_rules.specs.declared.draft.LineContext.{LineContext}
+use Rattle.cut_rules.specs.declared.draft.NumberedSet.{NumberedSet}
 use Rattle.cut_rules.specs.declared.fault.RulesFault.{RulesFault}
 use Rattle.cut_rules.specs.declared.file.File.{File}
 use Rattle.cut_rules.specs.declared.rule.Rule.{Rule}
@@ -31,6 +32,14 @@ number_by nodes None set = option_map (λ k. nodes + k) set
 -- the number of the name
 abbrev pub number_of : Network → List (List ℕ) → List ℕ → Option ℕ
 number_of net sets name = number_by (length net.names) (index_of net name) (index_of (unpinned sets []) name)
+
+-- the name is no module's, and this is its number
+abbrev pub IsSetNumber : Network → List (List ℕ) → List ℕ → ℕ → Type 0
+IsSetNumber net sets name number = (index_of net name ≡ None) × (number_of net sets name ≡ Some number)
+
+-- a set, if there is one, with its number
+abbrev pub IsLastSet : Network → List (List ℕ) → Option NumberedSet → Type 0
+IsLastSet net sets last = IfSome last (λ (set : NumberedSet). IsSetNumber net sets set.name.now set.number)
 
 -- the names are those of the sets
 abbrev pub AreSets : {Z : Type 0} → List (String Z) → List (List ℕ) → Type 0
@@ -140,6 +149,7 @@ pub record IsDraft (net : Network) (files : List File) (sets pieces : List (List
   pub allowed : AreAllowed net pieces count draft.allowed.items
   pub stale : AreStale net pieces count draft.stale.items
   pub pairs : ArePairs draft.pairs (λ key. key.0.now) (λ key. key.1.now) pieces count
+  pub last_set : IsLastSet net sets draft.last_set
 
 -- the line of this number is the builder's last one, or this is the first fault of the text
 abbrev pub Takes : Network → List File → List (List ℕ) → List (List ℕ) → ℕ → Result (Unit {0}) RulesFault → Draft → Type 0
@@ -167,3 +177,4 @@ pub record IsEmptyFor (net : Network) (draft : Draft) : Type 0 where
   pub none : (k : ℕ) → marked draft.allowed.items k ≡ false
   pub stale : draft.stale.items ≡ []
   pub pairs : draft.pairs.keys ≡ []
+  pub last_set : draft.last_set ≡ None

@@ -1,8 +1,8 @@
 //! Rules that are read line by line.
 ghost use Rattle.std.specs.Prelude.{◌≡◌, IfErr, IfOk, List, MatchResult, None, Some, ℕ, Contains};
-ghost use Rattle.cut_net.specs.Network.{index_of, texts};
+ghost use Rattle.cut_net.specs.Network.{texts};
 ghost use Rattle.cut_net.specs.WellFormed.{AreNamesInOrder};
-ghost use Rattle.cut_rules.specs.Drafts.{number_of, IsStated, IsTextSoFar, Takes};
+ghost use Rattle.cut_rules.specs.Drafts.{number_of, IsLastSet, IsSetNumber, IsStated, IsTextSoFar, Takes};
 ghost use Rattle.cut_rules.specs.Faults.{cause_of, UnlessMemory};
 ghost use Rattle.cut_rules.specs.Folders.{ArePathsInOrder};
 ghost use Rattle.cut_rules.specs.LineReading.{selector_content};
@@ -31,6 +31,15 @@ pub(crate) struct Draft<'a> {
     pub(crate) stale: Vec<StaleAllow<'a>>,
     /// The two names of each `allow` line.
     pub(crate) pairs: BTreeSet<(&'a str, &'a str)>,
+    /// The set of the last line that adds modules, and its number: most lines have the same set as the line before.
+    pub(crate) last_set: Option<NumberedSet<'a>>,
+}
+
+/// The name of a set, and its number.
+#[derive(Clone, Copy)]
+pub(crate) struct NumberedSet<'a> {
+    pub(crate) name: &'a str,
+    pub(crate) number: usize,
 }
 
 /// What a line is read for.
@@ -69,7 +78,7 @@ impl LineContext<'_> {
     fn set_number(&self, set: &str) -> Result<usize, RulesFault>
         requires ascending { AreNamesInOrder (texts self.now.sets.now) }
         requires known { Contains (texts self.now.sets.now) set.now }
-        ensures right { IfOk result (λ number. (index_of self.now.net.now set.now ≡ None) × (number_of self.now.net.now (texts self.now.sets.now) set.now ≡ Some number)) }
+        ensures right { IfOk result (IsSetNumber self.now.net.now (texts self.now.sets.now) set.now) }
         ensures wrong { IfErr result (λ fault. UnlessMemory fault (Contains self.now.net.now.names set.now × (cause_of fault ≡ Some (self.now.line, SetIsModule set.now)))) }
     {
         if self.net.index_of(set).is_some() {
@@ -106,12 +115,35 @@ impl LineContext<'_> {
     }
 }
 
+/// The number of the set of a line, or `SetIsModule`. It is looked up unless the last set is the same.
+fn number_of_set<'a>(
+    last: &mut Option<NumberedSet<'a>>,
+    context: &LineContext<'_>,
+    set: &'a str,
+) -> Result<usize, RulesFault>
+    requires ascending { AreNamesInOrder (texts context.now.sets.now) }
+    requires known { Contains (texts context.now.sets.now) set.now }
+    requires last { IsLastSet context.now.net.now (texts context.now.sets.now) last.old }
+    ensures right { IfOk result (IsSetNumber context.now.net.now (texts context.now.sets.now) set.now) }
+    ensures wrong { IfErr result (λ fault. UnlessMemory fault (Contains context.now.net.now.names set.now × (cause_of fault ≡ Some (context.now.line, SetIsModule set.now)))) }
+    ensures last { IsLastSet context.now.net.now (texts context.now.sets.now) last.new }
+{
+    if let Some(known) = *last
+        && known.name == set
+    {
+        return Ok(known.number);
+    }
+    let number = context.set_number(set)?;
+    *last = Some(NumberedSet { name: set, number });
+    Ok(number)
+}
+
 impl<'a> Draft<'a> {
     /// Adds the modules of a line to its set.
     fn add(
         &mut self,
         context: &LineContext<'_>,
-        set: &str,
+        set: &'a str,
         selector: Selector<'_>,
     ) -> Result<(), RulesFault>
         requires ascending { AreNamesInOrder (texts context.now.sets.now) }
@@ -119,7 +151,7 @@ impl<'a> Draft<'a> {
         requires stated { (pieces : List (List ℕ)) × IsStated context.now pieces (Adds set.now (selector_content selector)) self.old }
         ensures { (pieces : List (List ℕ)) → IsStated context.now pieces (Adds set.now (selector_content selector.entry)) self.old → Takes context.now.net.now context.now.files.now (texts context.now.sets.now) pieces context.now.line result self.new }
     {
-        let name = context.set_number(set)?;
+        let name = number_of_set(&mut self.last_set, context, set)?;
         if !self.table.add(context, name, selector)? {
             return Err(context.empty_fault(set, selector)?);
         }

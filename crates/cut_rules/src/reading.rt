@@ -45,6 +45,7 @@ fn empty<'a>(alloc: Global, net: &Net) -> Result<Draft<'a>, AllocError>
         allowed: vec![in alloc; false; net.imports().len()]?,
         stale: Vec::new(alloc),
         pairs: BTreeSet::new(alloc),
+        last_set: None,
     })
 }
 

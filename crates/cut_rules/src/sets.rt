@@ -1,5 +1,5 @@
 //! The names of the sets of a rules text.
-ghost use Rattle.std.specs.Prelude.{◌≡◌, ◌↔◌, ℕ, Contains, IfOk, List, option_map};
+ghost use Rattle.std.specs.Prelude.{◌≡◌, ◌↔◌, ◌⊎◌, ℕ, Contains, IfOk, List, OnOk, option_map};
 ghost use Rattle.std.specs.List.Sorted.{IsStrictlySortedBy};
 ghost use Rattle.std.specs.Ordering.{nat_cmp};
 ghost use Rattle.std.specs.Cmp.Lexicographic.{slice_cmp};
@@ -23,26 +23,55 @@ fn set_in(piece: &[u8]) -> Option<&str>
     }
 }
 
-/// The sets of the lines, as they come.
-fn set_names(alloc: Global, bytes: &[u8]) -> Result<Vec<String>, AllocError>
-    ensures { IfOk result (λ names. (s : List ℕ) → Contains (texts names.items) s ↔ IsSet (pieces_of bytes.now) s) }
+/// Adds a name, unless it is the last one.
+fn add_name(alloc: Global, names: &mut Vec<String>, name: &str) -> Result<(), AllocError>
+    ensures { OnOk result ((s : List ℕ) → Contains (texts names.new.items) s ↔ (Contains (texts names.old.items) s ⊎ (s ≡ name.now))) }
 {
-    let mut names = Vec::new(alloc);
-    for piece in bytes.split(|b| *b == b'\n') {
-        if let Some(name) = set_in(piece) {
-            names.push(String::from_str(alloc, name)?)?;
-        }
+    if let Some(last) = names.last()
+        && last.as_str() == name
+    {
+        return Ok(());
     }
-    Ok(names)
+    names.push(String::from_str(alloc, name)?)?;
+    Ok(())
 }
 
-/// Puts the names in ascending order, each once.
+/// Sorts the names, each once.
 fn put_in_order(names: &mut Vec<String>)
     ensures ascending { AreNamesInOrder (texts names.new.items) }
     ensures same { (n : List ℕ) → Contains (texts names.new.items) n ↔ Contains (texts names.old.items) n }
 {
     names.sort_unstable();
     names.dedup();
+}
+
+/// So many names may be in a list before repeated ones are removed.
+const MANY: usize = 1024;
+
+/// Removes repeated names if there are more names than this, and returns how many there may be until the next time.
+fn remove_repeats(names: &mut Vec<String>, most: usize) -> usize
+    ensures { (s : List ℕ) → Contains (texts names.new.items) s ↔ Contains (texts names.old.items) s }
+{
+    if names.len() <= most {
+        return most;
+    }
+    put_in_order(names);
+    names.len().saturating_mul(2).max(MANY)
+}
+
+/// The sets of the lines, some of them repeated.
+fn set_names(alloc: Global, bytes: &[u8]) -> Result<Vec<String>, AllocError>
+    ensures { IfOk result (λ names. (s : List ℕ) → Contains (texts names.items) s ↔ IsSet (pieces_of bytes.now) s) }
+{
+    let mut names = Vec::new(alloc);
+    let mut most = MANY;
+    for piece in bytes.split(|b| *b == b'\n') {
+        if let Some(name) = set_in(piece) {
+            add_name(alloc, &mut names, name)?;
+            most = remove_repeats(&mut names, most);
+        }
+    }
+    Ok(names)
 }
 
 /// The sets of which the lines say something: ascending, each once.

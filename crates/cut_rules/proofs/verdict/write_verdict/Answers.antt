@@ -1,11 +1,8 @@
-use Rattle.std.proofs.Common.{◌≡◌, ◌<◌, ◌∙◌, ◌++◌, ◌∷◌, [], ℕ, Bool, false, List, Ok, Err, length, vec_len, get_or, map, refl, sym, ap, subst, codes, arith}
+use Rattle.std.proofs.Common.{◌≡◌, ◌<◌, ◌∙◌, ◌++◌, ◌∷◌, [], ℕ, Bool, false, List, Ok, length, get_or, map, refl, sym, ap, subst, codes, arith}
 use Rattle.std.specs.Prelude.{◌==◌, ◌↔◌, Contains, if◌then◌else◌, not}
-use Rattle.std.specs.List.{flat_map}
 use Rattle.std.specs.String.{string_bytes}
 use Rattle.std.proofs.lemmas.List.Elements.{Contains-get_or}
 use Rattle.std.proofs.lemmas.Result.{err_from_is_err_and}
-use Rattle.byte_sink.specs.declared.sink.SinkFault.TheVariants as sink_faults
-use Rattle.byte_sink.specs.Sinks.{AppendsFront, Puts}
 use Rattle.text_escape.specs.Places.{style_of, writer_style}
 use Rattle.digraph.specs.declared.edge.Edge.{Edge}
 use Rattle.cut_net.specs.Network.{none_there}

@@ -14,10 +14,13 @@ use Rattle.cut_rules.proofs.Numbers.{no_module}
 use Rattle.cut_rules.proofs.DraftLaws.{allowed_same, made, pairs_same, refused, rules_same, stale_same, table_added}
 use Rattle.cut_rules.proofs.draft.Draft.add.Goals as goal
 
-pub set_number-requires-clause-known : goal.set_number-requires-clause-known
-set_number-requires-clause-known c =
+pub number_of_set-requires-clause-known : goal.number_of_set-requires-clause-known
+number_of_set-requires-clause-known c =
     let (pieces, (t, says)) = c.requires.stated in
     (t.sets_are c.args.set.now).1 (c.args.context.now.line, selector_content c.args.selector, says)
+
+pub number_of_set-requires-clause-last : goal.number_of_set-requires-clause-last
+number_of_set-requires-clause-last c = let (pieces, (t, says)) = c.requires.stated in t.drafted.last_set
 
 pub returns-in_err-name : goal.returns-in_err-name
 returns-in_err-name c = λ pieces (t, says).
@@ -87,3 +90,4 @@ returns c = λ pieces (t, says).
     (allowed_same net files sets pieces t.place c.args.self.now.allowed.items (λ m n also. let e = says_one pieces (t.place + 1) (Allow m n) (Adds s selector) also here in cc) t.drafted.allowed)
     (stale_same net files sets pieces t.place c.args.self.now.stale.items (λ m n also. let e = says_one pieces (t.place + 1) (Allow m n) (Adds s selector) also.0 here in cc) t.drafted.stale)
     (pairs_same net files sets pieces t.place c.args.self.now.pairs (λ key. key.0.now) (λ key. key.1.now) (λ m n also. let e = says_one pieces (t.place + 1) (Allow m n) (Adds s selector) also here in cc) t.drafted.pairs)
+    c.in_ok-name.ensures.last

@@ -57,6 +57,7 @@ returns-in_default c = λ pieces (t, says).
     (subst (AreStale net pieces (t.place + 1)) (sym c.in_ok-push.ensures.items)
     (stale_added net files sets pieces t.place m n here c.args.self.now.stale.items (record { line = context.line; importer = c.args.importer; imported = c.args.imported }) t.number refl refl lacks t.drafted.stale))
     (pairs_added (λ key. key.0.now) (λ key. key.1.now) pieces t.place c.args.self.now.pairs c.insert.new.self (c.args.importer, c.args.imported) c.in_ok-insert.ensures.keys here t.drafted.pairs)
+    t.drafted.last_set
 
 pub returns : goal.returns
 returns c = λ pieces (t, says).
@@ -78,3 +79,4 @@ returns c = λ pieces (t, says).
     (allowed_added net files sets pieces t.place m n here c.keeps.ensures.network c.args.self.now.allowed.items c.in-Some.number found.0 found.1 t.drafted.allowed)
     (stale_same net files sets pieces t.place c.args.self.now.stale.items (fresh net files sets pieces t.place m n here c.in-Some.number found.0 found.1) t.drafted.stale)
     (pairs_added (λ key. key.0.now) (λ key. key.1.now) pieces t.place c.args.self.now.pairs c.insert.new.self (c.args.importer, c.args.imported) c.in_ok-insert.ensures.keys here t.drafted.pairs)
+    t.drafted.last_set

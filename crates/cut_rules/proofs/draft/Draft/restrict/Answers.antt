@@ -94,3 +94,4 @@ returns c = λ pieces (t, says).
     (allowed_same net files sets pieces t.place c.args.self.now.allowed.items (λ m n also. let e = says_one pieces (t.place + 1) (Allow m n) (Restricts kind x y) also here in cc) t.drafted.allowed)
     (stale_same net files sets pieces t.place c.args.self.now.stale.items (λ m n also. let e = says_one pieces (t.place + 1) (Allow m n) (Restricts kind x y) also.0 here in cc) t.drafted.stale)
     (pairs_same net files sets pieces t.place c.args.self.now.pairs (λ key. key.0.now) (λ key. key.1.now) (λ m n also. let e = says_one pieces (t.place + 1) (Allow m n) (Restricts kind x y) also here in cc) t.drafted.pairs)
+    t.drafted.last_set

@@ -30,6 +30,7 @@ returns-then-is_idle c = λ pieces at t.
     (allowed_same net files sets pieces t.place c.args.self.now.allowed.items (λ m n. none (Allow m n)) t.drafted.allowed)
     (stale_same net files sets pieces t.place c.args.self.now.stale.items (λ m n is. none (Allow m n) is.0) t.drafted.stale)
     (pairs_same net files sets pieces t.place c.args.self.now.pairs (λ key. key.0.now) (λ key. key.1.now) (λ m n. none (Allow m n)) t.drafted.pairs)
+    t.drafted.last_set
 
 pub returns-in-None : goal.returns-in-None
 returns-in-None c = λ pieces at t.

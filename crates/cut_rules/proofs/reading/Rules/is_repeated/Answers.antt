@@ -1,4 +1,4 @@
-use Rattle.std.proofs.Common.{◌≡◌, ◌<◌, ◌≤◌, ℕ, List, Bool, false, true, inl, inr, length, ap, sym, subst, arith}
+use Rattle.std.proofs.Common.{◌≡◌, List, false, true, inl, inr, ap, sym, subst, arith}
 use Rattle.std.specs.Prelude.{Contains}
 use Rattle.std.proofs.lemmas.List.{take_all}
 use Rattle.cut_rules.specs.declared.rule.Rule.{Rule}

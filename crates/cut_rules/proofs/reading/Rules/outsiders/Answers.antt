@@ -1,11 +1,11 @@
-use Rattle.std.proofs.Common.{◌≡◌, ◌+◌, ◌<◌, ℕ, Bool, List, true, false, get_or, length, take, vec_len, refl, ap, sym, subst, ◌∙◌, arith}
+use Rattle.std.proofs.Common.{◌≡◌, ◌+◌, ℕ, Bool, List, true, false, get_or, take, vec_len, refl, ap, sym, subst, ◌∙◌, arith}
 use Rattle.std.specs.Prelude.{◌↔◌, Contains}
 use Rattle.std.specs.Global.{Vec}
 use Rattle.std.proofs.lemmas.List.{get_or-replicate, take_all}
 use Rattle.std.proofs.lemmas.List.Elements.{Contains-get_or}
 use Rattle.digraph.specs.Marks.{marked}
 use Rattle.cut_rules.specs.declared.rule.Rule.{Rule}
-use Rattle.cut_rules.specs.Judged.{IsMarkSet, IsMayOf, IsOutsiderOf}
+use Rattle.cut_rules.specs.Judged.{IsMarkSet, IsOutsiderOf}
 use Rattle.cut_rules.proofs.NodeMarks.{outside_first, outside_more, outside_same}
 use Rattle.cut_rules.proofs.reading.Rules.outsiders.Goals as goal
 use Rattle.cut_rules.proofs.reading.Rules.outsiders.Goals.{then-is_may_of+in_ok-members, else-is_may_of}

@@ -1,5 +1,5 @@
 use Rattle.std.proofs.Common.{◌≡◌, ◌<◌, ℕ, true, length, take, vec_len}
-use Rattle.std.specs.Prelude.{◌↔◌, Contains}
+use Rattle.std.specs.Prelude.{◌↔◌}
 use Rattle.digraph.specs.Marks.{marked}
 use Rattle.cut_rules.specs.Judged.{IsOutsiderOf}
 use Rattle.cut_rules.proofs.reading.Rules.outsiders.Given as goal

@@ -1,10 +1,9 @@
-use Rattle.std.proofs.Common.{◌≡◌, ◌<◌, ◌≤◌, ◌+◌, ◌∙◌, ◌++◌, ◌∷◌, [], ℕ, Bool, true, false, List, length, get_or, vec_len, refl, sym, ap, subst, arith}
+use Rattle.std.proofs.Common.{◌≡◌, ◌<◌, ◌+◌, ◌∙◌, ◌++◌, ◌∷◌, [], ℕ, true, false, List, get_or, vec_len, refl, sym, ap, subst, arith}
 use Rattle.std.specs.String.{string_bytes}
 use Rattle.std.proofs.lemmas.Result.{err_from_is_err_and}
 use Rattle.text_escape.specs.Places.{writer_style}
 use Rattle.text_pieces.proofs.Joining.{no_front}
 use Rattle.digraph.specs.Edges.{Leads}
-use Rattle.digraph.specs.Marks.{marked}
 use Rattle.digraph.specs.ShortestPaths.{IsPathAround, IsShortestPath}
 use Rattle.cut_net.specs.declared.priced.Priced.{Priced}
 use Rattle.cut_net.specs.Network.{none_there}

@@ -1,9 +1,6 @@
-use Rattle.std.proofs.Common.{◌≡◌, ◌<◌, ◌∙◌, [], ℕ, List, length, vec_len, refl, subst, arith}
+use Rattle.std.proofs.Common.{◌≡◌, []}
 use Rattle.std.proofs.lemmas.Result.{err_from_is_err_and}
 use Rattle.text_pieces.proofs.Joining.{no_front}
-use Rattle.cut_rules.specs.declared.file.File.{File}
-use Rattle.cut_rules.specs.Judged.{IsRuleSearch, IsSearchFor}
-use Rattle.cut_rules.specs.Outcomes.{AreRulesOf}
 use Rattle.cut_rules.proofs.Judging.{searched_rule}
 use Rattle.cut_rules.proofs.Violations.{none_between}
 use Rattle.cut_rules.proofs.verdict.Judgement.write_rule.Goals as goal

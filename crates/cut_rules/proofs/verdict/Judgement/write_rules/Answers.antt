@@ -1,5 +1,5 @@
-use Rattle.std.proofs.Common.{◌≡◌, ◌<◌, ◌≤◌, ◌+◌, ◌∙◌, ◌++◌, ◌||◌, [], ℕ, Bool, true, false, List, Some, length, get_or, refl, sym, ap, subst, rules, arith, append-nil}
-use Rattle.std.specs.Prelude.{Contains, not, slice_get}
+use Rattle.std.proofs.Common.{◌≡◌, ◌+◌, ◌∙◌, ◌++◌, [], true, false, List, Some, length, get_or, refl, sym, ap, subst, rules, arith, append-nil}
+use Rattle.std.specs.Prelude.{Contains, slice_get}
 use Rattle.std.specs.List.{flat_map}
 use Rattle.std.specs.String.{string_bytes}
 use Rattle.text_pieces.specs.Pieces.{PutsAllBut}
@@ -10,7 +10,7 @@ use Rattle.std.proofs.lemmas.Option.{slice_get-get_or}
 use Rattle.std.proofs.lemmas.Result.{err_from_is_err_and}
 use Rattle.text_escape.specs.Places.{writer_style}
 use Rattle.cut_rules.specs.declared.rule.Rule.{Rule}
-use Rattle.cut_rules.specs.Verdicts.{is_none, violation_line, Breaks, Violation}
+use Rattle.cut_rules.specs.Verdicts.{violation_line}
 use Rattle.cut_rules.proofs.Judging.{repeated_rule}
 use Rattle.cut_rules.proofs.RuleOrder.{no_rule, bound_next, bound_start, gap, none_of_rule, past_all}
 use Rattle.cut_rules.proofs.Violations.{all_below, any_more, below_more, first_of_all, none_below}

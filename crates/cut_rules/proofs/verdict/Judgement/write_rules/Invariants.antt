@@ -1,11 +1,10 @@
-use Rattle.std.proofs.Common.{◌≡◌, ◌++◌, ◌<◌, ◌≤◌, ℕ, List, drop, take}
-use Rattle.std.specs.Prelude.{Contains, not}
+use Rattle.std.proofs.Common.{◌≡◌, ◌++◌, ℕ, List}
+use Rattle.std.specs.Prelude.{not}
 use Rattle.std.specs.List.{flat_map}
 use Rattle.std.specs.String.{string_bytes}
 use Rattle.text_escape.specs.Places.{writer_style}
 use Rattle.text_pieces.specs.Pieces.{PutsAllBut}
 use Rattle.cut_rules.specs.declared.file.File.{File}
-use Rattle.cut_rules.specs.declared.rule.Rule.{Rule}
 use Rattle.cut_rules.specs.Judged.{AreBelow, IsBound}
 use Rattle.cut_rules.specs.Outcomes.{AreRulesOf}
 use Rattle.cut_rules.specs.Verdicts.{is_none, violation_line, Violation}

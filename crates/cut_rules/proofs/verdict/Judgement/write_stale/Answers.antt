@@ -1,8 +1,7 @@
-use Rattle.std.proofs.Common.{◌≡◌, ◌<◌, ◌+◌, ◌∙◌, ◌++◌, ℕ, List, length, drop, get_or, take, ap, sym, subst, rules, arith}
+use Rattle.std.proofs.Common.{◌≡◌, ◌∙◌, drop, take, rules}
 use Rattle.std.specs.String.{string_bytes}
 use Rattle.std.proofs.lemmas.Result.{err_from_is_err_and}
-use Rattle.text_pieces.proofs.Joining.{front_joined, joined, lines, lines_around, lines_more, lines_split, some_front}
-use Rattle.cut_rules.specs.declared.rule.StaleAllow.{StaleAllow}
+use Rattle.text_pieces.proofs.Joining.{lines, lines_split, some_front}
 use Rattle.cut_rules.specs.Verdicts.{stale_line, stale_of}
 use Rattle.cut_rules.proofs.Writing.{on_ok, stale_front, stale_next}
 use Rattle.cut_rules.proofs.verdict.Judgement.write_stale.Goals as goal
