@@ -12,6 +12,7 @@ use Rattle.ob_tree.specs.Marks.{if_there as outline_there, each as outline_each}
 use Rattle.ob_tree.specs.Expressions.{selector_outline}
 use Rattle.ob_tree.proofs.ExpressionInduction.{With}
 use Rattle.ob_tree.proofs.ExpressionLayers.{selector_shown}
+use Rattle.ob_rows.specs.declared.rows.Step.TheVariants as steps
 use Rattle.ob_rows.specs.Parts.{Piece, nothing, token, both, if_there, each}
 use Rattle.ob_decls.specs.Expressions.{Selected, each_after, selected}
 use Rattle.ob_decls.proofs.ExpressionLayers as told
@@ -19,6 +20,11 @@ use Rattle.ob_decls.proofs.ExpressionLayers as told
 -- a selector whose outline is related to what it tells
 abbrev pub IsSelector : (Selected → Out → Type 0) → Selector → Type 0
 IsSelector S s = S (selected s) (selector_outline s)
+
+-- a selector that is no dot and name
+pub record IsNoField (s : Selected) : Type 0 where
+  pub name : s.name ≡ None
+  pub step : (k n : ℕ) → s.step k ≡ steps.Field n → ⊥
 
 -- R relates the piece of a part to its outline, S what a selector tells to its outline
 pub record IsCompatible (R : Piece → Out → Type 0) (S : Selected → Out → Type 0) : Type 0 where
@@ -28,7 +34,7 @@ pub record IsCompatible (R : Piece → Out → Type 0) (S : Selected → Out →
   pub one_after : {p q : Piece} {a b : Out} → R p a → R q b → R (both p q) (a ++ b)
   pub held : (c : Construct) {p : Piece} {o : Out} → R p o → R p (construct c o)
   pub a_field : (n : ℕ) → S (told.selector_shown (layers.Field n)) (construct constructs.Selector (selector_shown (layers.Field n)))
-  pub a_selector : (s : Selected) {o : Out} → R s.piece o → S s o
+  pub a_selector : (s : Selected) {o : Out} → IsNoField s → R s.piece o → S s o
   pub a_designator : (w : Bool) (n : ℕ) (ss : List (With (IsSelector S))) →
       R (told.selectors_shown w (map selected (map (λ s. s.0) ss))) (used n ++ outline_each selector_outline (map (λ s. s.0) ss))
 

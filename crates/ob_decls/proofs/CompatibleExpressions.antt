@@ -1,5 +1,5 @@
 -- A compatible relation holds of the piece of each expression and its outline.
-use Rattle.std.proofs.Common.{Bool, false, ◌++◌, Option, Some, None}
+use Rattle.std.proofs.Common.{◌≡◌, ℕ, Bool, false, ◌++◌, Option, Some, None, refl}
 use Rattle.std.specs.declared.boxed.Box.{Box}
 use Rattle.std.specs.declared.alloc.Global.{Global}
 use Rattle.ob_scan.specs.declared.kind.Kind.TheVariants as kinds
@@ -14,6 +14,7 @@ use Rattle.ob_tree.specs.Marks.{Out, construct, word, if_there}
 use Rattle.ob_tree.specs.Expressions.{relation_kind, sign_kind, add_kind, mul_kind, factor_outline, designator_outline, element_outline, element_list_outline, expr_outline, expr_list_outline, sum_outline, term_outline}
 use Rattle.ob_tree.proofs.ExpressionInduction.{With, ExpressionPredicates, ExpressionSteps, WithFactor, WithSelector, WithDesignator, WithElement, WithElementList, WithExpr, WithExprList, WithSum, WithTerm, factor_of, selector_of, designator_of, element_of, element_list_of, expr_of, expr_list_of, sum_of, term_of, designator_induction, expr_induction}
 use Rattle.ob_tree.proofs.ExpressionLayers.{factor_shown, selector_shown, designator_shown, element_shown, element_list_shown, expr_shown, expr_list_shown, sum_shown, term_shown, factor_made, selector_made, designator_made, element_made, element_list_made, expr_made, expr_list_made, sum_made, term_made}
+use Rattle.ob_rows.specs.declared.rows.Step.TheVariants as steps_of
 use Rattle.ob_rows.specs.Parts.{Piece, token, both}
 use Rattle.ob_rows.specs.Parts.{if_there as there}
 use Rattle.ob_decls.specs.Expressions.{Selected, factor_piece, designator_piece, element_piece, element_list_piece, expr_piece, expr_list_piece, sum_piece, term_piece}
@@ -48,15 +49,15 @@ module _ {R : Piece → Out → Type 0} {S : Selected → Out → Type 0} (c : I
   factor_held (layers.Not f) = c.one_after (c.a_word kinds.Tilde) (c.held constructs.Negated f.value.1)
 
   -- a selector that is no field
-  other : (s : Selected) {o : Out} → R s.piece o → S s (construct constructs.Selector o)
-  other s {o} f = c.a_selector s (c.held constructs.Selector f)
+  other : (s : Selected) {o : Out} → s.name ≡ None → ((k n : ℕ) → s.step k ≡ steps_of.Field n → ⊥) → R s.piece o → S s (construct constructs.Selector o)
+  other s {o} name step f = c.a_selector s (record { name = name; step = step }) (c.held constructs.Selector f)
 
   selector_held : (y : WithSelector predicates) → S (told.selector_shown (selector_of predicates y)) (construct constructs.Selector (selector_shown (selector_of predicates y)))
   selector_held (layers.Field n) = c.a_field n
-  selector_held (layers.Index l) = other _ (c.one_after (c.a_word kinds.LeftBracket) (c.one_after l.value.1 (c.a_word kinds.RightBracket)))
-  selector_held layers.Target = other _ (c.a_word kinds.Caret)
-  selector_held (layers.Arguments None) = other _ (c.one_after (c.a_word kinds.LeftParen) (c.one_after c.nothing (c.a_word kinds.RightParen)))
-  selector_held (layers.Arguments (Some l)) = other _ (c.one_after (c.a_word kinds.LeftParen) (c.one_after l.value.1 (c.a_word kinds.RightParen)))
+  selector_held (layers.Index l) = other _ refl (λ k n e. cc) (c.one_after (c.a_word kinds.LeftBracket) (c.one_after l.value.1 (c.a_word kinds.RightBracket)))
+  selector_held layers.Target = other _ refl (λ k n e. cc) (c.a_word kinds.Caret)
+  selector_held (layers.Arguments None) = other _ refl (λ k n e. cc) (c.one_after (c.a_word kinds.LeftParen) (c.one_after c.nothing (c.a_word kinds.RightParen)))
+  selector_held (layers.Arguments (Some l)) = other _ refl (λ k n e. cc) (c.one_after (c.a_word kinds.LeftParen) (c.one_after l.value.1 (c.a_word kinds.RightParen)))
 
   high_held : (o : Option (With predicates.expr)) → R (there (λ h. both token (expr_piece h)) ((shapes.former-Element-high).map (With predicates.expr) Expr (λ e. e.0) o))
       (if_there (λ h. word kinds.DotDot ++ expr_outline h) ((shapes.former-Element-high).map (With predicates.expr) Expr (λ e. e.0) o))

@@ -1,11 +1,12 @@
 -- Where a tree derives tokens, the places of its identifiers are their numbers.
-use Rattle.std.proofs.Common.{◌≡◌, ℕ, zero, suc, ◌+◌, ◌<◌, ◌≤◌, ◌⊎◌, inl, inr, List, [], ◌∷◌, ◌++◌, length, get_or, map, Some, refl, sym, ap, ap₂, ◌∙◌, subst, arith}
+use Rattle.std.proofs.Common.{◌≡◌, ℕ, zero, suc, ◌+◌, ◌<◌, ◌≤◌, inl, inr, List, [], ◌∷◌, ◌++◌, length, get_or, map, Some, refl, sym, ap, ap₂, ◌∙◌, subst, arith}
 use Rattle.std.specs.Prelude.{Contains, slice_get}
 use Rattle.std.proofs.lemmas.Option.{get_or_from_slice_get, slice_get-get_or, slice_get_within}
 use Rattle.ob_scan.specs.declared.kind.Kind.{Kind}
 use Rattle.ob_scan.specs.declared.kind.Kind.TheVariants as kinds
 use Rattle.ob_tree.specs.declared.declaration.Module.{Module}
 use Rattle.ob_tree.specs.declared.expression.Literal.{Literal}
+use Rattle.ob_tree.specs.declared.role.Role.{Role}
 use Rattle.ob_tree.specs.declared.role.Role.TheVariants.{Declares, Aliases, Imports, Uses, Completes, Selects, Names, Repeats}
 use Rattle.ob_tree.specs.declared.token.Leaf.{Leaf}
 use Rattle.ob_tree.specs.declared.token.Leaf.TheVariants as leafs
@@ -25,8 +26,8 @@ use Rattle.ob_decls.proofs.Closing.{AreCounted, module_closes}
 use Rattle.ob_decls.proofs.LinedModules.{rows_in_order}
 use Rattle.ob_decls.proofs.Mirrored.{declares_at, uses_at}
 use Rattle.ob_decls.proofs.Named.{AtNames}
-use Rattle.ob_decls.proofs.NamedImports.{names_at, i-module}
-use Rattle.ob_decls.proofs.NamedModules.{m-module, module_named}
+use Rattle.ob_decls.proofs.Roles.{HasRole, OfDeclared, OfImport, OfUse, each_one, role_at}
+use Rattle.ob_decls.proofs.NamedModules.{m-module, module_named, module_roles}
 
 -- one token with the tokens behind it
 record IsStep (k : ℕ) (l : Leaf) (ls : List Leaf) : Type 0 where
@@ -97,99 +98,48 @@ counted_used ks m d = (m-module m).uses outermost 0 ∙ uses_counted 0 (module_o
 
 -- ---- the kinds of identifiers
 
--- of kinds that are numbered from k on, the one of this number is that of a name
-record IsIdentAt (k : ℕ) (ks : List Kind) (n : ℕ) : Type 0 where
-  place : ℕ
-  is : k + place ≡ n
-  there : slice_get ks place ≡ Some kinds.Ident
-
 ident_of : (k n : ℕ) (x : Kind) → leaf_of k x ≡ leafs.Name n → x ≡ kinds.Ident
 ident_of k n kinds.Ident e = refl
 ident_of k n x e = absurd cc
 
-here : (k : ℕ) (ks : List Kind) (m : ℕ) (ls : List Leaf) (n : ℕ) → leaves_from k ks ≡ leafs.Name m ∷ ls → k ≡ n → IsIdentAt k ks n
-here k [] m ls n e s = absurd cc
-here k (x ∷ ks) m ls n e s =
-    let head : leaf_of k x ≡ leafs.Name m = cc in
-    record { place = zero; is = omega (arith, s); there = ap Some (ident_of k m x head) }
+tail_of : (k : ℕ) (x : Kind) (ks : List Kind) (l : Leaf) (ls : List Leaf) → leaves_from k (x ∷ ks) ≡ l ∷ ls → leaves_from (suc k) ks ≡ ls
+tail_of k x ks l ls e = let t : leaves_from (k + 1) ks ≡ ls = cc in let s : suc k ≡ k + 1 = omega arith in ap (λ (j : ℕ). leaves_from j ks) s ∙ t
 
-behind : (k : ℕ) (ks : List Kind) (l : Leaf) (ls : List Leaf) (n : ℕ) → leaves_from k ks ≡ l ∷ ls → ((rest : List Kind) → leaves_from (suc k) rest ≡ ls → IsIdentAt (suc k) rest n) → IsIdentAt k ks n
-behind k [] l ls n e f = absurd cc
-behind k (x ∷ ks) l ls n e f =
-    let t : leaves_from (k + 1) ks ≡ ls = cc in
-    let s : suc k ≡ k + 1 = omega arith in
-    let h : IsIdentAt (suc k) ks n = f ks (ap (λ (j : ℕ). leaves_from j ks) s ∙ t) in
-    record { place = suc h.place; is = (let e = h.is in omega arith); there = h.there }
+-- a token that has a role is an identifier
+role_ident : (o : Out) (k : ℕ) (ks : List Kind) (i : ℕ) (r : Role) → leaves_from k ks ≡ tokens_of o → role_at o i ≡ Some r → slice_get ks i ≡ Some kinds.Ident
+role_ident [] k ks i r e h = absurd cc
+role_ident (Begins c m ∷ ms) k ks i r e h = role_ident ms k ks i r e h
+role_ident (Ends c ∷ ms) k ks i r e h = role_ident ms k ks i r e h
+role_ident (Identifier s m ∷ ms) k [] i r e h = absurd cc
+role_ident (Identifier s m ∷ ms) k (x ∷ ks) zero r e h = let head : leaf_of k x ≡ leafs.Name m = cc in ap Some (ident_of k m x head)
+role_ident (Identifier s m ∷ ms) k (x ∷ ks) (suc i) r e h = role_ident ms (suc k) ks i r (tail_of k x ks (leafs.Name m) (tokens_of ms) e) h
+role_ident (Value l m ∷ ms) k ks zero r e h = absurd cc
+role_ident (Value l m ∷ ms) k [] (suc i) r e h = absurd cc
+role_ident (Value l m ∷ ms) k (x ∷ ks) (suc i) r e h = role_ident ms (suc k) ks i r (tail_of k x ks (leafs.Value l m) (tokens_of ms) e) h
+role_ident (Word w ∷ ms) k ks zero r e h = absurd cc
+role_ident (Word w ∷ ms) k [] (suc i) r e h = absurd cc
+role_ident (Word w ∷ ms) k (x ∷ ks) (suc i) r e h = role_ident ms (suc k) ks i r (tail_of k x ks (leafs.Word w) (tokens_of ms) e) h
 
-first_or_later : (y : ℕ) (xs : List ℕ) (x : ℕ) → Contains (y ∷ xs) x → (y ≡ x) ⊎ Contains xs x
-first_or_later y xs x (zero, l, e) = inl e
-first_or_later y xs x (suc k, l, e) = inr (k, omega arith, e)
+module _ (ks : List Kind) (m : Module) (e : Derives ks m) where
+  abbrev P : Role → ℕ → Type 0
+  P = HasRole 0 (module_outline m)
 
-found : (k : ℕ) (ks : List Kind) (m : ℕ) (ls : List Leaf) (ns : List ℕ) (n : ℕ) → leaves_from k ks ≡ leafs.Name m ∷ ls → Contains (k ∷ ns) n →
-    ((rest : List Kind) → leaves_from (suc k) rest ≡ ls → Contains ns n → IsIdentAt (suc k) rest n) → IsIdentAt k ks n
-found k ks m ls ns n e h f = elim (first_or_later k ns n h) [
-  | inl same ↦ here k ks m ls n e same
-  | inr later ↦ behind k ks (leafs.Name m) ls n e (λ rest t. f rest t later)
-]
+  ident_at : (r : Role) (n : ℕ) → P r n → slice_get ks n ≡ Some kinds.Ident
+  ident_at r n h = subst (λ (j : ℕ). slice_get ks j ≡ Some kinds.Ident) (let f : 0 + h.0 ≡ n = h.1 in omega (arith, f)) (role_ident (module_outline m) 0 ks h.0 r e h.2)
 
-declares_idents : (k : ℕ) (ks : List Kind) (o : Out) (n : ℕ) → leaves_from k ks ≡ tokens_of o → Contains (declares_at k o) n → IsIdentAt k ks n
-declares_idents k ks [] n e (i, l, h) = absurd (omega arith)
-declares_idents k ks (Begins c m ∷ ms) n e h = declares_idents k ks ms n e h
-declares_idents k ks (Ends c ∷ ms) n e h = declares_idents k ks ms n e h
-declares_idents k ks (Identifier (Declares starred) m ∷ ms) n e h = found k ks m (tokens_of ms) (declares_at (suc k) ms) n e h (λ rest t g. declares_idents (suc k) rest ms n t g)
-declares_idents k ks (Identifier Aliases m ∷ ms) n e h = found k ks m (tokens_of ms) (declares_at (suc k) ms) n e h (λ rest t g. declares_idents (suc k) rest ms n t g)
-declares_idents k ks (Identifier Imports m ∷ ms) n e h = behind k ks (leafs.Name m) (tokens_of ms) n e (λ rest t. declares_idents (suc k) rest ms n t h)
-declares_idents k ks (Identifier Uses m ∷ ms) n e h = behind k ks (leafs.Name m) (tokens_of ms) n e (λ rest t. declares_idents (suc k) rest ms n t h)
-declares_idents k ks (Identifier Completes m ∷ ms) n e h = behind k ks (leafs.Name m) (tokens_of ms) n e (λ rest t. declares_idents (suc k) rest ms n t h)
-declares_idents k ks (Identifier Selects m ∷ ms) n e h = behind k ks (leafs.Name m) (tokens_of ms) n e (λ rest t. declares_idents (suc k) rest ms n t h)
-declares_idents k ks (Identifier Names m ∷ ms) n e h = behind k ks (leafs.Name m) (tokens_of ms) n e (λ rest t. declares_idents (suc k) rest ms n t h)
-declares_idents k ks (Identifier (Repeats r) m ∷ ms) n e h = behind k ks (leafs.Name m) (tokens_of ms) n e (λ rest t. declares_idents (suc k) rest ms n t h)
-declares_idents k ks (Value l m ∷ ms) n e h = behind k ks (leafs.Value l m) (tokens_of ms) n e (λ rest t. declares_idents (suc k) rest ms n t h)
-declares_idents k ks (Word w ∷ ms) n e h = behind k ks (leafs.Word w) (tokens_of ms) n e (λ rest t. declares_idents (suc k) rest ms n t h)
+  pub declared_ident : (d : Declared) → Contains (rows_of m).declared d → slice_get ks d.number ≡ Some kinds.Ident
+  declared_ident d h = ident_at Aliases d.number (each_one (OfDeclared P) (rows_of m).declared d (module_roles m).1 h)
 
-uses_idents : (k : ℕ) (ks : List Kind) (o : Out) (n : ℕ) → leaves_from k ks ≡ tokens_of o → Contains (uses_at k o) n → IsIdentAt k ks n
-uses_idents k ks [] n e (i, l, h) = absurd (omega arith)
-uses_idents k ks (Begins c m ∷ ms) n e h = uses_idents k ks ms n e h
-uses_idents k ks (Ends c ∷ ms) n e h = uses_idents k ks ms n e h
-uses_idents k ks (Identifier Uses m ∷ ms) n e h = found k ks m (tokens_of ms) (uses_at (suc k) ms) n e h (λ rest t g. uses_idents (suc k) rest ms n t g)
-uses_idents k ks (Identifier (Declares starred) m ∷ ms) n e h = behind k ks (leafs.Name m) (tokens_of ms) n e (λ rest t. uses_idents (suc k) rest ms n t h)
-uses_idents k ks (Identifier Aliases m ∷ ms) n e h = behind k ks (leafs.Name m) (tokens_of ms) n e (λ rest t. uses_idents (suc k) rest ms n t h)
-uses_idents k ks (Identifier Imports m ∷ ms) n e h = behind k ks (leafs.Name m) (tokens_of ms) n e (λ rest t. uses_idents (suc k) rest ms n t h)
-uses_idents k ks (Identifier Completes m ∷ ms) n e h = behind k ks (leafs.Name m) (tokens_of ms) n e (λ rest t. uses_idents (suc k) rest ms n t h)
-uses_idents k ks (Identifier Selects m ∷ ms) n e h = behind k ks (leafs.Name m) (tokens_of ms) n e (λ rest t. uses_idents (suc k) rest ms n t h)
-uses_idents k ks (Identifier Names m ∷ ms) n e h = behind k ks (leafs.Name m) (tokens_of ms) n e (λ rest t. uses_idents (suc k) rest ms n t h)
-uses_idents k ks (Identifier (Repeats r) m ∷ ms) n e h = behind k ks (leafs.Name m) (tokens_of ms) n e (λ rest t. uses_idents (suc k) rest ms n t h)
-uses_idents k ks (Value l m ∷ ms) n e h = behind k ks (leafs.Value l m) (tokens_of ms) n e (λ rest t. uses_idents (suc k) rest ms n t h)
-uses_idents k ks (Word w ∷ ms) n e h = behind k ks (leafs.Word w) (tokens_of ms) n e (λ rest t. uses_idents (suc k) rest ms n t h)
+  pub used_ident : (u : Used) → Contains (rows_of m).uses u → slice_get ks u.number ≡ Some kinds.Ident
+  used_ident u h = ident_at Uses u.number (each_one (OfUse P) (rows_of m).uses u (module_roles m).3 h).0
 
-names_idents : (k : ℕ) (ks : List Kind) (o : Out) (n : ℕ) → leaves_from k ks ≡ tokens_of o → Contains (names_at k o) n → IsIdentAt k ks n
-names_idents k ks [] n e (i, l, h) = absurd (omega arith)
-names_idents k ks (Begins c m ∷ ms) n e h = names_idents k ks ms n e h
-names_idents k ks (Ends c ∷ ms) n e h = names_idents k ks ms n e h
-names_idents k ks (Identifier r m ∷ ms) n e h = found k ks m (tokens_of ms) (names_at (suc k) ms) n e h (λ rest t g. names_idents (suc k) rest ms n t g)
-names_idents k ks (Value l m ∷ ms) n e h = behind k ks (leafs.Value l m) (tokens_of ms) n e (λ rest t. names_idents (suc k) rest ms n t h)
-names_idents k ks (Word w ∷ ms) n e h = behind k ks (leafs.Word w) (tokens_of ms) n e (λ rest t. names_idents (suc k) rest ms n t h)
-
-at_front : (ks : List Kind) (n : ℕ) → IsIdentAt 0 ks n → slice_get ks n ≡ Some kinds.Ident
-at_front ks n h = let e : h.place ≡ n = (let i = h.is in omega arith) in subst (λ (j : ℕ). slice_get ks j ≡ Some kinds.Ident) e h.there
-
-mapped : {X : Type 0} (f : X → ℕ) (xs : List X) (x : X) → Contains xs x → Contains (map f xs) (f x)
-mapped f [] x (i, l, h) = absurd (omega arith)
-mapped f (y ∷ ys) x (zero, l, h) = (zero, omega arith, ap f h)
-mapped f (y ∷ ys) x (suc i, l, h) = (let r = mapped f ys x (i, omega arith, h) in (suc r.0, (let g = r.1 in omega arith), r.2))
-
-pub declared_ident : (ks : List Kind) (m : Module) → Derives ks m → (d : Declared) → Contains (rows_of m).declared d → slice_get ks d.number ≡ Some kinds.Ident
-declared_ident ks m e d h =
-    at_front ks d.number (declares_idents 0 ks (module_outline m) d.number e
-    (subst (λ (ns : List ℕ). Contains ns d.number) ((m-module m).declares outermost 0) (mapped (λ (x : Declared). x.number) (rows_of m).declared d h)))
-
-pub used_ident : (ks : List Kind) (m : Module) → Derives ks m → (u : Used) → Contains (rows_of m).uses u → slice_get ks u.number ≡ Some kinds.Ident
-used_ident ks m e u h =
-    at_front ks u.number (uses_idents 0 ks (module_outline m) u.number e
-    (subst (λ (ns : List ℕ). Contains ns u.number) ((m-module m).uses outermost 0) (mapped (λ (x : Used). x.number) (rows_of m).uses u h)))
-
-pub imported_ident : (ks : List Kind) (m : Module) → Derives ks m → (i : Import) → Contains (rows_of m).imports i → slice_get ks i.imported ≡ Some kinds.Ident
-imported_ident ks m e i h = at_front ks i.imported (names_idents 0 ks (module_outline m) i.imported e ((i-module m).among outermost 0 i h))
+  pub imported_ident : (i : Import) → Contains (rows_of m).imports i → slice_get ks i.imported ≡ Some kinds.Ident
+  imported_ident i h =
+      let role = each_one (OfImport P) (rows_of m).imports i (module_roles m).0 h in
+      elim role.1 [
+        | inl same ↦ subst (λ (n : ℕ). slice_get ks n ≡ Some kinds.Ident) same (ident_at Aliases i.alias role.0)
+        | inr named ↦ ident_at Imports i.imported named
+      ]
 
 -- ---- how many uses
 
@@ -238,9 +188,6 @@ counted_endings ks m d =
     ∙ ap (λ (n : ℕ). endings_in (declarations_outline m.declarations) ++ (n, m.end_name) ∷ []) (sym (own_ident ks m d).0) ∙ sym (module_ends m)
 
 -- ---- each identifier
-
-tail_of : (k : ℕ) (x : Kind) (ks : List Kind) (l : Leaf) (ls : List Leaf) → leaves_from k (x ∷ ks) ≡ l ∷ ls → leaves_from (suc k) ks ≡ ls
-tail_of k x ks l ls e = let t : leaves_from (k + 1) ks ≡ ls = cc in let s : suc k ≡ k + 1 = omega arith in ap (λ (j : ℕ). leaves_from j ks) s ∙ t
 
 no_value : (k : ℕ) (x : Kind) (ks : List Kind) (l : Literal) (n : ℕ) (ls : List Leaf) → leaves_from k (x ∷ ks) ≡ leafs.Value l n ∷ ls → Some x ≡ Some kinds.Ident → ⊥
 no_value k x ks l n ls e g =

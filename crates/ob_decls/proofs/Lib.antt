@@ -7,12 +7,12 @@ pub mod Compatible
 pub mod CompatibleExpressions
 pub mod CompatibleStatements
 pub mod Mirrored
+pub mod Roles
 pub mod Named
 pub mod NamedExpressions
 pub mod NamedStatements
 pub mod NamedTypes
 pub mod NamedModules
-pub mod NamedImports
 pub mod Derived
 pub mod Reading
 pub mod ReadingLists

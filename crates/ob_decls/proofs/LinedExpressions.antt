@@ -28,7 +28,7 @@ module _ {X : Type 0} (K : Kind X) where
     one_after = λ f g. o-both K f g;
     held = λ c f. f;
     a_field = λ n. o-both K (o-token K) (o-token K);
-    a_selector = λ s f. f;
+    a_selector = λ s other f. f;
     a_designator = λ w n ss. o-headed K (h-before K _ (h-before K _ (h-both K (h-tells K _ (l-token K)) (o-selectors _ ss (λ s. s.1)))))
         (λ c k. K.designator k _ _ _ refl (all_of k (map selected (map (λ s. s.0) ss)) (k + 1)) refl);
   }

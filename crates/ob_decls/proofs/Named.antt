@@ -1,5 +1,6 @@
--- Parts of a tree whose rows name each of their identifiers: a piece that mirrors its outline, with a row for each place of an identifier.
-use Rattle.std.proofs.Common.{◌≡◌, ℕ, zero, suc, ◌+◌, inl, inr, Bool, true, false, List, [], ◌∷◌, ◌++◌, map, Option, Some, None, refl, ap, subst, arith}
+-- Parts of a tree whose rows name each of their identifiers: a piece that mirrors its outline, with a row for each place of an identifier,
+-- and each row names identifiers of its role.
+use Rattle.std.proofs.Common.{◌≡◌, ℕ, zero, suc, ◌+◌, inl, inr, Bool, true, false, List, [], ◌∷◌, ◌++◌, Option, Some, None, refl, ap, subst, arith}
 use Rattle.std.specs.Prelude.{Contains}
 use Rattle.std.proofs.lemmas.List.Elements.{Contains-append_left, Contains-append_right, Contains-append_cases}
 use Rattle.ob_scan.specs.declared.kind.Kind.{Kind}
@@ -20,11 +21,14 @@ use Rattle.ob_rows.specs.declared.rows.Step.TheVariants as steps
 use Rattle.ob_rows.specs.declared.rows.Used.{Used}
 use Rattle.ob_rows.specs.declared.draft.Context.{Context}
 use Rattle.ob_decls.specs.Declaring.{named_by, outermost}
-use Rattle.ob_decls.specs.Expressions.{Selected, behind_dot, selector_rows, used}
+use Rattle.ob_decls.specs.Expressions.{Selected, behind_dot, first_name, selector_rows, used}
 use Rattle.ob_decls.specs.Naming.{IsNamed}
 use Rattle.ob_decls.specs.Naming as names
 use Rattle.ob_rows.specs.Parts.{Piece, Rows, no_rows, joined, nothing, token, both, tells, within, if_there, if_so, each, declaring, opens_block, one_declarer, one_end, one_import, one_used, these_selectors, declarer, declaring_at}
 use Rattle.ob_decls.specs.Types.{declared_row}
+use Rattle.ob_rows.specs.Tables.{own_name}
+use Rattle.ob_decls.proofs.Compatible.{IsNoField}
+use Rattle.ob_decls.proofs.Roles.{Each, HasRole, HaveRoles, NameNothing, OfSelector, common_role, role_at, roles_first, roles_joined, roles_later, roles_of_none, roles_of_unnamed, roles_second, roles_split}
 use Rattle.ob_decls.proofs.Mirrored.{IsDeclaring, Mirrors, aliases_it, declared_numbers, m-both, m-declared, m-declaring, m-first_declares, m-first_uses, m-held, m-name, m-nothing, m-tells, m-use, m-value, m-within, m-word, used_numbers, width_of}
 
 -- this holds of the place of each identifier of an outline, where its first token has this one
@@ -122,18 +126,19 @@ at_among a b k o f h = at_all (IsNamed a) (IsNamed b) k o (named_among a b f) h
 pub record Named (p : Piece) (o : Out) : Type 0 where
   pub mirrors : Mirrors p o
   pub has_row : (c : Context) (k : ℕ) → AtNames (IsNamed (p.rows c k)) k o
+  pub has_role : (c : Context) (k : ℕ) → HaveRoles (HasRole k o) (p.rows c k)
 
 pub n-nothing : Named nothing []
-unfolding AtNames
-n-nothing = record { mirrors = m-nothing; has_row = λ c k. tt }
+unfolding AtNames nothing
+n-nothing = record { mirrors = m-nothing; has_row = λ c k. tt; has_role = λ c k. roles_of_none (HasRole k []) }
 
 pub n-word : (w : Kind) → Named token (word w)
-unfolding AtNames
-n-word w = record { mirrors = m-word w; has_row = λ c k. tt }
+unfolding AtNames token
+n-word w = record { mirrors = m-word w; has_row = λ c k. tt; has_role = λ c k. roles_of_none (HasRole k (word w)) }
 
 pub n-value : (l : Literal) (n : ℕ) → Named token (Value l n ∷ [])
-unfolding AtNames
-n-value l n = record { mirrors = m-value l n; has_row = λ c k. tt }
+unfolding AtNames token
+n-value l n = record { mirrors = m-value l n; has_row = λ c k. tt; has_role = λ c k. roles_of_none (HasRole k (Value l n ∷ [])) }
 
 pub n-both : {p q : Piece} {a b : Out} → Named p a → Named q b → Named (both p q) (a ++ b)
 unfolding both
@@ -144,23 +149,35 @@ n-both {p} {q} {a} {b} f g = record {
       at_both (IsNamed R) k a b (at_among (p.rows c k) R k a (among_first (p.rows c k) (q.rows c (k + p.width))) (f.has_row c k))
       (subst (λ (w : ℕ). AtNames (IsNamed R) (k + w) b) f.mirrors.width
       (at_among (q.rows c (k + p.width)) R (k + p.width) b (among_second (p.rows c k) (q.rows c (k + p.width))) (g.has_row c (k + p.width))));
+  has_role = λ c k.
+      roles_joined (HasRole k (a ++ b)) (p.rows c k) (q.rows c (k + p.width)) (roles_first k a b (p.rows c k) (f.has_role c k))
+      (roles_second k p.width a b (q.rows c (k + p.width)) f.mirrors.width (g.has_role c (k + p.width)));
 }
 
 pub n-held : (x : Construct) {p : Piece} {o : Out} → Named p o → Named p (construct x o)
 unfolding construct AtNames
-n-held x {p} {o} f = record { mirrors = m-held x f.mirrors; has_row = λ c k. at_both (IsNamed (p.rows c k)) k o (Ends x ∷ []) (f.has_row c k) tt }
+n-held x {p} {o} f = record {
+  mirrors = m-held x f.mirrors;
+  has_row = λ c k. at_both (IsNamed (p.rows c k)) k o (Ends x ∷ []) (f.has_row c k) tt;
+  has_role = λ c k. roles_first k o (Ends x ∷ []) (p.rows c k) (f.has_role c k);
+}
 
-pub n-tells : (own : Context → ℕ → Rows) {p : Piece} {o : Out} → ((c : Context) (k : ℕ) → declared_numbers (own c k) ≡ []) → ((c : Context) (k : ℕ) → used_numbers (own c k) ≡ []) →
-    Named p o → Named (tells own p) o
+-- rows of its own that neither declare nor look up
+n-own_rows : (own : Context → ℕ → Rows) {p : Piece} {o : Out} → ((c : Context) (k : ℕ) → declared_numbers (own c k) ≡ []) → ((c : Context) (k : ℕ) → used_numbers (own c k) ≡ []) →
+    ((c : Context) (k : ℕ) → HaveRoles (HasRole k o) (own c k)) → Named p o → Named (tells own p) o
 unfolding tells
-n-tells own {p} {o} d u f = record {
+n-own_rows own {p} {o} d u t f = record {
   mirrors = m-tells own d u f.mirrors;
   has_row = λ c k. at_among (p.rows c k) (joined (own c k) (p.rows c k)) k o (among_second (own c k) (p.rows c k)) (f.has_row c k);
+  has_role = λ c k. roles_joined (HasRole k o) (own c k) (p.rows c k) (t c k) (f.has_role c k);
 }
+
+pub n-tells : (own : Context → ℕ → Rows) {p : Piece} {o : Out} → ((c : Context) (k : ℕ) → NameNothing (own c k)) → Named p o → Named (tells own p) o
+n-tells own {p} {o} silent f = n-own_rows own (λ c k. ap declared_numbers (silent c k)) (λ c k. ap used_numbers (silent c k)) (λ c k. roles_of_unnamed (HasRole k o) (own c k) (silent c k)) f
 
 pub n-within : (around : Context → ℕ → Context) {p : Piece} {o : Out} → Named p o → Named (within around p) o
 unfolding within
-n-within around f = record { mirrors = m-within around f.mirrors; has_row = λ c k. f.has_row (around c k) k }
+n-within around f = record { mirrors = m-within around f.mirrors; has_row = λ c k. f.has_row (around c k) k; has_role = λ c k. f.has_role (around c k) k }
 
 pub n-declaring : (sort : Sort) {p : Piece} {o : Out} → Named p o → Named (declaring sort p) o
 unfolding declaring
@@ -169,10 +186,11 @@ n-declaring sort {p} {o} f = record {
   has_row = λ c k.
       let own = one_declarer (declarer sort c k _) in
       at_among (p.rows (declaring_at c k) k) (joined own (p.rows (declaring_at c k) k)) k o (among_second own (p.rows (declaring_at c k) k)) (f.has_row (declaring_at c k) k);
+  has_role = λ c k. roles_joined (HasRole k o) (one_declarer (declarer sort c k _)) (p.rows (declaring_at c k) k) (tt, tt, tt, tt, tt) (f.has_role (declaring_at c k) k);
 }
 
 pub n-opens_block : {p : Piece} {o : Out} → Named p o → Named (opens_block p) o
-n-opens_block f = n-tells _ (λ c k. refl) (λ c k. refl) (n-within _ f)
+n-opens_block f = n-tells _ (λ c k. refl) (n-within _ f)
 
 pub n-so : (b : Bool) {p : Piece} {o : Out} → Named p o → Named (if_so b p) (outline_so b o)
 n-so true w = w
@@ -183,46 +201,60 @@ n-so false w = n-nothing
 at_front : {X : Type 0} (x : X) (xs : List X) → Contains (x ∷ xs) x
 at_front x xs = (zero, omega arith, refl)
 
-pub n-use : (member : Option ℕ) (n : ℕ) → Named (used member) (Identifier Uses n ∷ [])
+-- a name alone
+pub n-use : (n : ℕ) → Named (used None) (Identifier Uses n ∷ [])
 unfolding AtNames tells token joined no_rows
-n-use member n = record { mirrors = m-use member n; has_row = λ c k. (names.used _ (at_front _ []) refl, tt) }
+n-use n = record { mirrors = m-use None n; has_row = λ c k. (names.used _ (at_front _ []) refl, tt); has_role = λ c k. (tt, tt, tt, (((zero, omega arith, refl), λ j e. absurd cc), tt), tt) }
 
 pub n-declared : (starred : Bool) (n : ℕ) → Named (tells (declared_row starred) token) (Identifier (Declares starred) n ∷ [])
 unfolding AtNames tells token joined no_rows
-n-declared starred n = record { mirrors = m-declared starred n; has_row = λ c k. (names.declared _ (at_front _ []) refl, tt) }
+n-declared starred n = record {
+  mirrors = m-declared starred n;
+  has_row = λ c k. (names.declared _ (at_front _ []) refl, tt);
+  has_role = λ c k. (tt, ((zero, omega arith, refl), tt), tt, tt, tt);
+}
 
 -- the name behind END
 pub n-ends : (of : Context → ℕ → Option ℕ) (m n : ℕ) → Named (tells (λ c k. one_end (record { number = k; of = of c k })) token) (Identifier (Repeats m) n ∷ [])
 unfolding AtNames tells token joined no_rows
-n-ends of m n = record { mirrors = m-tells (λ c k. one_end (record { number = k; of = of c k })) (λ c k. refl) (λ c k. refl) (m-name (Repeats m) n (λ k. refl) (λ k. refl)); has_row = λ c k. (names.ended _ (at_front _ []) refl, tt) }
-
--- a row that declares this alone
-declares_here : (xs : List Declared) (k : ℕ) → map (λ (d : Declared). d.number) xs ≡ k ∷ [] → (x : Declared) × Contains xs x × (x.number ≡ k)
-declares_here [] k e = absurd cc
-declares_here (x ∷ xs) k e = (x, at_front x xs, cc)
-
-pub n-first_declares : (own : Context → ℕ → Rows) {p : Piece} {o : Out} {r : Role} → IsDeclaring r → (n : ℕ) → ((c : Context) (k : ℕ) → declared_numbers (own c k) ≡ k ∷ []) → ((c : Context) (k : ℕ) → used_numbers (own c k) ≡ []) →
-    Named p o → Named (tells own (both token p)) (Identifier r n ∷ o)
-unfolding AtNames tells both token
-n-first_declares own {p} {o} {r} role n d u f = record {
-  mirrors = m-first_declares own role n d u f.mirrors;
-  has_row = λ c k.
-      let rest = p.rows c (k + 1) in
-      let R = joined (own c k) (joined no_rows rest) in
-      let x = declares_here (own c k).declared k (d c k) in (
-        named_among (own c k) R (among_first (own c k) (joined no_rows rest)) k (names.declared x.0 x.1 x.2),
-        subst (λ (i : ℕ). AtNames (IsNamed R) i o) (omega arith)
-            (at_among rest R (k + 1) o (among_later rest (joined no_rows rest) R (among_second no_rows rest) (among_second (own c k) (joined no_rows rest))) (f.has_row c (k + 1))),
-      );
+n-ends of m n = record {
+  mirrors = m-tells (λ c k. one_end (record { number = k; of = of c k })) (λ c k. refl) (λ c k. refl) (m-name (Repeats m) n (λ k. refl) (λ k. refl));
+  has_row = λ c k. (names.ended _ (at_front _ []) refl, tt);
+  has_role = λ c k. (tt, tt, ((zero, omega arith, refl), tt), tt, tt);
 }
+
+-- a first token that is declared
+pub n-first_declares : (starred : Bool) {p : Piece} {o : Out} {r : Role} → IsDeclaring r → common_role r ≡ Aliases → (n : ℕ) → Named p o → Named (tells (declared_row starred) (both token p)) (Identifier r n ∷ o)
+unfolding AtNames tells both token
+n-first_declares starred {p} {o} {r} role kind n f = record {
+  mirrors = m-first_declares (declared_row starred) role n (λ c k. refl) (λ c k. refl) f.mirrors;
+  has_row = λ c k.
+      let own = declared_row starred c k in
+      let rest = p.rows c (k + 1) in
+      let R = joined own (joined no_rows rest) in (
+        named_among own R (among_first own (joined no_rows rest)) k (names.declared _ (at_front _ []) refl),
+        subst (λ (i : ℕ). AtNames (IsNamed R) i o) (omega arith)
+            (at_among rest R (k + 1) o (among_later rest (joined no_rows rest) R (among_second no_rows rest) (among_second own (joined no_rows rest))) (f.has_row c (k + 1))),
+      );
+  has_role = λ c k.
+      let P = HasRole k (Identifier r n ∷ o) in
+      let rest = p.rows c (k + 1) in
+      roles_joined P (declared_row starred c k) (joined no_rows rest) (tt, ((zero, omega arith, ap Some kind), tt), tt, tt, tt)
+      (roles_joined P no_rows rest (roles_of_none P) (roles_later k n r o rest (f.has_role c (k + 1))));
+}
+
+-- the name after a dot
+member_role : (k n i j : ℕ) (r : Role) → Some (k + 2) ≡ Some j → HasRole k (Identifier Uses n ∷ Word kinds.Dot ∷ Identifier r i ∷ []) (common_role r) j
+member_role k n i j r e = let f : k + 2 ≡ j = cc in (2, f, refl)
 
 -- the second name of a qualident
 pub n-qualified : (member : Option ℕ) (n : ℕ) → Named (both (used member) (if_there (λ m. both token token) member)) (Identifier Uses n ∷ outline_there (λ m. word kinds.Dot ++ completed m) member)
 unfolding AtNames tells both token joined no_rows
-n-qualified None n = n-both (n-use None n) n-nothing
+n-qualified None n = n-both (n-use n) n-nothing
 n-qualified (Some m) n = record {
   mirrors = m-both (m-use (Some m) n) (m-both (m-word kinds.Dot) (m-name Completes m (λ k. refl) (λ k. refl)));
   has_row = λ c k. (names.used _ (at_front _ []) refl, (names.second _ (at_front _ []) (ap Some (omega arith)), tt));
+  has_role = λ c k. (tt, tt, tt, (((zero, omega arith, refl), λ j e. member_role k n m j Completes e), tt), tt);
 }
 
 -- a name as a type, with what makes its use a target or not
@@ -230,10 +262,15 @@ pub n-type_use : (is_target : Option ℕ → Context → Bool) (member : Option 
     Named (tells (λ c k. one_used (record { number = k; block = c.block; is_target = is_target member c; member = behind_dot member k })) (both token (if_there (λ m. both token token) member)))
     (Identifier Uses n ∷ outline_there (λ m. word kinds.Dot ++ completed m) member)
 unfolding AtNames nothing tells both token joined no_rows
-n-type_use t None n = record { mirrors = m-first_uses (λ c k. one_used (record { number = k; block = c.block; is_target = t None c; member = behind_dot None k })) n (λ c k. refl) (λ c k. refl) m-nothing; has_row = λ c k. (names.used _ (at_front _ []) refl, tt) }
+n-type_use t None n = record {
+  mirrors = m-first_uses (λ c k. one_used (record { number = k; block = c.block; is_target = t None c; member = behind_dot None k })) n (λ c k. refl) (λ c k. refl) m-nothing;
+  has_row = λ c k. (names.used _ (at_front _ []) refl, tt);
+  has_role = λ c k. (tt, tt, tt, (((zero, omega arith, refl), λ j e. absurd cc), tt), tt);
+}
 n-type_use t (Some m) n = record {
   mirrors = m-first_uses (λ c k. one_used (record { number = k; block = c.block; is_target = t (Some m) c; member = behind_dot (Some m) k })) n (λ c k. refl) (λ c k. refl) (m-both (m-word kinds.Dot) (m-name Completes m (λ k. refl) (λ k. refl)));
   has_row = λ c k. (names.used _ (at_front _ []) refl, (names.second _ (at_front _ []) (ap Some (omega arith)), tt));
+  has_role = λ c k. (tt, tt, tt, (((zero, omega arith, refl), λ j e. member_role k n m j Completes e), tt), tt);
 }
 
 -- an import item: its alias, and the module that it names
@@ -241,10 +278,11 @@ pub n-item : (of : Option ℕ) (n : ℕ) →
     Named (tells (λ c k. one_import (record { alias = k; imported = named_by of k })) (tells (declared_row false) (both token (if_there (λ m. both token token) of))))
     (Identifier Aliases n ∷ outline_there (λ m. word kinds.Assign ++ imported m) of)
 unfolding AtNames nothing tells both token joined no_rows
-n-item None n = n-tells (λ c k. one_import (record { alias = k; imported = named_by None k })) (λ c k. refl) (λ c k. refl) (n-first_declares (declared_row false) aliases_it n (λ c k. refl) (λ c k. refl) n-nothing)
+n-item None n = n-own_rows (λ c k. one_import (record { alias = k; imported = named_by None k })) (λ c k. refl) (λ c k. refl) (λ c k. ((((zero, omega arith, refl), inl refl), tt), tt, tt, tt, tt)) (n-first_declares false aliases_it refl n n-nothing)
 n-item (Some m) n = record {
   mirrors = m-tells (λ c k. one_import (record { alias = k; imported = named_by (Some m) k })) (λ c k. refl) (λ c k. refl) (m-first_declares (declared_row false) aliases_it n (λ c k. refl) (λ c k. refl) (m-both (m-word kinds.Assign) (m-name Imports m (λ k. refl) (λ k. refl))));
   has_row = λ c k. (names.declared _ (at_front _ []) refl, (names.imported _ (at_front _ []) (omega arith), tt));
+  has_role = λ c k. ((((zero, omega arith, refl), inr (2, refl, refl)), tt), ((zero, omega arith, refl), tt), tt, tt, tt);
 }
 
 -- ---- selectors
@@ -264,7 +302,12 @@ unfolding AtNames tells both token joined no_rows
 n-field head n = record {
   mirrors = m-tells (λ c k. these_selectors (record { of = head; step = steps.Field (k + 1) } ∷ [])) (λ c k. refl) (λ c k. refl) (m-both (m-word kinds.Dot) (m-name Selects n (λ k. refl) (λ k. refl)));
   has_row = λ c k. (names.selected _ (at_front _ []) (ap steps.Field (omega arith)), tt);
+  has_role = λ c k. (tt, tt, tt, tt, (λ j e. (let f : k + 1 ≡ j = cc in (1, f, refl)), tt));
 }
+
+-- a selector that is no dot and name
+pub n-other : (head : ℕ) (s : Selected) {o : Out} → IsNoField s → Named s.piece o → Named (tells (selector_row head s) s.piece) o
+n-other head s other f = n-own_rows (selector_row head s) (λ c k. refl) (λ c k. refl) (λ c k. (tt, tt, tt, tt, (λ j e. absurd (other.step k j e), tt))) f
 
 -- a piece without the selectors that are told before it
 untold : (own : Context → ℕ → List Selector) {p : Piece} {o : Out} → Mirrors (tells (λ c k. these_selectors (own c k)) p) o → Mirrors p o
@@ -272,7 +315,7 @@ unfolding tells joined
 untold own f = record { width = f.width; declares = f.declares; uses = f.uses }
 
 pub n-none : (head : ℕ) → Named (tells (rows_from head []) (pieces_of [])) []
-n-none head = n-tells (rows_from head []) (λ c k. refl) (λ c k. refl) n-nothing
+n-none head = n-tells (rows_from head []) (λ c k. refl) n-nothing
 
 selectors_first : (s : Selector) (ss : List Selector) → AreAmong (these_selectors (s ∷ [])) (these_selectors (s ∷ ss))
 selectors_first s ss = record { imports = λ x h. h; declared = λ x h. h; ends = λ x h. h; uses = λ x h. h; selectors = Contains-append_left (s ∷ []) ss }
@@ -299,28 +342,72 @@ n-more head s ss {a} {b} f g = record {
       (at_among (joined (these_selectors (own ∷ [])) P) R k a (among_both (these_selectors (own ∷ [])) P (these_selectors (own ∷ rest)) (joined P Q) (selectors_first own rest) (among_first P Q)) (f.has_row c k))
       (subst (λ (w : ℕ). AtNames (IsNamed R) (k + w) b) f.mirrors.width
       (at_among (joined (these_selectors rest) Q) R j b (among_both (these_selectors rest) Q (these_selectors (own ∷ rest)) (joined P Q) (selectors_rest own rest) (among_second P Q)) (g.has_row c j)));
+  has_role = λ c k.
+      let own : Selector = record { of = head; step = s.step k } in
+      let j = k + s.piece.width in
+      let rest = selector_rows head ss j in
+      let P = s.piece.rows c k in
+      let Q = (pieces_of ss).rows c j in
+      let T = HasRole k (a ++ b) in
+      let first = roles_split T (these_selectors (own ∷ [])) P (roles_first k a b (joined (these_selectors (own ∷ [])) P) (f.has_role c k)) in
+      let others = roles_split T (these_selectors rest) Q (roles_second k s.piece.width a b (joined (these_selectors rest) Q) f.mirrors.width (g.has_role c j)) in
+      roles_joined T (these_selectors (own ∷ rest)) (joined P Q) (tt, tt, tt, tt, (first.0.4.0, others.0.4)) (roles_joined T P Q first.1 others.1);
 }
 
+-- if a selector selects a name, its step is the number of the name's token
+abbrev pub HasNameStep : Selected → Type 0
+HasNameStep s = (m k : ℕ) → s.name ≡ Some m → s.step k ≡ steps.Field (k + 1)
+
+abbrev pub FirstHasNameStep : List Selected → Type 0
+FirstHasNameStep [] = Unit {0}
+FirstHasNameStep (s ∷ ss) = HasNameStep s
+
+behind_first : (o : Option ℕ) (k n : ℕ) → behind_dot o k ≡ Some n → (m : ℕ) × (o ≡ Some m) × (k + 2 ≡ n)
+behind_first None k n e = absurd cc
+behind_first (Some m) k n e = (m, refl, cc)
+
+-- a designator's second name is the name of its first selector
+second_role : (P : Role → ℕ → Type 0) (head k n : ℕ) (ss : List Selected) → FirstHasNameStep ss → Each (OfSelector P) (selector_rows head ss (k + 1)) → behind_dot (first_name ss) k ≡ Some n → P Selects n
+second_role P head k n [] dot all e = absurd cc
+second_role P head k n (s ∷ ss) dot all e =
+    let r = behind_first s.name k n e in
+    subst (P Selects) (let g : k + 2 ≡ n = r.2 in omega (arith, g)) (all.0 (k + 1 + 1) (dot r.0 (k + 1) r.1))
+
+use_row : (member : Option ℕ) (c : Context) (k : ℕ) → IsNamed ((used member).rows c k) k
+unfolding tells token joined no_rows
+use_row member c k = names.used _ (at_front _ []) refl
+
+use_role : (P : Role → ℕ → Type 0) (member : Option ℕ) (c : Context) (k : ℕ) → P Uses k → ((n : ℕ) → behind_dot member k ≡ Some n → P Selects n) → HaveRoles P ((used member).rows c k)
+unfolding tells token joined no_rows
+use_role P member c k first second = (tt, tt, tt, ((first, second), tt), tt)
+
 -- a designator: its head, and its selectors behind it
-pub n-designated : (row : Context → ℕ → Rows) (ss : List Selected) (member : Option ℕ) (n : ℕ) {o : Out} → ((c : Context) (k : ℕ) → declared_numbers (row c k) ≡ []) → ((c : Context) (k : ℕ) → used_numbers (row c k) ≡ []) →
-    ((head : ℕ) → Named (tells (rows_from head ss) (pieces_of ss)) o) →
-    Named (tells row (tells (λ c k. these_selectors (selector_rows k ss (k + 1))) (both (used member) (pieces_of ss)))) (Identifier Uses n ∷ o)
+pub n-designated : (row : Context → ℕ → Rows) (ss : List Selected) (n : ℕ) {o : Out} → ((c : Context) (k : ℕ) → NameNothing (row c k)) → FirstHasNameStep ss → ((head : ℕ) → Named (tells (rows_from head ss) (pieces_of ss)) o) →
+    Named (tells row (tells (λ c k. these_selectors (selector_rows k ss (k + 1))) (both (used (first_name ss)) (pieces_of ss)))) (Identifier Uses n ∷ o)
 unfolding AtNames tells both token
-n-designated row ss member n {o} d u f = record {
-  mirrors = m-tells row d u (m-tells (λ c k. these_selectors (selector_rows k ss (k + 1))) (λ c k. refl) (λ c k. refl) (m-both (m-use member n) (untold (λ c k. selector_rows 0 ss k) (f 0).mirrors)));
+n-designated row ss n {o} silent dot f = record {
+  mirrors = m-tells row (λ c k. ap declared_numbers (silent c k)) (λ c k. ap used_numbers (silent c k))
+      (m-tells (λ c k. these_selectors (selector_rows k ss (k + 1))) (λ c k. refl) (λ c k. refl) (m-both (m-use (first_name ss) n) (untold (λ c k. selector_rows 0 ss k) (f 0).mirrors)));
   has_row = λ c k.
       let own = these_selectors (selector_rows k ss (k + 1)) in
-      let P = (used member).rows c k in
+      let P = (used (first_name ss)).rows c k in
       let Q = (pieces_of ss).rows c (k + 1) in
       let I = joined own (joined P Q) in
-      let R = joined (row c k) I in
-      let head = (n-use member n).has_row c k in (
-        named_among P R (among_later P I R (among_later P (joined P Q) I (among_first P Q) (among_second own (joined P Q))) (among_second (row c k) I)) k head.0,
+      let R = joined (row c k) I in (
+        named_among P R (among_later P I R (among_later P (joined P Q) I (among_first P Q) (among_second own (joined P Q))) (among_second (row c k) I)) k (use_row (first_name ss) c k),
         subst (λ (i : ℕ). AtNames (IsNamed R) i o) (omega arith)
             (at_among (joined own Q) R (k + 1) o
             (among_later (joined own Q) I R (among_joined own Q I (among_first own (joined P Q)) (among_later Q (joined P Q) I (among_second P Q) (among_second own (joined P Q)))) (among_second (row c k) I))
             ((f k).has_row c (k + 1))),
       );
+  has_role = λ c k.
+      let own = these_selectors (selector_rows k ss (k + 1)) in
+      let Q = (pieces_of ss).rows c (k + 1) in
+      let T = HasRole k (Identifier Uses n ∷ o) in
+      let behind = roles_split T own Q (roles_later k n Uses o (joined own Q) ((f k).has_role c (k + 1))) in
+      let second = λ (j : ℕ) (e : behind_dot (first_name ss) k ≡ Some j). second_role T k k j ss dot behind.0.4 e in
+      roles_joined T (row c k) (joined own (joined ((used (first_name ss)).rows c k) Q)) (roles_of_unnamed T (row c k) (silent c k))
+      (roles_joined T own (joined ((used (first_name ss)).rows c k) Q) behind.0 (roles_joined T ((used (first_name ss)).rows c k) Q (use_role T (first_name ss) c k (zero, omega arith, refl) second) behind.1));
 }
 
 -- ---- modules
@@ -335,3 +422,16 @@ named_module n {p} {o} f =
       names.own refl,
       at_both (IsNamed R) 2 o (Ends constructs.Module ∷ []) (at_among rest R 2 o (among_later rest (joined no_rows rest) R (among_second no_rows rest) (among_second no_rows (joined no_rows rest))) (f.has_row outermost 2)) tt,
     )
+
+pub role_of_name : (n : ℕ) (o : Out) → role_at (construct constructs.Module (Word kinds.Module ∷ Identifier Names n ∷ o)) own_name ≡ Some Names
+unfolding construct
+role_of_name n o = refl
+
+pub named_module_roles : (n : ℕ) {p : Piece} {o : Out} → Named p o → HaveRoles (HasRole 0 (construct constructs.Module (Word kinds.Module ∷ Identifier Names n ∷ o))) ((both token (both token p)).rows outermost 0)
+unfolding construct both token
+named_module_roles n {p} {o} f =
+    let whole = Word kinds.Module ∷ Identifier Names n ∷ o in
+    let T = HasRole 0 (construct constructs.Module whole) in
+    let rest = p.rows outermost 2 in
+    roles_joined T no_rows (joined no_rows rest) (roles_of_none T) (roles_joined T no_rows rest (roles_of_none T)
+    (roles_first 0 whole (Ends constructs.Module ∷ []) rest (roles_second 0 2 (Word kinds.Module ∷ Identifier Names n ∷ []) o rest refl (f.has_role outermost 2))))

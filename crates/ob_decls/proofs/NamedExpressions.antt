@@ -10,16 +10,20 @@ use Rattle.ob_rows.specs.Parts.{each as pieces}
 use Rattle.ob_decls.specs.Expressions.{Selected, selected, designator_row, expr_piece}
 use Rattle.ob_decls.proofs.Compatible.{IsCompatible, IsSelector}
 use Rattle.ob_decls.proofs.CompatibleExpressions.{c-expr}
-use Rattle.ob_decls.proofs.Named.{Named, n-nothing, n-word, n-value, n-both, n-held, n-tells, n-field, n-none, n-more, n-designated, rows_from, selector_row}
+use Rattle.ob_decls.proofs.Named.{Named, n-nothing, n-word, n-value, n-both, n-held, n-field, n-other, n-none, n-more, n-designated, rows_from, selector_row, HasNameStep, FirstHasNameStep}
 
 -- a selector with its row, in any designator
 abbrev NamedSelector : Selected → Out → Type 0
-NamedSelector s o = (head : ℕ) → Named (tells (selector_row head s) s.piece) o
+NamedSelector s o = HasNameStep s × ((head : ℕ) → Named (tells (selector_row head s) s.piece) o)
 
 n-selectors : {X : Type 0} (h : X → Selector) (xs : List X) → ((x : X) → IsSelector NamedSelector (h x)) → (head : ℕ) →
     Named (tells (rows_from head (map selected (map h xs))) (pieces (λ s. s.piece) (map selected (map h xs)))) (each selector_outline (map h xs))
 n-selectors h [] w head = n-none head
-n-selectors h (x ∷ xs) w head = n-more head (selected (h x)) (map selected (map h xs)) (w x head) (n-selectors h xs w head)
+n-selectors h (x ∷ xs) w head = n-more head (selected (h x)) (map selected (map h xs)) ((w x).1 head) (n-selectors h xs w head)
+
+first_name_step : {X : Type 0} (h : X → Selector) (xs : List X) → ((x : X) → IsSelector NamedSelector (h x)) → FirstHasNameStep (map selected (map h xs))
+first_name_step h [] w = tt
+first_name_step h (x ∷ xs) w = (w x).0
 
 pub named : IsCompatible Named NamedSelector
 named = record {
@@ -28,9 +32,9 @@ named = record {
   a_value = n-value;
   one_after = λ f g. n-both f g;
   held = λ c f. n-held c f;
-  a_field = λ n head. n-held constructs.Selector (n-field head n);
-  a_selector = λ s f head. n-tells (selector_row head s) (λ c k. refl) (λ c k. refl) f;
-  a_designator = λ w n ss. n-designated (designator_row w) _ _ n (λ c k. refl) (λ c k. refl) (n-selectors _ ss (λ s. s.1));
+  a_field = λ n. (λ m k e. refl, λ head. n-held constructs.Selector (n-field head n));
+  a_selector = λ s other f. (λ m k e. absurd (let g = other.name in cc), λ head. n-other head s other f);
+  a_designator = λ w n ss. n-designated (designator_row w) _ n (λ c k. refl) (first_name_step _ ss (λ s. s.1)) (n-selectors _ ss (λ s. s.1));
 }
 
 pub n-expr : (t : Expr) → Named (expr_piece t) (expr_outline t)

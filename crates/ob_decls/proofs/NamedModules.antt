@@ -1,5 +1,5 @@
 -- The piece of a module and its outline have the same tokens, and its rows name each identifier.
-use Rattle.std.proofs.Common.{◌+◌, List, Some, None, ◌++◌, refl}
+use Rattle.std.proofs.Common.{◌≡◌, ◌+◌, List, Some, None, ◌++◌, refl}
 use Rattle.ob_scan.specs.declared.kind.Kind.{Kind}
 use Rattle.ob_scan.specs.declared.kind.Kind.TheVariants as kinds
 use Rattle.ob_tree.specs.declared.name.OneOrMore.{OneOrMore}
@@ -27,10 +27,12 @@ use Rattle.ob_decls.specs.Types.{parameters_piece}
 use Rattle.ob_decls.specs.Declaring.{rows_of, module_end, const_piece, type_decl_piece, variable_piece, declarations_piece, procedure_piece, import_inner, import_piece, imports_piece, module_piece}
 use Rattle.ob_decls.specs.Declaring.{part as told_part}
 use Rattle.ob_decls.proofs.DeclarationLayers as told
+use Rattle.ob_rows.specs.Tables.{own_name}
 use Rattle.ob_decls.specs.Naming.{IsNamed}
 use Rattle.ob_decls.proofs.Mirrored.{Mirrors, m-both, m-held, m-name, m-word}
 use Rattle.ob_decls.proofs.Compatible.{c-each, c-map, c-there, c-three, related-is}
-use Rattle.ob_decls.proofs.Named.{AtNames, Named, named_module, n-word, n-ends, n-both, n-item, n-held, n-declaring, n-opens_block}
+use Rattle.ob_decls.proofs.Named.{AtNames, Named, named_module, named_module_roles, role_of_name, n-word, n-ends, n-both, n-item, n-held, n-declaring, n-opens_block}
+use Rattle.ob_decls.proofs.Roles.{HasRole, HaveRoles, role_at}
 use Rattle.ob_decls.proofs.NamedExpressions.{named, n-expr}
 use Rattle.ob_decls.proofs.NamedStatements.{n-block}
 use Rattle.ob_decls.proofs.NamedTypes.{n-identdef, n-parameters, n-type, n-var}
@@ -118,3 +120,12 @@ m-module m = m-held constructs.Module (m-both (m-word kinds.Module) (m-both (m-n
 pub module_named : (m : Module) → AtNames (IsNamed (rows_of m)) 0 (module_outline m)
 unfolding module_piece module_outline behind_name behind_outline
 module_named m = named_module m.name (n-behind m)
+
+-- what its rows name has their role
+pub module_roles : (m : Module) → HaveRoles (HasRole 0 (module_outline m)) (rows_of m)
+unfolding module_piece module_outline behind_name behind_outline
+module_roles m = named_module_roles m.name (n-behind m)
+
+pub own_role : (m : Module) → role_at (module_outline m) own_name ≡ Some Names
+unfolding module_outline behind_outline
+own_role m = role_of_name m.name (behind_outline m)

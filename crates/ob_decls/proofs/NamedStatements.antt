@@ -1,5 +1,5 @@
 -- The piece of a statement and its outline have the same tokens, and its rows name each identifier.
-use Rattle.std.proofs.Common.{ℕ, None, refl}
+use Rattle.std.proofs.Common.{ℕ, refl}
 use Rattle.ob_tree.specs.declared.name.Qualident.{Qualident}
 use Rattle.ob_tree.specs.declared.statement.StatementSequence.{StatementSequence}
 use Rattle.ob_tree.specs.Marks.{used}
@@ -16,7 +16,7 @@ n-qualident q = n-qualified q.member q.head
 
 n-variable : (n : ℕ) → Named variable_piece (used n)
 unfolding variable_piece
-n-variable n = n-tells _ (λ c k. refl) (λ c k. refl) (n-use None n)
+n-variable n = n-tells _ (λ c k. refl) (n-use n)
 
 pub n-block : (b : StatementSequence) → Named (block_piece b) (block_outline b)
 n-block = c-block named n-qualident n-variable

@@ -35,7 +35,7 @@ use Rattle.ob_decls.proofs.NamedStatements.{n-qualident}
 
 pub n-identdef : (i : Identdef) → Named (identdef_piece i) (identdef_outline i)
 unfolding identdef_piece identdef_outline
-n-identdef i = n-first_declares _ (declares_it i.starred) i.name (λ c k. refl) (λ c k. refl) (n-so i.starred (n-word kinds.Star))
+n-identdef i = n-first_declares i.starred (declares_it i.starred) refl i.name (n-so i.starred (n-word kinds.Star))
 
 n-parameter : (n : ℕ) → Named parameter_piece (declared false n)
 unfolding parameter_piece
@@ -43,17 +43,17 @@ n-parameter n = n-declared false n
 
 n-type_name : (q : Qualident) → Named (type_name_piece q) (qualident_outline q)
 unfolding type_name_piece qualident_outline
-n-type_name q = n-tells _ (λ c k. refl) (λ c k. refl) (n-type_use (λ m c. is_lone m c.is_target) q.member q.head)
+n-type_name q = n-tells _ (λ c k. refl) (n-type_use (λ m c. is_lone m c.is_target) q.member q.head)
 
 n-arrays : (n : ℕ) → Named (open_arrays n) (times n (word kinds.Array ++ word kinds.Of))
 n-arrays zero = n-nothing
-n-arrays (suc n) = n-both (n-tells _ (λ c k. refl) (λ c k. refl) (n-both (n-word kinds.Array) (n-word kinds.Of))) (n-arrays n)
+n-arrays (suc n) = n-both (n-tells _ (λ c k. refl) (n-both (n-word kinds.Array) (n-word kinds.Of))) (n-arrays n)
 
 n-section : (s : ParameterSection) → Named (section_piece s) (section_outline s)
 unfolding section_piece section_inner section_outline
 n-section s = n-held constructs.FPSection (n-declaring sorts.Parameter (n-both (n-so s.variable (n-word kinds.Var)) (c-three named (n-parameter s.names.first)
     (c-each named (λ n. both token parameter_piece) (λ n. word kinds.Comma ++ declared false n) s.names.rest.items (λ n. n-both (n-word kinds.Comma) (n-parameter n)))
-    (n-both (n-word kinds.Colon) (n-both (n-arrays s.open_arrays) (n-tells _ (λ c k. refl) (λ c k. refl) (n-qualident s.of)))))))
+    (n-both (n-word kinds.Colon) (n-both (n-arrays s.open_arrays) (n-tells _ (λ c k. refl) (n-qualident s.of)))))))
 
 pub n-parameters : (p : Parameters) → Named (parameters_piece p) (parameters_outline p)
 unfolding parameters_piece parameters_outline
@@ -64,7 +64,7 @@ n-parameters p =
 n-lengths : (l : ExprList) → Named (lengths_piece l) (expr_list_outline l)
 n-lengths l = related-is Named (told.lengths_out l) (expr_list_out l)
     (n-both (n-expr (out-ExprList l).first) (c-each named (λ e. both (tells (part_here parts.Array) token) (expr_piece e)) (λ e. word kinds.Comma ++ expr_outline e) (out-ExprList l).rest.items
-    (λ e. n-both (n-tells _ (λ c k. refl) (λ c k. refl) (n-word kinds.Comma)) (n-expr e))))
+    (λ e. n-both (n-tells _ (λ c k. refl) (n-word kinds.Comma)) (n-expr e))))
 
 -- each part mirrors its outline
 
@@ -78,11 +78,11 @@ predicates = record {
 
 type_held : (y : WithType predicates) → Named (told.type_shown (type_of predicates y)) (type_shown (type_of predicates y))
 type_held (layers.Named q) = n-held constructs.NamedType (n-type_name q)
-type_held (layers.ArrayOf lengths of) = n-held constructs.ArrayType (n-tells _ (λ c k. refl) (λ c k. refl)
+type_held (layers.ArrayOf lengths of) = n-held constructs.ArrayType (n-tells _ (λ c k. refl)
     (n-both (n-word kinds.Array) (n-both (n-lengths lengths.value) (n-both (n-word kinds.Of) (n-within _ of.value.1)))))
-type_held (layers.RecordOf r) = n-held constructs.RecordType (n-tells _ (λ c k. refl) (λ c k. refl) r.1)
-type_held (layers.PointerTo t) = n-held constructs.PointerType (n-tells _ (λ c k. refl) (λ c k. refl) (n-both (n-word kinds.Pointer) (n-both (n-word kinds.To) (n-within _ t.value.1))))
-type_held (layers.ProcOf p) = n-held constructs.ProcedureType (n-tells _ (λ c k. refl) (λ c k. refl) (n-opens_block (n-both (n-word kinds.Procedure) (c-there named parameters_piece parameters_outline p n-parameters))))
+type_held (layers.RecordOf r) = n-held constructs.RecordType (n-tells _ (λ c k. refl) r.1)
+type_held (layers.PointerTo t) = n-held constructs.PointerType (n-tells _ (λ c k. refl) (n-both (n-word kinds.Pointer) (n-both (n-word kinds.To) (n-within _ t.value.1))))
+type_held (layers.ProcOf p) = n-held constructs.ProcedureType (n-tells _ (λ c k. refl) (n-opens_block (n-both (n-word kinds.Procedure) (c-there named parameters_piece parameters_outline p n-parameters))))
 
 fields_held : (y : WithFields predicates) → Named (told.fields_shown (fields_of predicates y)) (fields_shown (fields_of predicates y))
 fields_held y =
@@ -91,7 +91,7 @@ fields_held y =
     (n-so y.closing_semicolon (n-word kinds.Semicolon)))
 
 record_held : (y : WithRecord predicates) → Named (told.record_shown (record_of predicates y)) (record_shown (record_of predicates y))
-record_held y = n-tells _ (λ c k. refl) (λ c k. refl) (n-within _
+record_held y = n-tells _ (λ c k. refl) (n-within _
     (n-both (n-word kinds.Record)
     (n-both (c-there named (λ q. both token (both (qualident_piece q) token)) (λ q. word kinds.LeftParen ++ (qualident_outline q ++ word kinds.RightParen)) y.base (λ q. n-both (n-word kinds.LeftParen) (n-both (n-qualident q) (n-word kinds.RightParen))))
     (n-both (record_fields predicates (λ o. Named (there (λ f. fields_piece f.value) o) (if_there (λ f. fields_outline f.value) o)) n-nothing (λ f h. h) y) (n-word kinds.End)))))

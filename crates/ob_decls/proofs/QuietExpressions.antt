@@ -21,7 +21,7 @@ quiet = record {
   one_after = λ f g. q-both f g;
   held = λ c f. f;
   a_field = λ n. q-both q-token q-token;
-  a_selector = λ s f. f;
+  a_selector = λ s other f. f;
   a_designator = λ w n ss. q-tells _ (λ c k. refl) (λ c k. refl) (q-tells _ (λ c k. refl) (λ c k. refl) (q-both (q-use _) (q-selectors _ ss (λ s. s.1))));
 }
 

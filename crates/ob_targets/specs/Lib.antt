@@ -1,5 +1,7 @@
 pub mod Predeclared
 pub mod Standing
+pub mod Contexts
 pub mod Targets
 pub mod Steps
 pub mod Refers
+pub mod ScopeRule

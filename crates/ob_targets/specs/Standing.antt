@@ -53,8 +53,8 @@ is_second k u = is_token k u.member
 abbrev pub first : {X : Type 0} → (X → Bool) → (ℕ → Standing) → List X → Standing → Standing
 first stands at rows otherwise = option_map_or at (position stands rows) otherwise
 
--- where the identifier of this token stands, by the first of these kinds of rows that has it, or else here; of a tree's identifiers
--- only one kind has it, but that an import item's alias is also declared, and that a designator's second name may be a qualident's
+-- where the identifier of this token stands, by the first of these kinds of rows that has it, or else here; by the law one_context only
+-- one kind has it, except that an import item's alias is also declared, and that both kinds of names behind a dot may have it
 abbrev pub standing_or : Rows → ℕ → Standing → Standing
 standing_or rows k otherwise = if k == own_name then standings.OwnName else
     first (is_alias k) standings.Item rows.imports (
