@@ -3,10 +3,10 @@ use Rattle.std.specs.Prelude.{◌≡◌, ◌<◌, ℕ, List, length, slice_index
 use Rattle.work_board.specs.Graphs.{row_at, Modules}
 use Rattle.work_board.specs.Cores.{has_entry, is_claimed, AreOf, AreShares, Core}
 
--- the shared parts of right entries of all that the module reaches, ascending by number
+-- the shared parts of right entries of all that the module reaches, ascending by name
 abbrev pub AreSharedPartsOf : {E X : Type 0} → (List ℕ → E → Type 0) → (E → X) → Modules → ℕ → List X → Type 0
 AreSharedPartsOf {E = E} is_of shared_of g n parts =
-    (c : Core E) × (length c.entries ≡ length g.names) × AreOf is_of g.names c.entries × AreShares shared_of g.imports c n parts
+    (c : Core E) × (length c.entries ≡ length g.names) × AreOf is_of g.names c.entries × AreShares shared_of g c n parts
 
 -- an entry for each module, by number, that is the entry of the module of this name
 pub record AreEntries {E : Type 0} (is_of : List ℕ → E → Type 0) (g : Modules) (entries : List E) : Type 0 where

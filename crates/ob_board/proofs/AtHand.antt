@@ -1,5 +1,5 @@
 -- What a worker has at hand for a module, whatever is made of it.
-use Rattle.std.proofs.Common.{◌≡◌, ℕ, ◌<◌, ◌≤◌, ◌^◌, Bool, true, false, List, [], ◌∷◌, length, Some, sym, ap, ◌∙◌, subst, arith}
+use Rattle.std.proofs.Common.{◌≡◌, ℕ, ◌<◌, ◌≤◌, ◌^◌, List, [], length, Some, sym, ap, ◌∙◌, subst, arith}
 use Rattle.std.specs.Prelude.{Contains, slice_get, slice_index_or, Box}
 use Rattle.std.specs.Arc.{arc_value}
 use Rattle.std.specs.declared.alloc.Global.{Global}
@@ -17,9 +17,9 @@ use Rattle.board_workers.specs.Parts.{IsJob}
 use Rattle.ob_board.specs.Ahead.{IsAheadOf, ServesAmong}
 use Rattle.ob_board.specs.declared.ahead.Ahead.{Ahead}
 use Rattle.ob_board.specs.Boards.{modules_of}
-use Rattle.ob_board.specs.Reached.{file_of, files_of, interface_in, marked_interfaces, names, AreReachedInterfaces, ReachesAlike, SeenFile}
+use Rattle.ob_board.specs.Reached.{file_of, files_of, interface_in, names, AreReachedInterfaces, ReachesAlike, SeenFile}
 use Rattle.ob_board.specs.Seen.{all_seen, seen_in, AreSourcesRead}
-use Rattle.ob_board.proofs.Shared.{parts_reached}
+use Rattle.ob_board.proofs.Shared.{few_reached, parts_reached}
 use Rattle.ob_board.specs.Entries.{interfaces_of, AreAllNamed, IsEntryOf, PlainEntry}
 use Rattle.ob_board.specs.Found.{IsAtHand, IsFoundOf, PlainFound}
 use Rattle.ob_board.specs.Records.{IsRecordedOf, PlainRecorded}
@@ -35,19 +35,7 @@ pub record IsGiven (files : List SeenFile) (sources : List Source) (modules : Li
   pub all_named : (s : Source) (m : Box ModuleParts Global) → AreAllNamed parts
   pub serves : (s : Source) (m : Box ModuleParts Global) (ahead : Ahead) → IsAheadOf (interfaces_of modules) ahead → ServesAmong parts ahead
 
-few_marked : (marks : List Bool) (files : List SeenFile) → length (marked_interfaces marks files) ≤ length files
-few_marked [] files = omega arith
-few_marked (mark ∷ marks) [] = omega arith
-few_marked (true ∷ marks) (file ∷ files) = let rest = few_marked marks files in omega (arith, rest)
-few_marked (false ∷ marks) (file ∷ files) = let rest = few_marked marks files in omega (arith, rest)
-
--- no more are reached than the files of a tree, whose limit this is far below
-few_reached : (files : List SeenFile) (g : ImportGraph) (m : List ℕ) (parts : List ModuleInterface) → AreFilesOfGraph (files_of files) g → AreReachedInterfaces files m parts → length parts ≤ 2 ^ 32
-few_reached files g m parts kept among =
-    let few : length (files_of files) ≤ 4096 = kept.are_files.few_modules in
-    omega (arith, few, few_marked among.marks files, length-map files file_of, ap length among.reached_are)
-
--- the same of all modules
+-- the modules of a tree are few
 pub few_modules : (sources : List Source) (modules : List (Box ModuleParts Global)) (g : ImportGraph) → AreSourcesRead sources modules g → length (interfaces_of modules) ≤ 2 ^ 32
 few_modules sources modules g seen =
     let files = all_seen sources modules in
@@ -84,7 +72,7 @@ module _ {E : Type 0} (is_of : List SeenFile → List ℕ → E → Type 0) (sha
               is_of_tree = contains_slice files n (seen_in here own.value) (at s m);
               is_seen = seen.each n here own (slice_get-get_or sources n s both.0) (slice_get-get_or modules n m both.1);
               are_reached = reached s m;
-              few_reached = few_reached files g _ parts seen.kept (reached s m);
+              few_reached = let few = few_reached (is_of files) shared_of files g seen.kept (tells files) n parts job in omega (arith, few);
             });
         named = λ s m p is.
             let here = slice_index_or sources n s in

@@ -1,81 +1,50 @@
--- Names that ascend, among modules with a mark too.
-use Rattle.std.proofs.Common.{◌≡◌, ℕ, zero, suc, ◌+◌, Bool, true, false, List, [], ◌∷◌, length, map, get_or, Some, refl, sym, ap, ◌∙◌, subst, arith, inl, inr}
-use Rattle.std.specs.Prelude.{Contains, slice_get, Box}
-use Rattle.std.specs.Cmp.Lexicographic.{slice_cmp}
-use Rattle.std.specs.Ordering.{nat_cmp}
-use Rattle.std.specs.declared.alloc.Global.{Global}
-use Rattle.std.specs.declared.cmp.Ordering.TheVariants.{Less}
-use Rattle.std.specs.Bool.{OnTrue}
-use Rattle.std.proofs.lemmas.Bool.{OnTrue_at, OnTrue_from}
-use Rattle.std.proofs.lemmas.List.Elements.{Contains-get_or}
-use Rattle.ob_imports.specs.Graphs.{ImportGraph}
-use Rattle.digraph.proofs.Members.{first_or_later, later_member, first_member, no_member}
+-- Lists whose names ascend, and how they come about.
+use Rattle.std.proofs.Common.{◌≡◌, ℕ, ◌+◌, false, List, get_or, map, sym, ap, ◌∙◌, arith}
+use Rattle.std.specs.Prelude.{AllPairs, Contains}
+use Rattle.std.specs.Cmp.Lexicographic.{slice_cmp, nat_list_cmp_total}
+use Rattle.std.specs.List.{IsDistinct}
+use Rattle.std.specs.List.Sorted.{IsSortedBy}
+use Rattle.std.specs.Ordering.{is_lt, nat_cmp, ordering_reverse}
+use Rattle.std.specs.Str.{bytes_eq}
+use Rattle.std.specs.declared.cmp.Ordering.TheVariants.{Less, Greater}
+use Rattle.std.proofs.lemmas.Bool.{false≢true}
+use Rattle.std.proofs.lemmas.List.{get_or-map, length-map}
+use Rattle.std.proofs.lemmas.List.Sorted.{ranks_by, sorted_far}
+use Rattle.std.proofs.lemmas.Map.Keys.{apart_from_distinct}
+use Rattle.digraph.proofs.Ascending.{same_members}
+use Rattle.digraph.proofs.Names.{below, same_is}
 use Rattle.ob_interface.specs.Interfaces.{ModuleInterface}
 use Rattle.ob_types.specs.Homes.{AreByName}
 use Rattle.ob_types.proofs.Ascending.{less}
-use Rattle.oscip_tree.specs.declared.parts.ModuleParts.{ModuleParts}
-use Rattle.oscip_tree.specs.declared.source.Source.{Source}
-use Rattle.ob_board.specs.Reached.{interface_in, marked_interfaces, SeenFile}
-use Rattle.ob_board.specs.Seen.{all_seen, seen_in, AreSourcesRead, IsSourceRead}
-use Rattle.ob_board.specs.Entries.{interfaces_of}
+
+-- what is sorted by names that are apart ascends
+pub apart_pairs : {X : Type 0} (name : X → List ℕ) (xs : List X) → IsSortedBy (λ a b. is_lt (slice_cmp nat_cmp (name a) (name b))) xs → IsDistinct bytes_eq (map name xs)
+    → AllPairs (λ a b. slice_cmp nat_cmp (name a) (name b) ≡ Less) xs
+apart_pairs name xs sorted once i j d lt l =
+    let low : is_lt (slice_cmp nat_cmp (name (get_or xs j d)) (name (get_or xs i d))) ≡ false =
+    sorted_far (λ a b. is_lt (slice_cmp nat_cmp (name a) (name b))) (ranks_by nat_list_cmp_total name) xs sorted i j d (omega arith) l in
+    below (name (get_or xs i d)) (name (get_or xs j d)) low (λ same.
+    let apart = apart_from_distinct bytes_eq (map name xs) i j (name d) once lt (omega (arith, l, length-map xs name)) in
+    let here = get_or-map name xs i d (name d) (omega (arith, lt, l)) in
+    let there = get_or-map name xs j d (name d) l in
+    false≢true (sym apart ∙ same_is _ _ (here ∙ same ∙ sym there)))
 
 abbrev pub IsBefore : ModuleInterface → ModuleInterface → Type 0
 IsBefore a b = slice_cmp nat_cmp a.name b.name ≡ Less
 
--- the first stands before each other
-before_rest : (x : ModuleInterface) (xs : List ModuleInterface) → AreByName (x ∷ xs) → (y : ModuleInterface) → Contains xs y → IsBefore x y
-before_rest x xs s y (k, l, e) =
-    let here : IsBefore x (get_or xs k y) = less (λ (m : ModuleInterface). m.name) (x ∷ xs) s y (suc k) 0 (omega arith) (omega (arith, l)) in
-    subst (IsBefore x) e here
+pub by_pairs : (modules : List ModuleInterface) → AllPairs IsBefore modules → AreByName modules
+by_pairs modules pairs k d l = pairs k (k + 1) d (omega arith) l
 
-rest_by_name : (x : ModuleInterface) (xs : List ModuleInterface) → AreByName (x ∷ xs) → AreByName xs
-rest_by_name x xs s k d l =
-    let e : suc k + 1 ≡ suc (k + 1) = omega arith in
-    subst (λ (n : ℕ). IsBefore (get_or xs k d) (get_or (x ∷ xs) n d)) e (s (suc k) d (omega (arith, l)))
+pub pairs_by : (modules : List ModuleInterface) → AreByName modules → AllPairs IsBefore modules
+pairs_by modules ascend i j d lt l = less (λ (m : ModuleInterface). m.name) modules ascend d j i lt l
 
-by_name_more : (x : ModuleInterface) (xs : List ModuleInterface) → ((y : ModuleInterface) → Contains xs y → IsBefore x y) → AreByName xs → AreByName (x ∷ xs)
-by_name_more x xs first s zero d l = first (get_or xs 0 d) (Contains-get_or xs 0 d (omega (arith, l)))
-by_name_more x xs first s (suc k) d l =
-    let e : suc (k + 1) ≡ suc k + 1 = omega arith in
-    subst (λ (n : ℕ). IsBefore (get_or xs k d) (get_or (x ∷ xs) n d)) e (s k d (omega (arith, l)))
+one_way : (a b : ModuleInterface) → IsBefore a b → IsBefore b a → ⊥
+one_way a b p q =
+    let turned : slice_cmp nat_cmp a.name b.name ≡ ordering_reverse (slice_cmp nat_cmp b.name a.name) = nat_list_cmp_total.antisymm a.name b.name in
+    let bad : Less ≡ Greater = sym p ∙ turned ∙ ap ordering_reverse q in
+    cc
 
--- those with a mark are among all
-pub among_all : (marks : List Bool) (files : List SeenFile) (i : ModuleInterface) → Contains (marked_interfaces marks files) i → Contains (map interface_in files) i
-among_all [] files i h = no_member i h
-among_all (mark ∷ marks) [] i h = no_member i h
-among_all (true ∷ marks) (file ∷ files) i h = elim (first_or_later (interface_in file) (marked_interfaces marks files) i h) [
-  | inl here ↦ first_member (interface_in file) (map interface_in files) i here
-  | inr later ↦ later_member (interface_in file) (map interface_in files) i (among_all marks files i later)
-]
-among_all (false ∷ marks) (file ∷ files) i h = later_member (interface_in file) (map interface_in files) i (among_all marks files i h)
-
-nothing : AreByName []
-nothing k d l = absurd (omega (arith, l))
-
-marked_by_name : (marks : List Bool) (files : List SeenFile) → AreByName (map interface_in files) → AreByName (marked_interfaces marks files)
-marked_by_name [] files s = nothing
-marked_by_name (mark ∷ marks) [] s = nothing
-marked_by_name (true ∷ marks) (file ∷ files) s =
-    by_name_more (interface_in file) (marked_interfaces marks files) (λ y h. before_rest (interface_in file) (map interface_in files) s y (among_all marks files y h))
-    (marked_by_name marks files (rest_by_name (interface_in file) (map interface_in files) s))
-marked_by_name (false ∷ marks) (file ∷ files) s = marked_by_name marks files (rest_by_name (interface_in file) (map interface_in files) s)
-
--- the interfaces of all parts are those of the files
-pub same_interfaces : (sources : List Source) (modules : List (Box ModuleParts Global)) → length modules ≡ length sources
-    → ((k : ℕ) (s : Source) (m : Box ModuleParts Global) → slice_get sources k ≡ Some s → slice_get modules k ≡ Some m → IsSourceRead s m.value)
-    → interfaces_of modules ≡ map interface_in (all_seen sources modules)
-same_interfaces [] [] many each = refl
-same_interfaces [] (m ∷ modules) many each = absurd (omega (arith, many))
-same_interfaces (s ∷ sources) [] many each = refl
-same_interfaces (s ∷ sources) (m ∷ modules) many each =
-    let here = (each zero s m refl refl).interface in
-    let later = same_interfaces sources modules (omega (arith, many)) (λ k a b p q. each (suc k) a b p q) in
-    ap (λ (i : ModuleInterface). i ∷ interfaces_of modules) here ∙ ap (λ (is : List ModuleInterface). interface_in (seen_in s m.value) ∷ is) later
-
--- where it is known that the names of all modules ascend, those of the modules with a mark do too
-pub reached_by_name : (sources : List Source) (modules : List (Box ModuleParts Global)) (g : ImportGraph) → AreSourcesRead sources modules g → (known : Bool) → OnTrue known (AreByName (interfaces_of modules))
-    → (marks : List Bool) (reached : List ModuleInterface) → reached ≡ marked_interfaces marks (all_seen sources modules) → OnTrue known (AreByName reached)
-reached_by_name sources modules g seen known s marks reached is =
-    OnTrue_from known (AreByName reached) (λ (e : known ≡ true).
-    let all : AreByName (interfaces_of modules) = OnTrue_at e s in
-    subst AreByName (sym is) (marked_by_name marks (all_seen sources modules) (subst AreByName (same_interfaces sources modules seen.as_many seen.each) all)))
+-- two such lists of the same modules are one
+pub one_by_name : (modules others : List ModuleInterface) → AreByName modules → AreByName others → ((m : ModuleInterface) → Contains modules m → Contains others m)
+    → ((m : ModuleInterface) → Contains others m → Contains modules m) → modules ≡ others
+one_by_name modules others a b to from = same_members IsBefore one_way modules others (pairs_by modules a) (pairs_by others b) to from

@@ -1,5 +1,5 @@
 -- The entry of a module, and the entries of all.
-use Rattle.std.proofs.Common.{◌≡◌, ℕ, zero, suc, ◌<◌, Bool, true, false, List, [], ◌∷◌, length, get_or, map, Some, refl, sym, ap, ◌∙◌, subst, arith, inl, inr}
+use Rattle.std.proofs.Common.{◌≡◌, ℕ, zero, suc, ◌<◌, List, [], ◌∷◌, length, get_or, map, Some, refl, sym, ap, ◌∙◌, subst, arith, inl, inr}
 use Rattle.std.specs.Prelude.{Contains, slice_get, Box}
 use Rattle.std.specs.Arc.{arc_value}
 use Rattle.std.specs.List.{flat_map}
@@ -24,7 +24,7 @@ use Rattle.scip_index.specs.Plain.{PlainDocument, PlainIndex}
 use Rattle.ob_board.specs.declared.entry.Entry.{Entry}
 use Rattle.board_workers.specs.Parts.{AreEntries as AreAtBoard}
 use Rattle.ob_board.specs.Boards.{modules_of}
-use Rattle.ob_board.specs.Reached.{interface_in, marked_interfaces, names, seen_of, AreReachedInterfaces, SeenFile}
+use Rattle.ob_board.specs.Reached.{interface_in, names, seen_of, AreReachedInterfaces, SeenFile}
 use Rattle.ob_board.specs.Seen.{all_seen, seen_in, AreSourcesRead, IsSourceRead}
 use Rattle.ob_board.proofs.Chained.{as_many, modules_within}
 use Rattle.ob_board.proofs.SeenFiles.{seen_are}
@@ -45,15 +45,6 @@ seen_all P (s ∷ sources) (m ∷ modules) each file has = elim (first_or_later 
   | inr later ↦ seen_all P sources modules (λ k a b p q. each (suc k) a b p q) file later
 ]
 
-all_marked : (marks : List Bool) (files : List SeenFile) → ((file : SeenFile) → Contains files file → HasNames (interface_in file)) → AreAllNamed (marked_interfaces marks files)
-all_marked [] files each x (k, l, e) = absurd (omega arith)
-all_marked (mark ∷ marks) [] each x (k, l, e) = absurd (omega arith)
-all_marked (true ∷ marks) (file ∷ files) each x has = elim (first_or_later (interface_in file) (marked_interfaces marks files) x has) [
-  | inl same ↦ subst HasNames same (each file (zero, omega arith, refl))
-  | inr later ↦ all_marked marks files (λ f h. each f (suc h.0, omega (arith, h.1), h.2)) x later
-]
-all_marked (false ∷ marks) (file ∷ files) each x has = all_marked marks files (λ f h. each f (suc h.0, omega (arith, h.1), h.2)) x has
-
 module _ (sources : List Source) (modules : List (Box ModuleParts Global)) (g : ImportGraph) (seen : AreSourcesRead sources modules g) (package_name : List ℕ) where
   abbrev files : List SeenFile
   files = all_seen sources modules
@@ -63,7 +54,7 @@ module _ (sources : List Source) (modules : List (Box ModuleParts Global)) (g : 
       (λ k s m p q. let h : IsSourceRead s m.value = seen.each k s m p q in seen_named s.bytes.items m.value.tokens (rows_in m.value.table) h.scopes.named)
 
   pub reached_named : (m : List ℕ) (parts : List ModuleInterface) → AreReachedInterfaces files m parts → AreAllNamed parts
-  reached_named m parts are = subst AreAllNamed (sym are.reached_are) (all_marked are.marks files file_named)
+  reached_named m parts are = λ i has. let from = (are.those i).0 has in subst HasNames from.is (file_named from.file from.is_of_tree)
 
   -- the entries of all modules
   pub entries_all : (all : List PlainEntry) → AreAtBoard (λ (x : List ℕ) (e : PlainEntry). IsEntryOf files package_name x e) (modules_of g) all → AreEntriesOf files package_name all

@@ -1,6 +1,5 @@
 -- Two readings of a tree are seen as one, and what a module of it reaches is one list.
-use Rattle.std.proofs.Common.{◌≡◌, ℕ, zero, suc, Bool, true, false, List, [], ◌∷◌, length, map, refl, sym, ap, ap₂, ◌∙◌, subst, arith, Some}
-use Rattle.std.specs.Prelude.{◌↔◌, slice_get, slice_index_or}
+use Rattle.std.proofs.Common.{◌≡◌, ℕ, List, map, sym, ◌∙◌, subst, arith}
 use Rattle.std.proofs.lemmas.Option.{slice_get_within}
 use Rattle.ob_interface.specs.Interfaces.{ModuleInterface}
 use Rattle.ob_scan.proofs.Outcomes.{spelled_once}
@@ -9,7 +8,8 @@ use Rattle.oscip_tree.proofs.SameFiles.{one_rows}
 use Rattle.oscip_tree.proofs.TreeFiles.{same_maps, there}
 use Rattle.oscip_tree.specs.Trees.{rows, AreAccepted, IsAccepted, ModuleFile}
 use Rattle.oscip_tree.specs.declared.source.Source.{Source}
-use Rattle.ob_board.specs.Reached.{marked_interfaces, names, seen_of, AreReachedInterfaces, ReachesName, SeenFile}
+use Rattle.ob_board.specs.Reached.{seen_of, AreReachedInterfaces, SeenFile}
+use Rattle.ob_board.proofs.ByName.{one_by_name}
 
 same_seen : (s : Source) (a b : ModuleFile) → IsAccepted s a → IsAccepted s b → seen_of a ≡ seen_of b
 same_seen s a b h k =
@@ -29,27 +29,6 @@ one_tree sources files others a b =
 
 -- ---- what a module reaches
 
-same_mark : (a b : Bool) → (a ≡ true → b ≡ true) → (b ≡ true → a ≡ true) → a ≡ b
-same_mark true b to from = sym (to refl)
-same_mark false true to from = from refl
-same_mark false false to from = refl
-
-same_marks : {X : Type 0} (Holds : X → Type 0) (xs : List X) (marks others : List Bool) → length marks ≡ length xs → length others ≡ length xs
-    → ((k : ℕ) (x : X) → slice_get xs k ≡ Some x → (slice_index_or marks k false ≡ true) ↔ Holds x)
-    → ((k : ℕ) (x : X) → slice_get xs k ≡ Some x → (slice_index_or others k false ≡ true) ↔ Holds x) → marks ≡ others
-same_marks Holds [] [] [] p q a b = refl
-same_marks Holds [] (m ∷ marks) others p q a b = absurd (omega arith)
-same_marks Holds [] [] (n ∷ others) p q a b = absurd (omega arith)
-same_marks Holds (x ∷ xs) [] others p q a b = absurd (omega arith)
-same_marks Holds (x ∷ xs) (m ∷ marks) [] p q a b = absurd (omega arith)
-same_marks Holds (x ∷ xs) (m ∷ marks) (n ∷ others) p q a b =
-    let one = a zero x refl in
-    let two = b zero x refl in
-    ap₂ (λ (h : Bool) (t : List Bool). h ∷ t)
-    (same_mark m n (λ e. two.1 (one.0 e)) (λ e. one.1 (two.0 e)))
-    (same_marks Holds xs marks others (omega arith) (omega arith) (λ k y at. a (suc k) y at) (λ k y at. b (suc k) y at))
-
 pub one_reached : (files : List SeenFile) (m : List ℕ) (reached others : List ModuleInterface) → AreReachedInterfaces files m reached → AreReachedInterfaces files m others → reached ≡ others
 one_reached files m reached others a b =
-    let same : a.marks ≡ b.marks = same_marks (λ (file : SeenFile). ReachesName files m (names file 1)) files a.marks b.marks a.size b.size a.those b.those in
-    a.reached_are ∙ ap (λ (marks : List Bool). marked_interfaces marks files) same ∙ sym b.reached_are
+    one_by_name reached others a.by_name b.by_name (λ i has. (b.those i).1 ((a.those i).0 has)) (λ i has. (a.those i).1 ((b.those i).0 has))

@@ -1,19 +1,28 @@
 -- What a module of a tree reaches stands among all modules of the tree, with all that it imports of them.
-use Rattle.std.proofs.Common.{◌≡◌, ℕ, zero, suc, Bool, true, false, List, [], ◌∷◌, ◌++◌, length, map, Option, None, Some, refl, sym, ap, ◌∙◌, subst, arith, inl, inr}
-use Rattle.std.specs.Prelude.{Box, Contains, find, position, slice_get, slice_index_or}
+use Rattle.std.proofs.Common.{◌≡◌, ◌+◌, ℕ, zero, suc, Bool, true, false, List, [], ◌∷◌, ◌++◌, length, map, None, Some, Ordering, refl, sym, ap, ◌∙◌, subst, arith, inl, inr}
+use Rattle.std.specs.Prelude.{Box, Contains, IsPermutation, find, position, slice_get}
 use Rattle.std.specs.declared.alloc.Global.{Global}
 use Rattle.std.specs.List.{position_or_len}
 use Rattle.std.specs.Option.{option_map}
 use Rattle.std.specs.Str.{bytes_eq}
+use Rattle.std.specs.Arc.{arc_value}
+use Rattle.std.specs.declared.sync.Arc.{Arc}
+use Rattle.std.specs.Cmp.Lexicographic.{slice_cmp, nat_list_cmp_total, nat_list_eq_equiv}
+use Rattle.std.specs.List.{IsDistinct}
+use Rattle.std.specs.List.Sorted.{IsSortedBy}
+use Rattle.std.specs.Ordering.{is_lt, nat_cmp, ordering_reverse}
+use Rattle.std.specs.declared.cmp.Ordering.TheVariants.{Less, Equal, Greater}
+use Rattle.std.proofs.lemmas.List.{get_or-map, length-map}
+use Rattle.std.proofs.lemmas.List.Sorted.{Contains-permutation, IsPermutation-map, IsPermutation-sym}
+use Rattle.std.proofs.lemmas.Map.Keys.{IsDistinct-IsPermutation}
 use Rattle.std.proofs.lemmas.Bool.{cases_Bool, cases_lt, false≢true, lt-ltb}
 use Rattle.std.proofs.lemmas.List.Sums.{fails_before_first}
-use Rattle.std.proofs.lemmas.Option.{none-some, IfSome_then}
+use Rattle.std.proofs.lemmas.Option.{get_or_from_slice_get, none-some, slice_get_within, IfSome_then}
 use Rattle.std.proofs.lemmas.Slice.Eq.{bytes_eq-Decides}
 use Rattle.digraph.specs.Chains.{IsChain}
-use Rattle.digraph.proofs.Members.{first_member, first_or_later, later_member, no_member}
-use Rattle.ob_imports.specs.Files.{Imports}
+use Rattle.digraph.proofs.Members.{first_member, from_map, in_map, later_member}
+use Rattle.ob_imports.specs.Files.{names_of, Imports}
 use Rattle.ob_imports.specs.Graphs.{ImportGraph}
-use Rattle.ob_imports.specs.Outcomes.{AreFilesOfGraph}
 use Rattle.ob_interface.specs.Interfaces.{imported_of, Imported, ModuleInterface}
 use Rattle.ob_interface.specs.Placed.{module_named}
 use Rattle.ob_rows.specs.declared.rows.Import.{Import}
@@ -23,15 +32,15 @@ use Rattle.ob_scan.specs.declared.token.Token.{Token}
 use Rattle.ob_scan.specs.Texts.{text_at}
 use Rattle.ob_types.specs.Homes.{home_in}
 use Rattle.ob_types.specs.Within.{AreWithin}
+use Rattle.ob_types.proofs.Ascending.{found}
 use Rattle.ob_types.proofs.Within.{placed}
-use Rattle.ob_scope.proofs.Elements.{contains_of, contains_slice, of_slice, some_one}
-use Rattle.ob_board.specs.Ahead.{IsAheadOf, ServesAmong}
+use Rattle.ob_scope.proofs.Elements.{contains_slice, some_one}
+use Rattle.ob_board.specs.Ahead.{AreAllByName, IsAheadOf, ServesAmong}
 use Rattle.ob_board.specs.declared.ahead.Ahead.{Ahead}
 use Rattle.ob_board.specs.Entries.{interfaces_of}
-use Rattle.ob_board.specs.Seen.{all_seen, AreSourcesRead}
-use Rattle.ob_board.specs.Reached.{file_of, files_of, interface_in, marked_interfaces, names, AreReachedInterfaces, ReachesName, SeenFile}
-use Rattle.ob_board.proofs.ByName.{among_all, reached_by_name, same_interfaces}
-use Rattle.ob_board.proofs.Shared.{same_place}
+use Rattle.ob_board.specs.Seen.{all_seen, seen_in, AreSourcesRead, IsSourceRead}
+use Rattle.ob_board.specs.Reached.{file_of, files_of, interface_in, names, AreReachedInterfaces, ReachesName, SeenFile}
+use Rattle.ob_board.proofs.ByName.{apart_pairs, by_pairs}
 
 -- ---- places of modules by their names
 
@@ -44,35 +53,6 @@ leads modules m (k, lt, is) none =
       | inl within ↦ (let there : position test modules ≡ Some place = rw (lt-ltb place (length modules) within) refl in none-some place (sym none ∙ there))
       | inr past ↦ false≢true (sym (fails_before_first test modules k m (omega (arith, lt, past))) ∙ (bytes_eq-Decides _ m.name).1 (ap (λ (x : ModuleInterface). x.name) is))
     ]
-
--- ---- modules with a mark
-
-record IsMarked (marks : List Bool) (files : List SeenFile) (m : ModuleInterface) : Type 0 where
-  place : ℕ
-  file : SeenFile
-  at : slice_get files place ≡ Some file
-  mark : slice_index_or marks place false ≡ true
-  is : interface_in file ≡ m
-
-behind : (mark : Bool) (marks : List Bool) (file : SeenFile) (files : List SeenFile) (m : ModuleInterface) → IsMarked marks files m → IsMarked (mark ∷ marks) (file ∷ files) m
-behind mark marks file files m h = record { place = suc h.place; file = h.file; at = h.at; mark = h.mark; is = h.is }
-
-of_marked : (marks : List Bool) (files : List SeenFile) (m : ModuleInterface) → Contains (marked_interfaces marks files) m → IsMarked marks files m
-of_marked [] files m h = no_member m h
-of_marked (mark ∷ marks) [] m h = no_member m h
-of_marked (true ∷ marks) (file ∷ files) m h = elim (first_or_later (interface_in file) (marked_interfaces marks files) m h) [
-  | inl here ↦ record { place = 0; file = file; at = refl; mark = refl; is = here }
-  | inr later ↦ behind true marks file files m (of_marked marks files m later)
-]
-of_marked (false ∷ marks) (file ∷ files) m h = behind false marks file files m (of_marked marks files m h)
-
-in_marked : (marks : List Bool) (files : List SeenFile) (k : ℕ) (file : SeenFile) → slice_get files k ≡ Some file → slice_index_or marks k false ≡ true → Contains (marked_interfaces marks files) (interface_in file)
-in_marked [] files k file at mark = absurd (false≢true mark)
-in_marked (mark ∷ marks) [] k file at is = absurd (none-some file at)
-in_marked (true ∷ marks) (f ∷ files) zero file at mark = first_member (interface_in f) (marked_interfaces marks files) (interface_in file) (ap interface_in (some_one f file at))
-in_marked (true ∷ marks) (f ∷ files) (suc k) file at mark = later_member (interface_in f) (marked_interfaces marks files) (interface_in file) (in_marked marks files k file at mark)
-in_marked (false ∷ marks) (f ∷ files) zero file at mark = absurd (false≢true mark)
-in_marked (false ∷ marks) (f ∷ files) (suc k) file at mark = in_marked marks files k file at mark
 
 -- ---- imports
 
@@ -90,54 +70,90 @@ chain_more : {N : Type 0} (H : N → N → Type 0) (m : N) (more : List N) (v w 
 chain_more H m [] v w chain edge = (subst (λ x. H x w) (sym chain) edge, refl)
 chain_more H m (n ∷ more) v w chain edge = (chain.0, chain_more H n more v w chain.1 edge)
 
-module _ (files : List SeenFile) (g : ImportGraph) (kept : AreFilesOfGraph (files_of files) g) where
-  abbrev all : List ModuleInterface
-  all = map interface_in files
+equal_to_itself : (name : List ℕ) → slice_cmp nat_cmp name name ≡ Equal
+equal_to_itself name = at (slice_cmp nat_cmp name name) (nat_list_cmp_total.antisymm name name)
+  where
+    at : (o : Ordering) → o ≡ ordering_reverse o → o ≡ Equal
+    at Less e = absurd (let bad : Less ≡ Greater = e in cc)
+    at Equal e = refl
+    at Greater e = absurd (let bad : Greater ≡ Less = e in cc)
 
+module _ (files : List SeenFile) (all : List ModuleInterface) (tree : AreAllByName (map interface_in files) all) where
   -- the name of each module leads to itself
-  home_is : (o : Option ℕ) (k : ℕ) (m : ModuleInterface) → home_in all m.name ≡ o → slice_get all k ≡ Some m → o ≡ Some k
-  home_is None k m e at = absurd (leads all m (contains_slice all k m at) e)
-  home_is (Some j) k m e at =
-      let to = placed all m.name j e in
-      let (file, here, is) = of_slice interface_in files k m at in
-      let (other, there, also) = of_slice interface_in files j to.module_there to.at in
-      let named : names other 1 ≡ names file 1 = ap (λ (x : ModuleInterface). x.name) also ∙ to.named ∙ sym (ap (λ (x : ModuleInterface). x.name) is) in
-      ap (λ (n : ℕ). Some n) (same_place files g kept k j file other here there named)
+  home_is : (k : ℕ) (m : ModuleInterface) → slice_get all k ≡ Some m → home_in all m.name ≡ Some k
+  home_is k m at =
+      found (λ (x : ModuleInterface). x.name) all m.name k tree.by_name (slice_get_within all k m at)
+      (λ d. ap (λ (x : ModuleInterface). slice_cmp nat_cmp x.name m.name) (get_or_from_slice_get all k m d at) ∙ equal_to_itself m.name)
 
   -- what a module reaches reaches what it imports
   reaches_more : (own m n : List ℕ) → ReachesName files own m → Imports (files_of files) m n → ReachesName files own n
   reaches_more own m n (w, first, (more, chain)) imports = (w, first, (more ++ n ∷ [], chain_more (Imports (files_of files)) w more m n chain imports))
 
   module _ (own : List ℕ) (reached : List ModuleInterface) (are : AreReachedInterfaces files own reached) where
-    among : (m : ModuleInterface) → Contains reached m → Contains (marked_interfaces are.marks files) m
-    among m has = subst (λ (ms : List ModuleInterface). Contains ms m) are.reached_are has
+    among : (m : ModuleInterface) → Contains reached m → Contains all m
+    among m has =
+        let from = (are.those m).0 has in
+        Contains-permutation (map interface_in files) all m tree.same (subst (Contains (map interface_in files)) from.is (in_map interface_in files from.file from.is_of_tree))
 
     closed : (m : ModuleInterface) (alias name : List ℕ) (k : ℕ) → Contains reached m → module_named m alias ≡ Some name → home_in all name ≡ Some k → home_in reached name ≡ None → ⊥
     closed m alias name k has of there none =
-        let from = of_marked are.marks files m (among m has) in
+        let from = (are.those m).0 has in
         let file = from.file in
         let to = placed all name k there in
-        let (other, at, is) = of_slice interface_in files k to.module_there to.at in
+        let (other, of_tree, is) = from_map interface_in files to.module_there
+        (Contains-permutation all (map interface_in files) to.module_there (IsPermutation-sym (map interface_in files) all tree.same) (contains_slice all k to.module_there to.at)) in
         let named : names other 1 ≡ name = ap (λ (x : ModuleInterface). x.name) is ∙ to.named in
         let import = named_import file.bytes file.tokens alias name (file.rows).imports (subst (λ (x : ModuleInterface). module_named x alias ≡ Some name) (sym from.is) of) in
-        let imports : Imports (files_of files) (names file 1) name = (file_of file, contains_of file_of files from.place file from.at, refl, import) in
-        let reach = reaches_more own (names file 1) name ((are.those from.place file from.at).0 from.mark) imports in
-        let mark = (are.those k other at).1 (subst (ReachesName files own) (sym named) reach) in
-        let here : Contains reached (interface_in other) = subst (λ (ms : List ModuleInterface). Contains ms (interface_in other)) (sym are.reached_are) (in_marked are.marks files k other at mark) in
+        let imports : Imports (files_of files) (names file 1) name = (file_of file, in_map file_of files file from.is_of_tree, refl, import) in
+        let reach = subst (ReachesName files own) (sym named) (reaches_more own (names file 1) name from.is_reached imports) in
+        let here : Contains reached (interface_in other) = (are.those (interface_in other)).1 (record { file = other; is_of_tree = of_tree; is_reached = reach; is = refl }) in
         leads reached (interface_in other) here (ap (home_in reached) named ∙ none)
 
     pub within_tree : AreWithin all reached
-    within_tree = record {
-      named = λ k m at. home_is (home_in all m.name) k m refl at;
-      among = λ m has. among_all are.marks files m (among m has);
-      closed = closed;
-    }
+    within_tree = record { named = home_is; among = among; closed = closed }
+
+-- the interfaces of all parts are those of the files
+pub same_interfaces : (sources : List Source) (modules : List (Box ModuleParts Global)) → length modules ≡ length sources
+    → ((k : ℕ) (s : Source) (m : Box ModuleParts Global) → slice_get sources k ≡ Some s → slice_get modules k ≡ Some m → IsSourceRead s m.value)
+    → interfaces_of modules ≡ map interface_in (all_seen sources modules)
+same_interfaces [] [] many each = refl
+same_interfaces [] (m ∷ modules) many each = absurd (omega (arith, many))
+same_interfaces (s ∷ sources) [] many each = refl
+same_interfaces (s ∷ sources) (m ∷ modules) many each =
+    let here = (each zero s m refl refl).interface in
+    let later = same_interfaces sources modules (omega (arith, many)) (λ k a b p q. each (suc k) a b p q) in
+    ap (λ (i : ModuleInterface). i ∷ interfaces_of modules) here ∙ ap (λ (is : List ModuleInterface). interface_in (seen_in s m.value) ∷ is) later
 
 -- what is known ahead of all modules serves one that reaches these
 pub serves_among : (sources : List Source) (modules : List (Box ModuleParts Global)) (g : ImportGraph) → AreSourcesRead sources modules g → (own : List ℕ) (reached : List ModuleInterface)
     → AreReachedInterfaces (all_seen sources modules) own reached → (ahead : Ahead) → IsAheadOf (interfaces_of modules) ahead → ServesAmong reached ahead
 serves_among sources modules g seen own reached are ahead is = record {
-  by_name = reached_by_name sources modules g seen ahead.by_name is.by_name are.marks reached are.reached_are;
-  within = IfSome_then ahead.shortcuts is.shortcuts (λ s same.
-      subst (λ (all : List ModuleInterface). AreWithin all reached) (sym (same ∙ same_interfaces sources modules seen.as_many seen.each)) (within_tree (all_seen sources modules) g seen.kept own reached are));
+  by_name = are.by_name;
+  within = IfSome_then ahead.shortcuts is.shortcuts (λ s all.
+      within_tree (all_seen sources modules) s.value (subst (λ (ms : List ModuleInterface). AreAllByName ms s.value) (same_interfaces sources modules seen.as_many seen.each) all) own reached are);
 }
+
+-- ---- all modules by name
+
+pub mapped_sorted : {X Y : Type 0} (lt : Y → Y → Bool) (f : X → Y) (xs : List X) → IsSortedBy (λ a b. lt (f a) (f b)) xs → IsSortedBy lt (map f xs)
+mapped_sorted lt f [] sorted k d low l = absurd (omega arith)
+mapped_sorted lt f (x ∷ xs) sorted k d low l =
+    let long = length-map (x ∷ xs) f in
+    rw (get_or-map f (x ∷ xs) k x d (omega arith), get_or-map f (x ∷ xs) (k + 1) x d (omega arith)) (sorted k x low (omega arith))
+
+named_so : (files : List SeenFile) → map (λ (m : ModuleInterface). m.name) (map interface_in files) ≡ names_of (files_of files)
+named_so [] = refl
+named_so (file ∷ files) = ap (λ (ns : List (List ℕ)). names file 1 ∷ ns) (named_so files)
+
+-- all modules of a tree, once they are sorted
+pub all_by_name : (sources : List Source) (modules : List (Box ModuleParts Global)) (g : ImportGraph) → AreSourcesRead sources modules g → (before after : List (Arc ModuleInterface Global))
+    → map arc_value before ≡ interfaces_of modules → IsPermutation before after → IsSortedBy (λ (a b : ModuleInterface). is_lt (slice_cmp nat_cmp a.name b.name)) (map arc_value after)
+    → AreAllByName (interfaces_of modules) (map arc_value after)
+all_by_name sources modules g seen before after are moved sorted =
+    let name : ModuleInterface → List ℕ = λ m. m.name in
+    let files = all_seen sources modules in
+    let same : IsPermutation (interfaces_of modules) (map arc_value after) = subst (λ (ms : List ModuleInterface). IsPermutation ms (map arc_value after)) are (IsPermutation-map arc_value before after moved) in
+    let first : IsDistinct bytes_eq (map name (interfaces_of modules)) =
+    subst (IsDistinct bytes_eq) (sym (ap (map name) (same_interfaces sources modules seen.as_many seen.each) ∙ named_so files)) seen.kept.are_files.differ in
+    let apart = IsDistinct-IsPermutation bytes_eq nat_list_eq_equiv.symm (map name (interfaces_of modules)) (map name (map arc_value after)) (IsPermutation-map name (interfaces_of modules) (map arc_value after) same) first in
+    record { same = same; by_name = by_pairs (map arc_value after) (apart_pairs name (map arc_value after) sorted apart) }

@@ -1,5 +1,5 @@
 -- The files of a tree as an index sees them, and what a module of it reaches by imports.
-use Rattle.std.specs.Prelude.{◌≡◌, ◌↔◌, ℕ, List, [], ◌∷◌, length, map, Bool, true, false, Some, slice_get, slice_index_or}
+use Rattle.std.specs.Prelude.{◌≡◌, ◌↔◌, ℕ, List, map, Contains, Some, slice_get}
 use Rattle.digraph.specs.Chains.{Chain}
 use Rattle.ob_rows.specs.Parts.{Rows}
 use Rattle.ob_rows.specs.declared.rows.Import.{Import}
@@ -8,6 +8,7 @@ use Rattle.ob_imports.specs.Graphs.{ImportGraph}
 use Rattle.ob_interface.specs.Interfaces.{interface_of, ModuleInterface}
 use Rattle.ob_scan.specs.declared.token.Token.{Token}
 use Rattle.ob_scan.specs.Texts.{text_at}
+use Rattle.ob_types.specs.Homes.{AreByName}
 use Rattle.oscip_tree.specs.Trees.{rows, ModuleFile}
 use Rattle.work_board.specs.Graphs.{Reaches}
 use Rattle.ob_board.specs.Boards.{modules_of}
@@ -46,16 +47,14 @@ ReachesAlike files g =
 abbrev pub interface_in : SeenFile → ModuleInterface
 interface_in file = interface_of file.bytes file.tokens file.rows
 
--- the interfaces of the files with a mark, in order
-abbrev pub marked_interfaces : List Bool → List SeenFile → List ModuleInterface
-marked_interfaces [] files = []
-marked_interfaces (mark ∷ marks) [] = []
-marked_interfaces (true ∷ marks) (file ∷ files) = interface_in file ∷ marked_interfaces marks files
-marked_interfaces (false ∷ marks) (file ∷ files) = marked_interfaces marks files
+-- what other modules see of a module of the tree that the module of this name reaches
+pub record IsReachedInterface (files : List SeenFile) (m : List ℕ) (interface : ModuleInterface) : Type 0 where
+  pub file : SeenFile
+  pub is_of_tree : Contains files file
+  pub is_reached : ReachesName files m (names file 1)
+  pub is : interface_in file ≡ interface
 
--- the interfaces of all modules of the tree that the module of this name reaches, in the order of the files
+-- the interfaces of all modules of the tree that the module of this name reaches, and no other, in the order of their names
 pub record AreReachedInterfaces (files : List SeenFile) (m : List ℕ) (reached : List ModuleInterface) : Type 0 where
-  pub marks : List Bool
-  pub size : length marks ≡ length files
-  pub those : (k : ℕ) (file : SeenFile) → slice_get files k ≡ Some file → (slice_index_or marks k false ≡ true) ↔ ReachesName files m (names file 1)
-  pub reached_are : reached ≡ marked_interfaces marks files
+  pub those : (interface : ModuleInterface) → Contains reached interface ↔ IsReachedInterface files m interface
+  pub by_name : AreByName reached

@@ -1,18 +1,20 @@
 //! What is known of the modules of a tree before any of them is made.
-ghost use Rattle.std.specs.Prelude.{◌≡◌, ◌<◌, length, map, IfOk, IfSome};
+ghost use Rattle.std.specs.Prelude.{◌≡◌, ◌<◌, length, map, IfOk, IfSome, IsPermutation};
 ghost use Rattle.std.specs.Arc.{arc_value};
-ghost use Rattle.std.specs.Bool.{OnTrue};
+ghost use Rattle.std.specs.Cmp.Lexicographic.{slice_cmp};
+ghost use Rattle.std.specs.List.Sorted.{IsSortedBy};
+ghost use Rattle.std.specs.Ordering.{is_lt, nat_cmp};
 ghost use Rattle.std.specs.Option.{option_copied, option_map};
-ghost use Rattle.ob_types.specs.Homes.{AreByName};
-ghost use Rattle.ob_board.specs.Ahead.{IsAheadOf};
+ghost use Rattle.ob_imports.specs.Graphs.{ImportGraph};
+ghost use Rattle.ob_interface.specs.Interfaces.{ModuleInterface};
+ghost use Rattle.ob_board.specs.Ahead.{AreAllByName, IsAheadOf};
 ghost use Rattle.ob_board.specs.Entries.{interfaces_of};
 ghost use Rattle.ob_board.specs.Seen.{AreSourcesRead};
 
 use crate::module_types::types_among;
-use ob_imports::Graph;
 use ob_interface::Interface;
 use ob_scan::laws::tokens_in_text;
-use ob_types::{Shortcuts, ascend, shortcuts_of};
+use ob_types::{Shortcuts, shortcuts_of};
 use oscip_tree::{ModuleParts, Source};
 use std::alloc::{AllocError, Global};
 use std::sync::Arc;
@@ -20,10 +22,9 @@ use std::sync::Arc;
 /// The fewest modules of a tree that share what is found of their types.
 const LEAST: usize = 2;
 
-/// Whether the names of all modules are known to ascend, and what is known of their types, for those that reach some of them.
+/// What is known of the types of all modules, for those that reach some of them.
 #[derive(Drop)]
 pub(crate) struct Ahead {
-    pub(crate) by_name: bool,
     pub(crate) shortcuts: Option<Box<Shortcuts>>,
 }
 
@@ -39,6 +40,14 @@ fn interfaces(
         all.push(Arc::try_clone(&parts.interface)?)?;
     }
     Ok(all)
+}
+
+/// Puts modules in the order of their names. Where they stand so, one pass sees it.
+fn put_by_name(all: &mut Vec<Arc<Interface>>)
+    ensures same { IsPermutation all.old.items all.new.items }
+    ensures sorted { IsSortedBy (λ (a b : ModuleInterface). is_lt (slice_cmp nat_cmp a.name b.name)) (map arc_value all.new.items) }
+{
+    all.sort_unstable_by(|a, b| a.name().cmp(&b.name()));
 }
 
 /// The place of the shortest text.
@@ -61,57 +70,31 @@ fn shortcuts_in(
     alloc: Global,
     sources: &[Source],
     modules: &[Box<ModuleParts>],
-    graph: &Graph,
-    all: &[Arc<Interface>],
-    by_name: bool,
 ) -> Result<Option<Box<Shortcuts>>, AllocError>
-    requires seen { AreSourcesRead sources.now modules.now graph.now }
-    requires all { map arc_value all.now ≡ interfaces_of modules.now }
-    requires by_name { OnTrue by_name (AreByName (map arc_value all.now)) }
-    ensures { IfOk result (λ told. IfSome told (λ s. s.value ≡ map arc_value all.now)) }
+    requires { (graph : ImportGraph) × AreSourcesRead sources.now modules.now graph }
+    ensures { IfOk result (λ told. IfSome told (λ s. AreAllByName (interfaces_of modules.now) s.value)) }
 {
     if modules.len() < LEAST {
         return Ok(None);
     }
     tokens_in_text();
+    let mut all = interfaces(alloc, modules)?;
+    put_by_name(&mut all);
     let place = shortest(sources);
-    let types = types_among(
-        alloc,
-        &sources[place],
-        &modules[place],
-        all,
-        by_name,
-        graph.by_name(),
-    )?;
+    let types = types_among(alloc, &sources[place], &modules[place], all.as_slice())?;
     shortcuts_of(alloc, &types)
 }
 
 impl Ahead {
-    /// What is known of the modules of these files.
-    pub(crate) fn of_files(
-        alloc: Global,
-        sources: &[Source],
-        modules: &[Box<ModuleParts>],
-        graph: &Graph,
-    ) -> Result<Ahead, AllocError>
-        requires seen { AreSourcesRead sources.now modules.now graph.now }
-        ensures { IfOk result (λ ahead. IsAheadOf (interfaces_of modules.now) ahead) }
+    /// What is known of the modules of these files. Where memory for it is refused nothing is, and each module climbs by itself.
+    pub(crate) fn of_files(alloc: Global, sources: &[Source], modules: &[Box<ModuleParts>]) -> Ahead
+        requires { (graph : ImportGraph) × AreSourcesRead sources.now modules.now graph }
+        ensures { IsAheadOf (interfaces_of modules.now) result }
     {
-        let all = interfaces(alloc, modules)?;
-        let by_name = ascend(all.as_slice());
-        // Where memory for it is refused nothing is known, and each module climbs by itself.
-        let shortcuts = match shortcuts_in(
-            alloc,
-            sources,
-            modules,
-            graph,
-            all.as_slice(),
-            by_name,
-        ) {
-            Ok(told) => told,
-            Err(_) => None,
-        };
-        Ok(Ahead { by_name, shortcuts })
+        match shortcuts_in(alloc, sources, modules) {
+            Ok(shortcuts) => Ahead { shortcuts },
+            Err(_) => Ahead { shortcuts: None },
+        }
     }
 
     /// What is known of the types of all modules.

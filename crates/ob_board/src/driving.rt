@@ -114,7 +114,7 @@ impl<'a, F: NamedIndex> Making<'a, F, Made<F>> {
         requires right { is_wrong_part F.package_name ≡ false }
         ensures { IfOk result (λ work. work ≡ F.graph) }
     {
-        let ahead = Ahead::of_files(alloc, sources, tree.modules.as_slice(), &tree.graph)?;
+        let ahead = Ahead::of_files(alloc, sources, tree.modules.as_slice());
         Ok(Making::new(
             alloc,
             sources,

@@ -18,7 +18,6 @@ use crate::ahead::Ahead;
 use crate::files::NamedFiles;
 use crate::laws::reached_by_names;
 use crate::module_types::module_types;
-use crate::ordering::order_hint;
 use crate::rows::rows_of;
 use board_workers::Work;
 use ob_imports::Graph;
@@ -100,15 +99,13 @@ fn unresolved_by(alloc: Global, types: &Types<'_>) -> Result<Vec<u32>, AllocErro
     numbers
 }
 
-/// The same, by what its parts and the interfaces of what it reaches say, with what is known ahead of all modules and a hint of
-/// the order of what it reaches.
+/// The same, by what its parts and the interfaces of what it reaches say, with what is known ahead of all modules.
 fn numbers_of(
     alloc: Global,
     source: &Source,
     parts: &ModuleParts,
     reached: &[Arc<Interface>],
     ahead: &Ahead,
-    hint: &[u32],
 ) -> Result<Vec<u32>, AllocError>
     requires in_text { AreInText source.now.bytes.items parts.now.tokens }
     requires few { length (map arc_value reached.now) ≤ 2 ^ 32 }
@@ -116,28 +113,26 @@ fn numbers_of(
     ensures { IfOk result (λ numbers. (refs : List Reference) × (numbers.items ≡ unresolved refs)
         × AreReferences (world source.now.bytes.items parts.now.tokens (rows_in parts.now.table) parts.now.scopes (map arc_value reached.now)) refs) }
 {
-    let types = module_types(alloc, source, parts, reached, ahead, hint)?;
+    let types = module_types(alloc, source, parts, reached, ahead)?;
     let numbers = unresolved_by(alloc, &types);
     drop(types);
     numbers
 }
 
-/// What is found of a module by its parts and the interfaces of what it reaches, with what is known ahead of all modules and a
-/// hint of the order of what it reaches.
+/// What is found of a module by its parts and the interfaces of what it reaches, with what is known ahead of all modules.
 fn found_in<F: NamedFiles>(
     alloc: Global,
     source: &Source,
     parts: &ModuleParts,
     reached: &[Arc<Interface>],
     ahead: &Ahead,
-    hint: &[u32],
 ) -> Result<Found<F>, AllocError>
     requires at_hand { IsAtHand F.files source.now parts.now (map arc_value reached.now) }
     requires ahead { ServesAmong (map arc_value reached.now) ahead.now }
     ensures { IfOk result (λ found. found.name ≡ text_at source.now.bytes.items parts.now.tokens 1) }
 {
     tokens_in_text();
-    let numbers = numbers_of(alloc, source, parts, reached, ahead, hint)?;
+    let numbers = numbers_of(alloc, source, parts, reached, ahead)?;
     let bytes = source.bytes.as_slice();
     let rows = rows_of(
         alloc,
@@ -218,20 +213,12 @@ impl<F: NamedFiles> Work for Finding<'_, F> {
     fn make(&self, number: u32, parts: &[Arc<Interface>]) -> Result<Found<F>, AllocError> {
         reached_by_names();
         let place = number as usize;
-        let hint = order_hint(
-            self.alloc,
-            self.graph,
-            number,
-            parts.len(),
-            self.ahead.by_name,
-        )?;
         let found = found_in(
             self.alloc,
             &self.sources[place],
             &self.modules[place],
             parts,
             &self.ahead,
-            hint.as_slice(),
         )?;
         Ok(found)
     }

@@ -59,7 +59,7 @@ fn entries_in<F: NamedIndex + Send + Sync, G: BoardGate + Sync, R: Threads + Wai
     requires right { is_wrong_part F.package_name ≡ false }
     ensures { IfOk result (λ entries. AreEntriesOf F.files F.package_name (map plain_entry entries.items)) }
 {
-    let ahead = Ahead::of_files(alloc, sources, tree.modules.as_slice(), &tree.graph)?;
+    let ahead = Ahead::of_files(alloc, sources, tree.modules.as_slice());
     let graph = board_graph(alloc, &tree.graph)?;
     let work = Making::<F, Made<F>>::new(
         alloc,

@@ -16,7 +16,6 @@ mod listing;
 mod made;
 mod module_types;
 mod named_index;
-mod ordering;
 mod recorded;
 mod rows;
 mod unresolved;

@@ -37,7 +37,7 @@ fn listed<F: NamedFiles>(
     requires seen { AreSourcesRead sources.now tree.now.modules.items tree.now.graph }
     ensures { IfOk result (λ rows. IsUnresolvedOf F.files (map plain_unresolved rows.items)) }
 {
-    let ahead = Ahead::of_files(alloc, sources, tree.modules.as_slice(), &tree.graph)?;
+    let ahead = Ahead::of_files(alloc, sources, tree.modules.as_slice());
     let graph = board_graph(alloc, &tree.graph)?;
     let work = Finding::<F>::new(alloc, sources, tree.modules.as_slice(), &tree.graph, ahead);
     let all = entries_alone(alloc, &graph, &work);

@@ -12,7 +12,6 @@ use crate::Entry;
 use crate::ahead::Ahead;
 use crate::laws::reached_by_names;
 use crate::named_index::NamedIndex;
-use crate::ordering::order_hint;
 use crate::written::{Written, write_module};
 use board_workers::Work;
 use ob_imports::Graph;
@@ -78,15 +77,13 @@ impl<F: NamedIndex> WorkEntry for Made<F> {
     }
 }
 
-/// The entry of a module by its parts and the interfaces of what it reaches, with what is known ahead of all modules and a hint
-/// of the order of what it reaches.
+/// The entry of a module by its parts and the interfaces of what it reaches, with what is known ahead of all modules.
 fn made_in<F: NamedIndex>(
     alloc: Global,
     source: &Source,
     parts: &ModuleParts,
     reached: &[Arc<Interface>],
     ahead: &Ahead,
-    hint: &[u32],
     package_name: &str,
 ) -> Result<Made<F>, AllocError>
     requires at_hand { IsAtHand F.files source.now parts.now (map arc_value reached.now) }
@@ -99,7 +96,7 @@ fn made_in<F: NamedIndex>(
     let Written {
         document,
         externals,
-    } = write_module(alloc, source, parts, reached, ahead, hint, package_name)?;
+    } = write_module(alloc, source, parts, reached, ahead, package_name)?;
     let name = String::from_str(alloc, parts.scopes.name())?;
     let interface = Arc::try_clone(&parts.interface)?;
     let entry = Entry {
@@ -192,20 +189,12 @@ impl<F: NamedIndex> Work for Making<'_, F, Made<F>> {
     fn make(&self, number: u32, parts: &[Arc<Interface>]) -> Result<Made<F>, AllocError> {
         reached_by_names();
         let place = number as usize;
-        let hint = order_hint(
-            self.alloc,
-            self.graph,
-            number,
-            parts.len(),
-            self.ahead.by_name,
-        )?;
         let made = made_in(
             self.alloc,
             &self.sources[place],
             &self.modules[place],
             parts,
             &self.ahead,
-            hint.as_slice(),
             self.package_name,
         )?;
         Ok(made)

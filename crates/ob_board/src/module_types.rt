@@ -1,7 +1,6 @@
 //! The types of a module of a tree.
 ghost use Rattle.std.specs.Prelude.{◌≡◌, ◌≤◌, ◌^◌, length, map, IfOk};
 ghost use Rattle.std.specs.Arc.{arc_value};
-ghost use Rattle.std.specs.Bool.{OnTrue};
 ghost use Rattle.ob_rows.specs.Tables.{rows_in};
 ghost use Rattle.ob_scan.specs.Spelling.{AreInText};
 ghost use Rattle.ob_types.specs.Homes.{AreByName};
@@ -15,48 +14,41 @@ use oscip_tree::{ModuleParts, Source};
 use std::alloc::{AllocError, Global};
 use std::sync::Arc;
 
-/// The types of a module, by its parts and these interfaces, told whether it is known that the names of these ascend, with a hint of
-/// their order.
+/// The types of a module, by its parts and these interfaces.
 pub(crate) fn types_among<'a>(
     alloc: Global,
     source: &'a Source,
     parts: &'a ModuleParts,
     reached: &'a [Arc<Interface>],
-    by_name: bool,
-    hint: &[u32],
 ) -> Result<Types<'a>, AllocError>
     requires in_text { AreInText source.now.bytes.items parts.now.tokens }
     requires few { length (map arc_value reached.now) ≤ 2 ^ 32 }
-    requires by_name { OnTrue by_name (AreByName (map arc_value reached.now)) }
+    requires by_name { AreByName (map arc_value reached.now) }
     ensures { IfOk result (λ t. t ≡ world source.now.bytes.items parts.now.tokens (rows_in parts.now.table) parts.now.scopes (map arc_value reached.now)) }
 {
-    Types::with_order(
+    Types::new(
         alloc,
         source.bytes.as_slice(),
         parts.tokens.as_slice(),
         &parts.table,
         &parts.scopes,
         reached,
-        by_name,
-        hint,
     )
 }
 
-/// The types of a module, by its parts and the interfaces of what it reaches, with what is known ahead of all modules and a hint of
-/// the order of what it reaches.
+/// The types of a module, by its parts and the interfaces of what it reaches, with what is known ahead of all modules.
 pub(crate) fn module_types<'a>(
     alloc: Global,
     source: &'a Source,
     parts: &'a ModuleParts,
     reached: &'a [Arc<Interface>],
     ahead: &'a Ahead,
-    hint: &[u32],
 ) -> Result<Types<'a>, AllocError>
     requires in_text { AreInText source.now.bytes.items parts.now.tokens }
     requires few { length (map arc_value reached.now) ≤ 2 ^ 32 }
     requires ahead { ServesAmong (map arc_value reached.now) ahead.now }
     ensures { IfOk result (λ t. t ≡ world source.now.bytes.items parts.now.tokens (rows_in parts.now.table) parts.now.scopes (map arc_value reached.now)) }
 {
-    let types = types_among(alloc, source, parts, reached, ahead.by_name, hint)?;
+    let types = types_among(alloc, source, parts, reached)?;
     Ok(types.with_shortcuts(ahead.shortcuts()))
 }

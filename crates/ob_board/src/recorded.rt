@@ -13,7 +13,6 @@ use crate::ahead::Ahead;
 use crate::laws::reached_by_names;
 use crate::made::Making;
 use crate::named_index::NamedIndex;
-use crate::ordering::order_hint;
 use crate::written::{WrittenRecord, record_module};
 use board_workers::Work;
 use ob_interface::Interface;
@@ -86,15 +85,13 @@ impl<F: NamedIndex> WorkEntry for Recorded<F> {
     }
 }
 
-/// The entry of a module by its parts and the interfaces of what it reaches, with what is known ahead of all modules and a hint
-/// of the order of what it reaches.
+/// The entry of a module by its parts and the interfaces of what it reaches, with what is known ahead of all modules.
 fn recorded_in<F: NamedIndex>(
     alloc: Global,
     source: &Source,
     parts: &ModuleParts,
     reached: &[Arc<Interface>],
     ahead: &Ahead,
-    hint: &[u32],
     package_name: &str,
 ) -> Result<Recorded<F>, AllocError>
     requires at_hand { IsAtHand F.files source.now parts.now (map arc_value reached.now) }
@@ -110,7 +107,6 @@ fn recorded_in<F: NamedIndex>(
         parts,
         reached,
         ahead,
-        hint,
         package_name,
     )?;
     let name = String::from_str(alloc, parts.scopes.name())?;
@@ -134,20 +130,12 @@ impl<F: NamedIndex> Work for Making<'_, F, Recorded<F>> {
     fn make(&self, number: u32, parts: &[Arc<Interface>]) -> Result<Recorded<F>, AllocError> {
         reached_by_names();
         let place = number as usize;
-        let hint = order_hint(
-            self.alloc,
-            self.graph,
-            number,
-            parts.len(),
-            self.ahead.by_name,
-        )?;
         let recorded = recorded_in(
             self.alloc,
             &self.sources[place],
             &self.modules[place],
             parts,
             &self.ahead,
-            hint.as_slice(),
             self.package_name,
         )?;
         Ok(recorded)

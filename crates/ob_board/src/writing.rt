@@ -78,7 +78,7 @@ fn records_in<F: NamedIndex + Send + Sync, G: BoardGate + Sync, R: Threads + Wai
     requires right { is_wrong_part F.package_name ≡ false }
     ensures { IfOk result (λ g. AreRecordsOf F.files F.package_name (map (λ row. row.items) g.records.items) (map plain_symbol g.rows.items)) }
 {
-    let ahead = Ahead::of_files(alloc, sources, tree.modules.as_slice(), &tree.graph)?;
+    let ahead = Ahead::of_files(alloc, sources, tree.modules.as_slice());
     let graph = board_graph(alloc, &tree.graph)?;
     let work = Making::<F, Recorded<F>>::new(
         alloc,

@@ -60,15 +60,13 @@ fn written_by(
     }
 }
 
-/// What is written of a module, by its parts and the interfaces of what it reaches, with what is known ahead of all modules and a
-/// hint of the order of what it reaches.
+/// What is written of a module, by its parts and the interfaces of what it reaches, with what is known ahead of all modules.
 pub(crate) fn write_module(
     alloc: Global,
     source: &Source,
     parts: &ModuleParts,
     reached: &[Arc<Interface>],
     ahead: &Ahead,
-    hint: &[u32],
     package_name: &str,
 ) -> Result<Written, AllocError>
     requires spelled { IsOutcome source.now.bytes.items (Ok parts.now.tokens) }
@@ -81,7 +79,7 @@ pub(crate) fn write_module(
 {
     tokens_in_text();
     names_of_scopes();
-    let types = module_types(alloc, source, parts, reached, ahead, hint)?;
+    let types = module_types(alloc, source, parts, reached, ahead)?;
     let written = written_by(alloc, source.path.as_str(), &types, package_name);
     drop(types);
     written
@@ -120,15 +118,14 @@ fn recorded_by(
     }
 }
 
-/// The record of a module, by its parts and the interfaces of what it reaches, with what is known ahead of all modules and a hint of
-/// the order of what it reaches. No message is made on the way: what `write_module` answers, as bytes.
+/// The record of a module, by its parts and the interfaces of what it reaches, with what is known ahead of all modules. No message is
+/// made on the way: what `write_module` answers, as bytes.
 pub(crate) fn record_module(
     alloc: Global,
     source: &Source,
     parts: &ModuleParts,
     reached: &[Arc<Interface>],
     ahead: &Ahead,
-    hint: &[u32],
     package_name: &str,
 ) -> Result<WrittenRecord, AllocError>
     requires spelled { IsOutcome source.now.bytes.items (Ok parts.now.tokens) }
@@ -141,7 +138,7 @@ pub(crate) fn record_module(
 {
     tokens_in_text();
     names_of_scopes();
-    let types = module_types(alloc, source, parts, reached, ahead, hint)?;
+    let types = module_types(alloc, source, parts, reached, ahead)?;
     let recorded = recorded_by(alloc, source.path.as_str(), &types, package_name);
     drop(types);
     recorded

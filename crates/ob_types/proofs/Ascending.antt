@@ -20,7 +20,6 @@ use Rattle.std.proofs.Common.{◌-◌, ◌++◌, Global, take}
 use Rattle.std.specs.Arc.{arc_value}
 use Rattle.std.specs.declared.sync.Arc.{Arc}
 use Rattle.std.proofs.lemmas.List.{get_or-map}
-use Rattle.std.proofs.lemmas.List.Sorted.{all_adjacent_more}
 use Rattle.ob_interface.specs.Interfaces.{ModuleInterface}
 use Rattle.ob_types.specs.Homes.{home_in, AreByName}
 use Rattle.ob_types.proofs.Firsts.{position_is, position_not}
@@ -59,7 +58,7 @@ module _ {X : Type 0} (name : X → List ℕ) where
   tells : (x : X) (key : List ℕ) → bytes_eq (name x) key ≡ is_eq (slice_cmp nat_cmp (name x) key)
   tells x key = sym (is_eq-slice_cmp (name x) key)
 
-  found : (xs : List X) (key : List ℕ) (i : ℕ) → Ascend xs → i < length xs → ((d : X) → slice_cmp nat_cmp (name (get_or xs i d)) key ≡ Equal) → position (λ (x : X). bytes_eq (name x) key) xs ≡ Some i
+  pub found : (xs : List X) (key : List ℕ) (i : ℕ) → Ascend xs → i < length xs → ((d : X) → slice_cmp nat_cmp (name (get_or xs i d)) key ≡ Equal) → position (λ (x : X). bytes_eq (name x) key) xs ≡ Some i
   found [] key i s l at = absurd (omega arith)
   found (x ∷ xs) key i s l at =
       let is : name (get_or (x ∷ xs) i x) ≡ key = exact_bytes (name (get_or (x ∷ xs) i x)) key (at x) in
@@ -87,31 +86,6 @@ Shared = Arc ModuleInterface Global
 
 abbrev pub name_of : Shared → List ℕ
 name_of a = (arc_value a).name
-
--- one more module
-pub one_more : (reached : List Shared) (at : ℕ) (a b : Shared) (before here : ModuleInterface) → AllAdjacentBelow (λ (m n : ModuleInterface). slice_cmp nat_cmp m.name n.name ≡ Less) (map arc_value reached) at
-    → 0 < at → at < length reached → before ≡ arc_value a → a ≡ get_or reached (at - 1) a → here ≡ arc_value b → b ≡ get_or reached at b → slice_cmp nat_cmp before.name here.name ≡ Less
-    → AllAdjacentBelow (λ (m n : ModuleInterface). slice_cmp nat_cmp m.name n.name ≡ Less) (map arc_value reached) (at + 1)
-one_more reached at a b before here all some within e at_a f at_b l =
-    all_adjacent_more (map arc_value reached) (λ (m n : ModuleInterface). slice_cmp nat_cmp m.name n.name ≡ Less) at some all
-    (λ d.
-    let x : get_or (map arc_value reached) (at - 1) d ≡ before = get_or-map arc_value reached (at - 1) a d (omega arith) ∙ ap arc_value (sym at_a) ∙ sym e in
-    let y : get_or (map arc_value reached) at d ≡ here = get_or-map arc_value reached at b d within ∙ ap arc_value (sym at_b) ∙ sym f in
-    subst (λ (m : ModuleInterface). slice_cmp nat_cmp m.name (get_or (map arc_value reached) at d).name ≡ Less) (sym x)
-    (subst (λ (n : ModuleInterface). slice_cmp nat_cmp before.name n.name ≡ Less) (sym y) l))
-
--- the first of two neighbours that don't ascend
-pub none_ascend : (reached : List Shared) (at : ℕ) (a b : Shared) (before here : ModuleInterface) → 0 < at → at < length reached → before ≡ arc_value a → a ≡ get_or reached (at - 1) a → here ≡ arc_value b
-    → b ≡ get_or reached at b → (slice_cmp nat_cmp before.name here.name ≡ Less → ⊥) → AreByName (map arc_value reached) → ⊥
-none_ascend reached at a b before here some within e at_a f at_b not all =
-    let l : at - 1 + 1 < length (map arc_value reached) = omega (arith, length-map reached arc_value) in
-    let same : at - 1 + 1 ≡ at = omega arith in
-    let x : get_or (map arc_value reached) (at - 1) before ≡ before = get_or-map arc_value reached (at - 1) a before (omega arith) ∙ ap arc_value (sym at_a) ∙ sym e in
-    let y : get_or (map arc_value reached) (at - 1 + 1) before ≡ here =
-    ap (λ (n : ℕ). get_or (map arc_value reached) n before) same ∙ get_or-map arc_value reached at b before within ∙ ap arc_value (sym at_b) ∙ sym f in
-    not
-    (subst (λ (n : ModuleInterface). slice_cmp nat_cmp before.name n.name ≡ Less) y
-    (subst (λ (m : ModuleInterface). slice_cmp nat_cmp m.name (get_or (map arc_value reached) (at - 1 + 1) before).name ≡ Less) x (all (at - 1) before l)))
 
 ascends : (reached : List Shared) → AreByName (map arc_value reached) → Ascend name_of reached
 ascends reached s k d h =

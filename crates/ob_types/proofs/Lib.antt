@@ -2,7 +2,6 @@ pub mod Same
 pub mod Firsts
 pub mod Ascending
 pub mod Backwards
-pub mod Placed
 pub mod Telling
 pub mod Alike
 pub mod Within

@@ -1,7 +1,7 @@
 -- What is known of all modules of a tree.
 use Rattle.std.specs.Prelude.{◌≡◌, ℕ, List, Option, Some, true, false, IfSome}
 use Rattle.std.specs.BTreeMap.{get, BTreeMap}
-use Rattle.std.specs.Global.{Box, Vec}
+use Rattle.std.specs.Global.{Box}
 use Rattle.std.specs.Ordering.{nat_cmp, ordering_then}
 use Rattle.std.specs.declared.cmp.Ordering.{Ordering}
 use Rattle.ob_interface.specs.Interfaces.{ModuleInterface}
@@ -28,10 +28,10 @@ pub record AreEndsOf (w : World) (i d : ℕ) (ends : Ends) : Type 0 where
 pub record AreAllEndsOf (w : World) (all : BTreeMap (ℕ × ℕ) Ends) : Type 0 where
   pub each : (i d : ℕ) (ends : Ends) → get key_cmp all (i, d) ≡ Some ends → AreEndsOf w i d ends
 
--- this is so in a world that reaches these modules, whose places by their names are known
-pub record AreKnown (modules : List ModuleInterface) (order : Option (Vec ℕ)) (line : Option (Box (Line Record))) (ends : BTreeMap (ℕ × ℕ) Ends) : Type 0 where
+-- this is so in a world that reaches these modules, whose names ascend
+pub record AreKnown (modules : List ModuleInterface) (line : Option (Box (Line Record))) (ends : BTreeMap (ℕ × ℕ) Ends) : Type 0 where
   pub tree : World
   pub reached : tree.reached ≡ modules
-  pub homes : AreHomes modules order
+  pub homes : AreHomes modules
   pub laid : IfSome line (λ l. IsLaid (shape tree) (base_of tree) (field_of tree) l.value)
   pub ends_are : AreAllEndsOf tree ends

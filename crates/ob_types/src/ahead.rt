@@ -55,7 +55,6 @@ fn known_of(alloc: Global, types: &Types<'_>, far: &[Leading]) -> Result<Shortcu
     let records = records_of(alloc, far)?;
     Ok(Shortcuts {
         modules: held(alloc, types.indexed.parts.reached)?,
-        order: types.indexed.homes.order(alloc)?,
         line: finder.lay(records.as_slice())?,
         ends,
     })

@@ -3,19 +3,18 @@
 
 ghost use Rattle.std.specs.Prelude.{◌≡◌, ◌≤◌, ◌^◌, Some, None, IfOk, if◌then◌else◌, length, map};
 ghost use Rattle.std.specs.Arc.{arc_value};
-ghost use Rattle.std.specs.Bool.{OnTrue};
 ghost use Rattle.std.specs.Option.{option_and_then};
 ghost use Rattle.ob_scan.specs.Spelling.{AreInText};
 ghost use Rattle.ob_types.specs.declared.nodes.Node.TheVariants as nodes;
 ghost use Rattle.ob_types.specs.declared.nodes.Named.TheVariants as named;
 ghost use Rattle.type_search.specs.declared.shape.Shape.TheVariants as shapes;
-ghost use Rattle.ob_types.specs.Homes.{AreByName};
+ghost use Rattle.ob_types.specs.Homes.{AreHomes};
 ghost use Rattle.ob_types.specs.Parted.{home_by, world_of, AreFields, IsFew};
 ghost use Rattle.type_search.specs.ToldFields.{AreAllFields};
 ghost use Rattle.ob_types.specs.Shapes.{exported_type, field_of, home_meant, is_type, known, named_here, own_type, type_there};
 ghost use Rattle.ob_types.specs.World.{field_at, form_of, home, home_of, meaning, text};
 
-use crate::homes::Homes;
+use crate::homes::place_of;
 use crate::names::{fields_of, item_homes};
 use crate::nodes::{Named, Node, Record};
 use crate::parts::Parts;
@@ -26,17 +25,15 @@ use std::alloc::{AllocError, Global};
 use text_hash::{Name, Seed};
 use type_search::{OwnField, Shape};
 
-/// What a module is known by, with the places of modules by their names and by import items, and the fields by their records and names.
+/// What a module is known by, with the places of modules by import items, and the fields by their records and names.
 #[derive(Drop)]
 pub(crate) struct Indexed<'a> {
     pub(crate) parts: Parts<'a>,
-    pub(crate) homes: Homes<'a>,
     pub(crate) item_homes: Vec<Option<u32>>,
     pub(crate) fields: Box<IndexMap<(u32, Name<'a>), u32, Seed>>,
     ghost in_text: { AreInText parts.bytes.now parts.tokens.now },
     ghost few: { IsFew parts },
-    ghost homes_are: { homes ≡ (world_of parts).reached },
-    ghost item_homes_are: { item_homes.items ≡ map (home_by (world_of parts) homes) (world_of parts).rows.imports },
+    ghost item_homes_are: { item_homes.items ≡ map (home_by (world_of parts)) (world_of parts).rows.imports },
     ghost fields_are: { AreFields (world_of parts) fields.value },
 }
 
@@ -90,26 +87,17 @@ pub(crate) fn known(shape: Option<Shape<Node, Named, Record>>) -> Shape<Node, Na
 }
 
 impl<'a> Indexed<'a> {
-    /// The same with its indexes, told whether it is known that the names of the modules that are reached ascend, with a hint of
-    /// their order.
-    pub(crate) fn new(
-        alloc: Global,
-        parts: Parts<'a>,
-        by_name: bool,
-        hint: &[u32],
-    ) -> Result<Indexed<'a>, AllocError>
+    /// The same with its indexes.
+    pub(crate) fn new(alloc: Global, parts: Parts<'a>) -> Result<Indexed<'a>, AllocError>
         requires in_text { AreInText parts.bytes.now parts.tokens.now }
-        requires few { length parts.reached.now ≤ 2 ^ 32 }
-        requires by_name { OnTrue by_name (AreByName (map arc_value parts.reached.now)) }
+        requires homes { AreHomes (map arc_value parts.reached.now) }
         ensures { IfOk result (λ i. i.parts ≡ parts.entry) }
     {
         parts.table.has_few();
-        let homes = Homes::new(alloc, parts.reached, by_name, hint)?;
-        let item_homes = item_homes(alloc, &parts, &homes)?;
+        let item_homes = item_homes(alloc, &parts)?;
         let fields = fields_of(alloc, &parts)?;
         Ok(Indexed {
             parts,
-            homes,
             item_homes,
             fields,
         })
@@ -126,7 +114,7 @@ impl<'a> Indexed<'a> {
     pub(crate) fn home(&self, name: &[u8]) -> Option<u32>
         ensures { result ≡ home (world_of self.now.parts) name.now }
     {
-        self.homes.place(name)
+        place_of(self.parts.reached, name)
     }
 
     /// The place of the module that the import item at this place names.

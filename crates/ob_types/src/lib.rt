@@ -20,7 +20,6 @@ mod types;
 mod ways;
 
 pub use ahead::shortcuts_of;
-pub use homes::ascend;
 pub use nodes::{Field, Named, Node, Record};
 pub use shortcuts::Shortcuts;
 pub use types::Types;

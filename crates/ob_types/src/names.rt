@@ -5,10 +5,11 @@ ghost use Rattle.std.specs.Str.{bytes_eq};
 ghost use Rattle.indexmap.specs.IndexMap.{get};
 ghost use Rattle.ob_rows.specs.declared.rows.Declarer.{Declarer as Construct};
 ghost use Rattle.ob_scan.specs.Spelling.{AreInText};
+ghost use Rattle.ob_types.specs.Homes.{AreHomes};
 ghost use Rattle.ob_types.specs.Parted.{home_by, same_field, world_of, AreFields, FieldKey};
 ghost use Rattle.ob_types.specs.World.{declarer_from, is_of_record, text};
 
-use crate::homes::Homes;
+use crate::homes::place_of;
 use crate::parts::Parts;
 use indexmap::IndexMap;
 use ob_rows::Declared;
@@ -16,17 +17,14 @@ use std::alloc::{AllocError, Global};
 use text_hash::{Name, Seed};
 
 /// The places of the modules that import items name, item by item.
-pub(crate) fn item_homes(
-    alloc: Global,
-    parts: &Parts<'_>,
-    homes: &Homes<'_>,
-) -> Result<Vec<Option<u32>>, AllocError>
-    requires { AreInText parts.now.bytes.now parts.now.tokens.now }
-    ensures { IfOk result (λ places. places.items ≡ map (home_by (world_of parts.now) homes.now) (world_of parts.now).rows.imports) }
+pub(crate) fn item_homes(alloc: Global, parts: &Parts<'_>) -> Result<Vec<Option<u32>>, AllocError>
+    requires in_text { AreInText parts.now.bytes.now parts.now.tokens.now }
+    requires homes { AreHomes (world_of parts.now).reached }
+    ensures { IfOk result (λ places. places.items ≡ map (home_by (world_of parts.now)) (world_of parts.now).rows.imports) }
 {
     let mut places = Vec::new(alloc);
     for item in parts.table.imports() {
-        places.push(homes.place(parts.text(item.imported)))?;
+        places.push(place_of(parts.reached, parts.text(item.imported)))?;
     }
     Ok(places)
 }

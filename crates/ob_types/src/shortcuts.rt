@@ -13,7 +13,7 @@ ghost use Rattle.ob_types.specs.Within.{AreWithin};
 ghost use Rattle.ob_types.specs.World.{World};
 ghost use Rattle.ob_types.specs.declared.nodes.Node.TheVariants as nodes;
 
-use crate::homes::place_by;
+use crate::homes::place_of;
 use crate::indexed::Indexed;
 use crate::nodes::{Field, Named, Node, Record};
 use ob_interface::Interface;
@@ -48,8 +48,6 @@ impl Ends {
 #[derive(Drop)]
 pub struct Shortcuts {
     pub(crate) modules: Vec<Arc<Interface>>,
-    /// Their places by their names, where these don't ascend.
-    pub(crate) order: Option<Vec<u32>>,
     pub(crate) line: Option<Box<Line<Record>>>,
     /// Where declarations lead, by the places of module and declaration.
     pub(crate) ends: BTreeMap<(u32, u32), Ends>,
@@ -65,7 +63,7 @@ impl Model for Shortcuts {
 
     ghost view = { λ s. map arc_value s.modules.items };
 
-    ghost invariant = { λ s. AreKnown (map arc_value s.modules.items) s.order s.line s.ends };
+    ghost invariant = { λ s. AreKnown (map arc_value s.modules.items) s.line s.ends };
 }
 
 /// The same modules, held once more.
@@ -90,7 +88,7 @@ impl Shortcuts {
     {
         let name = here.parts.module(reached)?.name();
         if here.home(name)? == reached {
-            place_by(self.modules.as_slice(), &self.order, name)
+            place_of(self.modules.as_slice(), name)
         } else {
             None
         }

@@ -4,7 +4,6 @@
 ghost use Rattle.std.specs.Prelude.{◌≡◌, ◌≤◌, ◌^◌, IfOk, IfSome, length, map, slice_get};
 ghost use Rattle.std.specs.Option.{option_map};
 ghost use Rattle.std.specs.Arc.{arc_value};
-ghost use Rattle.std.specs.Bool.{OnTrue};
 ghost use Rattle.ob_rows.specs.Tables.{rows_in};
 ghost use Rattle.ob_scan.specs.Spelling.{AreInText};
 ghost use Rattle.ob_types.specs.Homes.{AreByName};
@@ -54,8 +53,8 @@ impl<'a> Model for Types<'a> {
 }
 
 impl<'a> Types<'a> {
-    /// The types of the module of these tokens in these bytes, this table and these scopes, which reaches these modules. AllocError is
-    /// answered where a growth of memory is refused.
+    /// The types of the module of these tokens in these bytes, this table and these scopes, which reaches these modules, in the order of
+    /// their names. AllocError is answered where a growth of memory is refused.
     pub fn new(
         alloc: Global,
         bytes: &'a [u8],
@@ -66,26 +65,7 @@ impl<'a> Types<'a> {
     ) -> Result<Types<'a>, AllocError>
         requires in_text { AreInText bytes.now tokens.now }
         requires few { length reached.now ≤ 2 ^ 32 }
-        ensures { IfOk result (λ t. t ≡ world bytes.now tokens.now (rows_in table.now) scopes.now (map arc_value reached.now)) }
-    {
-        Types::with_order(alloc, bytes, tokens, table, scopes, reached, false, &[])
-    }
-
-    /// The same, told whether it is known that the names of the modules that are reached ascend; where it isn't, they are compared.
-    /// The hint has the places of these modules by their names, as far as is known: it is for speed alone.
-    pub fn with_order(
-        alloc: Global,
-        bytes: &'a [u8],
-        tokens: &'a [Token],
-        table: &'a Table,
-        scopes: &'a Scopes,
-        reached: &'a [Arc<Interface>],
-        by_name: bool,
-        hint: &[u32],
-    ) -> Result<Types<'a>, AllocError>
-        requires in_text { AreInText bytes.now tokens.now }
-        requires few { length reached.now ≤ 2 ^ 32 }
-        requires by_name { OnTrue by_name (AreByName (map arc_value reached.now)) }
+        requires by_name { AreByName (map arc_value reached.now) }
         ensures { IfOk result (λ t. t ≡ world bytes.now tokens.now (rows_in table.now) scopes.now (map arc_value reached.now)) }
     {
         let parts = Parts {
@@ -96,7 +76,7 @@ impl<'a> Types<'a> {
             reached,
             hints: hints_of(alloc, table, tokens.len())?,
         };
-        let indexed = Indexed::new(alloc, parts, by_name, hint)?;
+        let indexed = Indexed::new(alloc, parts)?;
         Ok(Types {
             indexed,
             shortcuts: None,

@@ -7,6 +7,7 @@ pub mod Delivering
 pub mod Reaching
 pub mod Holding
 pub mod Opening
+pub mod Ordering
 pub mod Turning
 pub mod Descending
 pub mod Resting

@@ -1,11 +1,11 @@
--- A new board, and what marks share.
-use Rattle.std.proofs.Common.{◌≡◌, ◌<◌, ◌≤◌, ◌+◌, ℕ, zero, suc, Bool, true, false, List, [], ◌∷◌, ◌++◌, length, take, map, refl, sym, ap, ◌∙◌, arith, inl, inr, get_or}
-use Rattle.std.specs.Prelude.{Option, None, Some, is_some, slice_index, replicate}
+-- A new board.
+use Rattle.std.proofs.Common.{◌≡◌, ◌<◌, ℕ, zero, suc, Bool, false, List, [], ◌∷◌, length, map, refl, sym, ap, ◌∙◌, arith, inl, inr, get_or}
+use Rattle.std.specs.Prelude.{Option, None, is_some, slice_index, replicate}
 use Rattle.std.proofs.lemmas.Bool.{cases_lt}
-use Rattle.std.proofs.lemmas.List.{append-nil, length-take, take_more, get_or-replicate, get_or_past, length-replicate, length-map, get_or-map}
+use Rattle.std.proofs.lemmas.List.{get_or-replicate, get_or_past, length-replicate, length-map, get_or-map}
 use Rattle.work_board.specs.declared.state.State.TheVariants.{Waiting}
 use Rattle.work_board.specs.Graphs.{row_at, Modules}
-use Rattle.work_board.specs.Cores.{entry_at, has_entry, shares_of, Core}
+use Rattle.work_board.specs.Cores.{entry_at, has_entry, Core}
 use Rattle.work_board.specs.Keeping.{freed, open_of, state_at, taken, IsValidBoard, IsStateOf}
 
 pub constant : {X : Type 0} (count i : ℕ) (x : X) → get_or (replicate count x) i x ≡ x
@@ -41,36 +41,6 @@ pub core_same : {E : Type 0} (es fs : List (Option E)) (cs ds : List Bool) (a : 
     → let c : Core E = record { entries = es; claimed = cs; abandoned = a } in c ≡ record { entries = fs; claimed = ds; abandoned = a }
 core_same {E = E} es fs cs ds a p q =
     ap (λ (x : List (Option E)). record { entries = x; claimed = cs; abandoned = a }) p ∙ ap (λ (x : List Bool). record { entries = fs; claimed = x; abandoned = a }) q
-
-pub shares_append : {E X : Type 0} (f : E → X) (ms ns : List Bool) (es fs : List (Option E)) → length ms ≡ length es
-    → shares_of f (ms ++ ns) (es ++ fs) ≡ shares_of f ms es ++ shares_of f ns fs
-shares_append f [] ns [] fs e = refl
-shares_append f [] ns (x ∷ es) fs e = absurd (omega arith)
-shares_append f (m ∷ ms) ns [] fs e = absurd (omega arith)
-shares_append f (true ∷ ms) ns (Some x ∷ es) fs e = ap (λ r. f x ∷ r) (shares_append f ms ns es fs (omega arith))
-shares_append f (true ∷ ms) ns (None ∷ es) fs e = shares_append f ms ns es fs (omega arith)
-shares_append f (false ∷ ms) ns (x ∷ es) fs e = shares_append f ms ns es fs (omega arith)
-
-pub shares_more : {E X : Type 0} (f : E → X) (ms : List Bool) (es : List (Option E)) (i : ℕ) → length ms ≡ length es → i < length es → (b m' : Bool) → get_or ms i m' ≡ b
-    → (x d : Option E) → get_or es i d ≡ x
-    → shares_of f (take (i + 1) ms) (take (i + 1) es) ≡ shares_of f (take i ms) (take i es) ++ shares_of f (b ∷ []) (x ∷ [])
-shares_more f ms es i size lt b m' at_b x d at_x =
-    let m : take (i + 1) ms ≡ take i ms ++ b ∷ [] = take_more ms i m' (omega arith) ∙ ap (λ y. take i ms ++ y ∷ []) at_b in
-    let e : take (i + 1) es ≡ take i es ++ x ∷ [] = take_more es i d lt ∙ ap (λ y. take i es ++ y ∷ []) at_x in
-    let same : length (take i ms) ≡ length (take i es) = omega (arith, length-take i ms, length-take i es) in
-    rw (m, e) (shares_append f (take i ms) (b ∷ []) (take i es) (x ∷ []) same)
-
--- places without a mark share nothing
-pub shares_passed : {E X : Type 0} (f : E → X) (ms : List Bool) (es : List (Option E)) (i n : ℕ) → length ms ≡ length es → i + n ≤ length es
-    → ((v : ℕ) → i ≤ v → v < i + n → get_or ms v false ≡ false) → shares_of f (take (i + n) ms) (take (i + n) es) ≡ shares_of f (take i ms) (take i es)
-shares_passed f ms es i zero size within none = let same : i + 0 ≡ i = omega arith in rw same refl
-shares_passed f ms es i (suc n) size within none =
-    let same : i + suc n ≡ (i + n) + 1 = omega arith in
-    rw same (
-    shares_more f ms es (i + n) size (omega arith) false false (none (i + n) (omega arith) (omega arith)) (get_or es (i + n) None) None refl
-    ∙ append-nil (shares_of f (take (i + n) ms) (take (i + n) es))
-    ∙ shares_passed f ms es i n size (omega arith) (λ v le lt. none v le (omega arith))
-    )
 
 pub opened : {E : Type 0} (is_of : List ℕ → E → Type 0) (g : Modules) (counts : List ℕ) → length counts ≡ length g.names
     → ((m : ℕ) → m < length g.names → slice_index counts m ≡ length (row_at g.imports m)) → length g.imports ≡ length g.names

@@ -3,8 +3,9 @@ use Rattle.std.proofs.Common.{◌≡◌, ◌<◌, ℕ, Bool, true, false, List, 
 use Rattle.std.specs.Prelude.{◌↔◌, Option, slice_index}
 use Rattle.work_board.specs.declared.state.State.{State}
 use Rattle.work_board.specs.declared.state.State.TheVariants.{Waiting}
-use Rattle.work_board.specs.Graphs.{row_at, IsChain, IsGraph, RowLeads, Modules, Reaches}
-use Rattle.work_board.specs.Cores.{has_entry, is_claimed, shares_of, AreShares}
+use Rattle.std.specs.List.{flat_map}
+use Rattle.work_board.specs.Graphs.{row_at, IsChain, IsGraph, IsNameOrder, RowLeads, Modules, Reaches}
+use Rattle.work_board.specs.Cores.{has_entry, is_claimed, share_at, AreShares}
 use Rattle.work_board.specs.Marks.{marked, IsReachedBy}
 use Rattle.work_board.specs.Keeping.{state_at, taken, IsValidBoard}
 use Rattle.work_board.proofs.Claiming.{claimed_is, core_of, stated_within, told_delivered, told_zero}
@@ -59,14 +60,15 @@ module _ {E : Type 0} (is_of : List ℕ → E → Type 0) (g : Modules) (waiting
   )
 
   -- the parts that the row of a claimed module tells
-  pub shares_told : {X : Type 0} (f : E → X) → IsGraph g → (abandoned : Bool) (n : ℕ) → taken (state_at states n) ≡ true → (parts : List X) → parts ≡ shares_of f (row_at reached n) entries
-      → AreShares f g.imports (core_of entries states abandoned) n parts
-  shares_told f graph abandoned n is_taken parts are =
+  pub shares_told : {X : Type 0} (f : E → X) → IsGraph g → (abandoned : Bool) (n : ℕ) → taken (state_at states n) ≡ true → (order : List ℕ) → IsNameOrder g.names order → (parts : List X) → parts ≡ flat_map (share_at f (row_at reached n) entries) order
+      → AreShares f g (core_of entries states abandoned) n parts
+  shares_told f graph abandoned n is_taken order by_name parts are =
       let z = taken_zero n is_taken in
       let size = kept.entries_size in
       record {
+        order = order;
+        by_name = by_name;
         marks = row_at reached n;
-        size = kept.width n z.0 ∙ sym size;
         reached = λ v lt. kept.marks n v z.0 (omega arith) is_taken;
         there = λ v r. chain_there graph n v r.0 is_taken r.1;
         parts_are = are;

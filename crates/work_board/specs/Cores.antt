@@ -4,7 +4,8 @@ use Rattle.work_board.specs.declared.claim.Claim.{Claim}
 use Rattle.work_board.specs.declared.claim.Claim.TheVariants.{Finished, Module, Later}
 use Rattle.work_board.specs.declared.claim.BoardFault.{BoardFault}
 use Rattle.work_board.specs.declared.claim.BoardFault.TheVariants.{NotClaimed, Twice, WrongModule, Memory}
-use Rattle.work_board.specs.Graphs.{row_at, RowLeads, Reaches}
+use Rattle.std.specs.List.{flat_map}
+use Rattle.work_board.specs.Graphs.{row_at, IsNameOrder, Modules, RowLeads, Reaches}
 
 pub record Core (E : Type 0) : Type 0 where
   pub entries : List (Option E)
@@ -72,21 +73,24 @@ module _ {E : Type 0} where
   abbrev pub AreOf : (List ℕ → E → Type 0) → List (List ℕ) → List (Option E) → Type 0
   AreOf is_of names entries = (n : ℕ) (e : E) → entry_at entries n ≡ Some e → is_of (row_at names n) e
 
--- the shared parts of the entries with a mark, in order
-abbrev pub shares_of : {E X : Type 0} → (E → X) → List Bool → List (Option E) → List X
-shares_of f [] entries = []
-shares_of f (mark ∷ marks) [] = []
-shares_of f (true ∷ marks) (Some e ∷ entries) = f e ∷ shares_of f marks entries
-shares_of f (true ∷ marks) (None ∷ entries) = shares_of f marks entries
-shares_of f (false ∷ marks) (entry ∷ entries) = shares_of f marks entries
+-- the shared part of an entry with a mark, if it is there
+abbrev pub share_of : {E X : Type 0} → (E → X) → Bool → Option E → List X
+share_of f true (Some e) = f e ∷ []
+share_of f true None = []
+share_of f false entry = []
 
--- the parts are those of all that n reaches, ascending by number, and all of these are delivered
-pub record AreShares {E X : Type 0} (f : E → X) (imports : List (List ℕ)) (c : Core E) (n : ℕ) (parts : List X) : Type 0 where
+-- that of the module of this number
+abbrev pub share_at : {E X : Type 0} → (E → X) → List Bool → List (Option E) → ℕ → List X
+share_at f marks entries v = share_of f (slice_index_or marks v false) (entry_at entries v)
+
+-- the parts are those of all that n reaches, ascending by name, and all of these are delivered
+pub record AreShares {E X : Type 0} (f : E → X) (g : Modules) (c : Core E) (n : ℕ) (parts : List X) : Type 0 where
+  pub order : List ℕ
+  pub by_name : IsNameOrder g.names order
   pub marks : List Bool
-  pub size : length marks ≡ length c.entries
-  pub reached : (v : ℕ) → v < length c.entries → (slice_index_or marks v false ≡ true) ↔ Reaches imports n v
-  pub there : (v : ℕ) → Reaches imports n v → has_entry c.entries v ≡ true
-  pub parts_are : parts ≡ shares_of f marks c.entries
+  pub reached : (v : ℕ) → v < length c.entries → (slice_index_or marks v false ≡ true) ↔ Reaches g.imports n v
+  pub there : (v : ℕ) → Reaches g.imports n v → has_entry c.entries v ≡ true
+  pub parts_are : parts ≡ flat_map (share_at f marks c.entries) order
 
 -- a new board of so many modules
 abbrev pub new_core : {E : Type 0} → ℕ → Core E

@@ -1,5 +1,9 @@
 -- Graphs of modules: what each imports, by numbers, and chains of imports.
-use Rattle.std.specs.Prelude.{◌≡◌, ℕ, ◌<◌, ◌≤◌, ◌==◌, List, [], ◌∷◌, length, map, slice_index_or, count_by, All, Contains, Vec}
+use Rattle.std.specs.Prelude.{◌≡◌, ℕ, ◌<◌, ◌≤◌, ◌==◌, List, [], ◌∷◌, length, map, slice_index_or, count_by, All, Contains, IsPermutation, Vec}
+use Rattle.std.specs.Cmp.Lexicographic.{slice_cmp}
+use Rattle.std.specs.List.{range_with_len}
+use Rattle.std.specs.List.Sorted.{IsSortedBy}
+use Rattle.std.specs.Ordering.{is_lt, nat_cmp}
 use Rattle.std.specs.declared.alloc.Global.{Global}
 
 -- the names of the modules by number, and what each imports
@@ -24,6 +28,11 @@ pub record IsGraph (g : Modules) : Type 0 where
   pub few : length g.names ≤ 4096
   pub short : (m : ℕ) → length (row_at g.imports m) ≤ 65536
   pub within : (m : ℕ) → All (λ w. w < length g.names) (row_at g.imports m)
+
+-- the numbers of all names, each once, by ascending name
+pub record IsNameOrder (names : List (List ℕ)) (order : List ℕ) : Type 0 where
+  pub all : IsPermutation (range_with_len 0 (length names)) order
+  pub ascend : IsSortedBy (λ v w. is_lt (slice_cmp nat_cmp (row_at names v) (row_at names w))) order
 
 -- each row is of at most 65,536 numbers below the count
 abbrev pub AreRows : List (List ℕ) → ℕ → Type 0

@@ -1,12 +1,13 @@
 //! The board: what is claimed, what is delivered, and what each claimed module reaches.
-ghost use Rattle.std.specs.Prelude.{◌≡◌, ◌<◌, ◌≤◌, ◌+◌, ◌⊎◌, ℕ, true, false, length, map, replicate, All, IfOk, IfErr, OnOk, [], ◌∷◌, ◌++◌, slice_index, slice_set, take, None, Some};
+ghost use Rattle.std.specs.Prelude.{◌≡◌, ◌<◌, ◌≤◌, ◌+◌, ◌⊎◌, ℕ, true, false, length, map, replicate, All, IfOk, IfErr, OnOk, ◌++◌, slice_index, slice_set, None, Some};
 ghost use Rattle.std.specs.Arc.{arc_value};
+ghost use Rattle.std.specs.List.{flat_map};
 ghost use Rattle.work_board.specs.Graphs.{lists, row_at, times_in, IsAcyclic, Reaches};
-ghost use Rattle.work_board.specs.Cores.{abandoned_after, has_entry, is_claimed, new_core, shares_of, taken_back, AreOf, AreShares, IsClaim, IsDelivery, IsIdle, IsOver, IsReady, IsRefusal};
+ghost use Rattle.work_board.specs.Cores.{abandoned_after, has_entry, is_claimed, new_core, share_at, share_of, taken_back, AreOf, AreShares, IsClaim, IsDelivery, IsIdle, IsOver, IsReady, IsRefusal};
 ghost use Rattle.work_board.specs.Keeping.{freed, let_go, state_at, taken, IsFit, IsLook};
 
 use crate::marks::{clear_row, clear_rows, fill_row};
-use crate::passing::{BLOCK, any_marked, first_free};
+use crate::passing::first_free;
 use crate::state::State;
 use crate::{BoardFault, Claim, Graph, NamedTree, WorkEntry};
 use std::alloc::{AllocError, Global};
@@ -168,7 +169,7 @@ fn add_share<E: WorkEntry>(
     parts: &mut Vec<Arc<E::Shared>>,
     entry: &Option<E>,
 ) -> Result<(), AllocError>
-    ensures { OnOk result (map arc_value parts.new.items ≡ map arc_value parts.old.items ++ shares_of E.shared_of (true ∷ []) (entry.now ∷ [])) }
+    ensures { OnOk result (map arc_value parts.new.items ≡ map arc_value parts.old.items ++ share_of E.shared_of true entry.now) }
 {
     match entry {
         Some(entry) => {
@@ -179,45 +180,23 @@ fn add_share<E: WorkEntry>(
     }
 }
 
-/// Adds the shared parts of the entries with a mark at these places.
-fn add_shares<E: WorkEntry>(
-    parts: &mut Vec<Arc<E::Shared>>,
-    marks: &[bool],
-    entries: &[Option<E>],
-    from: usize,
-    to: usize,
-) -> Result<(), AllocError>
-    requires size { length marks.now ≡ length entries.now }
-    requires ordered { from ≤ to }
-    requires within { to ≤ length entries.now }
-    requires before { map arc_value parts.old.items ≡ shares_of E.shared_of (take from marks.now) (take from entries.now) }
-    ensures { OnOk result (map arc_value parts.new.items ≡ shares_of E.shared_of (take to marks.now) (take to entries.now)) }
-{
-    for place in from..to {
-        if marks[place] {
-            add_share(parts, &entries[place])?;
-        }
-    }
-    Ok(())
-}
-
-/// The shared parts of the entries with a mark. Blocks without one are passed.
+/// The shared parts of those of these modules that have a mark.
 fn shares<E: WorkEntry>(
     alloc: Global,
     marks: &[bool],
     entries: &[Option<E>],
+    order: &[u32],
 ) -> Result<Vec<Arc<E::Shared>>, AllocError>
-    requires { length marks.now ≡ length entries.now }
-    ensures { IfOk result (λ parts. map arc_value parts.items ≡ shares_of E.shared_of marks.now entries.now) }
+    requires size { length marks.now ≡ length entries.now }
+    requires within { All (λ v. v < length entries.now) order.now }
+    ensures { IfOk result (λ parts. map arc_value parts.items ≡ flat_map (share_at E.shared_of marks.now entries.now) order.now) }
 {
     let mut parts = Vec::new(alloc);
-    let mut place = 0;
-    'rounds: while place < entries.len() {
-        let end = place + BLOCK.min(entries.len() - place);
-        if any_marked(marks, place, end) {
-            add_shares(&mut parts, marks, entries, place, end)?;
+    for number in order {
+        let place = *number as usize;
+        if marks[place] {
+            add_share(&mut parts, &entries[place])?;
         }
-        place = end;
     }
     Ok(parts)
 }
@@ -288,10 +267,10 @@ impl<'g, T: NamedTree, E: WorkEntry> Board<'g, T, E> {
         self.abandoned
     }
 
-    /// The shared parts of all that a claimed module reaches, ascending by number. Refuses with `NotClaimed` a module that
+    /// The shared parts of all that a claimed module reaches, ascending by name. Refuses with `NotClaimed` a module that
     /// nobody claimed, and with `Memory`.
     pub fn interfaces(&self, number: u32) -> Result<Vec<Arc<E::Shared>>, BoardFault>
-        ensures shares { IfOk result (λ parts. AreShares E.shared_of T.graph.imports self.now number (map arc_value parts.items)) }
+        ensures shares { IfOk result (λ parts. AreShares E.shared_of T.graph self.now number (map arc_value parts.items)) }
         ensures claimed { IfOk result (λ parts. is_claimed self.now number ≡ true) }
         ensures refused { IfErr result (λ fault. ((fault ≡ BoardFault.NotClaimed) × (is_claimed self.now number ≡ false)) ⊎ (fault ≡ BoardFault.Memory)) }
     {
@@ -300,7 +279,12 @@ impl<'g, T: NamedTree, E: WorkEntry> Board<'g, T, E> {
         }
         self.graph.keeps();
         let marks = marks_at(self.reached.as_slice(), number as usize);
-        Ok(shares(*self.entries.allocator(), marks, self.entries.as_slice())?)
+        Ok(shares(
+            *self.entries.allocator(),
+            marks,
+            self.entries.as_slice(),
+            self.graph.by_name(),
+        )?)
     }
 
     /// What a worker is to do next. The least ready module is claimed, unless all are delivered or one was abandoned.

@@ -1,7 +1,8 @@
-//! A graph of modules by rows of imports, with the rows of those that import a module.
+//! A graph of modules by rows of imports, with the rows of those that import a module, and the order of their names.
 ghost use Rattle.std.specs.Prelude.{◌≡◌, ◌↔◌, ◌<◌, ◌≤◌, ◌+◌, ◌==◌, ℕ, cond, IsTrue, length, map, take, All, IfOk, OnOk, OnErr, slice_set, vec_len, [], ◌∷◌, ◌++◌, Vec};
+ghost use Rattle.std.specs.List.{range_with_len};
 ghost use Rattle.std.specs.String.{string_bytes};
-ghost use Rattle.work_board.specs.Graphs.{lists, row_at, times_in, AreRows, AreTurned, IsGraph};
+ghost use Rattle.work_board.specs.Graphs.{lists, row_at, times_in, AreRows, AreTurned, IsGraph, IsNameOrder};
 
 use std::alloc::{AllocError, Global};
 use std::marker::Model;
@@ -19,12 +20,14 @@ pub struct Graph {
     names: Vec<String>,
     imports: Vec<Vec<u32>>,
     importers: Vec<Vec<u32>>,
+    /// The modules by name.
+    order: Vec<u32>,
 }
 
 impl Model for Graph {
     ghost use Rattle.std.specs.Prelude.{◌≡◌, ◌<◌, ℕ, length, map, All};
     ghost use Rattle.std.specs.String.{string_bytes};
-    ghost use Rattle.work_board.specs.Graphs.{lists, row_at, AreTurned, IsGraph, Modules};
+    ghost use Rattle.work_board.specs.Graphs.{lists, row_at, AreTurned, IsGraph, IsNameOrder, Modules};
 
     ghost Value = { Modules };
 
@@ -33,7 +36,8 @@ impl Model for Graph {
     ghost invariant = { λ g. IsGraph (record { names = map string_bytes g.names.items; imports = lists g.imports.items })
         × (length (lists g.importers.items) ≡ length (lists g.imports.items))
         × AreTurned (lists g.imports.items) (lists g.importers.items)
-        × ((n : ℕ) → All (λ m. m < length (lists g.imports.items)) (row_at (lists g.importers.items) n)) };
+        × ((n : ℕ) → All (λ m. m < length (lists g.imports.items)) (row_at (lists g.importers.items) n))
+        × IsNameOrder (map string_bytes g.names.items) g.order.items };
 }
 
 fn empty_rows(alloc: Global, count: usize) -> Result<Vec<Vec<u32>>, AllocError>
@@ -114,6 +118,33 @@ fn are_rows(rows: &[Vec<u32>], count: usize) -> bool
     true
 }
 
+/// The name of a module; none past the last.
+fn name_of(names: &[String], number: u32) -> &str
+    ensures { result.now ≡ row_at (map string_bytes names.now) number }
+{
+    match names.get(number as usize) {
+        None => "",
+        Some(name) => name.as_str(),
+    }
+}
+
+/// The first numbers.
+fn numbers(alloc: Global, count: u32) -> Result<Vec<u32>, AllocError>
+    ensures { IfOk result (λ v. v.items ≡ range_with_len 0 count) }
+{
+    (0..count).collect(alloc)
+}
+
+/// The numbers of the names, by name. Where these stand so, one pass sees it.
+fn order_of(alloc: Global, names: &[String]) -> Result<Vec<u32>, AllocError>
+    requires { length names.now ≤ 4096 }
+    ensures { IfOk result (λ order. IsNameOrder (map string_bytes names.now) order.items) }
+{
+    let mut order = numbers(alloc, names.len() as u32)?;
+    order.sort_unstable_by(|a, b| name_of(names, *a).cmp(&name_of(names, *b)));
+    Ok(order)
+}
+
 impl Graph {
     /// Whether a graph has these names, and imports by the numbers of the names: the test of what `new` asks for.
     pub fn is_graph(names: &[String], imports: &[Vec<u32>]) -> bool
@@ -133,10 +164,12 @@ impl Graph {
         ensures { IfOk result (λ graph. graph ≡ record { names = map string_bytes names.items; imports = lists imports.items }) }
     {
         let importers = turned(alloc, imports.as_slice())?;
+        let order = order_of(alloc, names.as_slice())?;
         Ok(Graph {
             names,
             imports,
             importers,
+            order,
         })
     }
 
@@ -177,5 +210,12 @@ impl Graph {
         ensures within { All (λ m. m < length self.now.names) result.now }
     {
         row(self.importers.as_slice(), number as usize)
+    }
+
+    /// The numbers of all modules, by name.
+    pub(crate) fn by_name(&self) -> &[u32]
+        ensures { IsNameOrder self.now.names result.now }
+    {
+        self.order.as_slice()
     }
 }

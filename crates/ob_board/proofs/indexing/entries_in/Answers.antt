@@ -6,6 +6,9 @@ use Rattle.ob_board.proofs.EntryHanding.{entries_all}
 use Rattle.ob_board.proofs.Handing.{in_own}
 use Rattle.ob_board.proofs.indexing.entries_in.Goals as goal
 
+pub of_files-ahead-requires : goal.of_files-ahead-requires
+of_files-ahead-requires g c = (c.args.tree.now.graph, rw c.as_slice.ensures.value c.requires.seen)
+
 pub returns : goal.returns
 returns g c =
     let p = g.F.NamedIndex.package_name in

@@ -7,6 +7,9 @@ use Rattle.ob_board.specs.Unresolved.{plain_unresolved, IsUnresolvedOf, PlainUnr
 use Rattle.ob_board.proofs.Handing.{found_all, in_own}
 use Rattle.ob_board.proofs.listing.listed.Goals as goal
 
+pub of_files-ahead-requires : goal.of_files-ahead-requires
+of_files-ahead-requires g c = (c.args.tree.now.graph, rw c.as_slice.ensures.value c.requires.seen)
+
 pub returns : goal.returns
 returns g c =
     let sources = c.args.sources.now in

@@ -6,7 +6,7 @@ new-requires-clause-seen g c =
     let (files, of) = c.requires.parts in
     rw c.as_slice-2.ensures.value (parts_seen c.args.sources.now files c.args.tree.now.modules.items of.all c.args.tree.now.graph of.kept)
 
-pub of_files-requires : goal.of_files-requires
-of_files-requires g c =
+pub of_files-ahead-requires : goal.of_files-ahead-requires
+of_files-ahead-requires g c =
     let (files, of) = c.requires.parts in
-    record { seen = rw c.as_slice.ensures.value (parts_seen c.args.sources.now files c.args.tree.now.modules.items of.all c.args.tree.now.graph of.kept) }
+    (c.args.tree.now.graph, rw c.as_slice.ensures.value (parts_seen c.args.sources.now files c.args.tree.now.modules.items of.all c.args.tree.now.graph of.kept))

@@ -1,8 +1,7 @@
 -- The place that was kept is that of the item's module.
-use Rattle.std.proofs.Common.{ℕ, List, Option, refl, sym, ap, ◌∙◌, map}
+use Rattle.std.proofs.Common.{ℕ, List, Option, refl, sym, ap, ◌∙◌}
 use Rattle.std.specs.Prelude.{slice_get}
 use Rattle.std.proofs.lemmas.Option.{slice_get_past, slice_get_read}
-use Rattle.ob_interface.specs.Interfaces.{ModuleInterface}
 use Rattle.ob_types.specs.Parted.{home_by, world_of}
 use Rattle.ob_types.specs.World.{home, home_of}
 use Rattle.ob_types.proofs.Ascending.{item_home, no_item}
@@ -12,14 +11,14 @@ pub returns-in-Some : goal.returns-in-Some
 unfolding home home_of
 returns-in-Some c =
     let w = world_of c.args.self.now.parts in
-    let kept = c.as_slice.ensures.value ∙ c.args.self.now.item_homes_are ∙ ap (λ (ms : List ModuleInterface). map (home_by w ms) w.rows.imports) c.args.self.now.homes_are in
+    let kept = c.as_slice.ensures.value ∙ c.args.self.now.item_homes_are in
     let there = slice_get_read c.as_slice.result.now _ c.args.item c.in-Some.home.now refl c.in-Some.ensures.lookup.3.0 c.in-Some.ensures.lookup.1 in
-    item_home (home_by w w.reached) w.rows.imports c.args.item _ _ (sym there ∙ ap (λ (xs : List (Option ℕ)). slice_get xs c.args.item) kept) refl
+    item_home (home_by w) w.rows.imports c.args.item _ _ (sym there ∙ ap (λ (xs : List (Option ℕ)). slice_get xs c.args.item) kept) refl
 
 pub returns-in-None : goal.returns-in-None
 unfolding home home_of
 returns-in-None c =
     let w = world_of c.args.self.now.parts in
-    let kept = c.as_slice.ensures.value ∙ c.args.self.now.item_homes_are ∙ ap (λ (ms : List ModuleInterface). map (home_by w ms) w.rows.imports) c.args.self.now.homes_are in
+    let kept = c.as_slice.ensures.value ∙ c.args.self.now.item_homes_are in
     let past = slice_get_past c.as_slice.result.now c.args.item c.in-None.ensures.lookup.3 in
-    no_item (home_by w w.reached) w.rows.imports c.args.item _ (sym past ∙ ap (λ (xs : List (Option ℕ)). slice_get xs c.args.item) kept) refl
+    no_item (home_by w) w.rows.imports c.args.item _ (sym past ∙ ap (λ (xs : List (Option ℕ)). slice_get xs c.args.item) kept) refl
