@@ -1,10 +1,13 @@
 -- The numbers of names in the order of the names.
-use Rattle.std.proofs.Common.{◌≡◌, ◌<◌, ◌+◌, ℕ, zero, suc, List, length, get_or, subst, sym, ◌∙◌, arith}
-use Rattle.std.specs.Prelude.{All, Contains}
-use Rattle.std.specs.List.{range_with_len}
+use Rattle.std.proofs.Common.{◌≡◌, ◌<◌, ◌≤◌, ◌+◌, ℕ, zero, suc, Bool, false, List, [], ◌∷◌, length, get_or, refl, subst, sym, ◌∙◌, arith, inl, inr}
+use Rattle.std.specs.Prelude.{All, Contains, Option}
+use Rattle.std.specs.List.{flat_map, range_with_len}
+use Rattle.std.proofs.lemmas.Bool.{cases_lt}
+use Rattle.std.proofs.lemmas.List.{get_or_past}
 use Rattle.std.proofs.lemmas.List.FromFn.{get_or-range_with_len, length-range_with_len}
 use Rattle.std.proofs.lemmas.List.Sorted.{All-permutation, Contains-permutation}
 use Rattle.work_board.specs.Graphs.{IsNameOrder}
+use Rattle.work_board.specs.Cores.{share_at}
 
 number_at : (n k d : ℕ) → k < n → get_or (range_with_len 0 n) k d ≡ k
 number_at n k d l = let zero : 0 + k ≡ k = omega arith in get_or-range_with_len 0 n k d l ∙ zero
@@ -22,3 +25,15 @@ order_within names order is = All-permutation (λ (v : ℕ). v < length names) (
 pub order_has : (names : List (List ℕ)) (order : List ℕ) → IsNameOrder names order → (v : ℕ) → v < length names → Contains order v
 order_has names order is v lt =
     Contains-permutation (range_with_len 0 (length names)) order v is.all (v, omega (arith, lt, length-range_with_len 0 (length names)), number_at (length names) v v lt)
+
+no_mark : (marks : List Bool) → ((v : ℕ) → 0 ≤ v → v < length marks → get_or marks v false ≡ false) → (v : ℕ) → get_or marks v false ≡ false
+no_mark marks none v = elim (cases_lt v (length marks)) [
+  | inl l ↦ none v (omega arith) l
+  | inr past ↦ get_or_past marks v false past
+]
+
+-- where there is no mark they share nothing
+pub shares_none : {E X : Type 0} (f : E → X) (marks : List Bool) (entries : List (Option E)) (order : List ℕ) → ((v : ℕ) → 0 ≤ v → v < length marks → get_or marks v false ≡ false)
+    → flat_map (share_at f marks entries) order ≡ []
+shares_none f marks entries [] none = refl
+shares_none f marks entries (v ∷ order) none = rw (no_mark marks none v) (shares_none f marks entries order none)

@@ -7,7 +7,7 @@ ghost use Rattle.work_board.specs.Cores.{abandoned_after, has_entry, is_claimed,
 ghost use Rattle.work_board.specs.Keeping.{freed, let_go, state_at, taken, IsFit, IsLook};
 
 use crate::marks::{clear_row, clear_rows, fill_row};
-use crate::passing::first_free;
+use crate::passing::{any_marked, first_free};
 use crate::state::State;
 use crate::{BoardFault, Claim, Graph, NamedTree, WorkEntry};
 use std::alloc::{AllocError, Global};
@@ -181,7 +181,7 @@ fn add_share<E: WorkEntry>(
 }
 
 /// The shared parts of those of these modules that have a mark.
-fn shares<E: WorkEntry>(
+fn marked_shares<E: WorkEntry>(
     alloc: Global,
     marks: &[bool],
     entries: &[Option<E>],
@@ -199,6 +199,23 @@ fn shares<E: WorkEntry>(
         }
     }
     Ok(parts)
+}
+
+/// The same. Where there is no mark, the modules aren't gone through.
+fn shares<E: WorkEntry>(
+    alloc: Global,
+    marks: &[bool],
+    entries: &[Option<E>],
+    order: &[u32],
+) -> Result<Vec<Arc<E::Shared>>, AllocError>
+    requires size { length marks.now ≡ length entries.now }
+    requires within { All (λ v. v < length entries.now) order.now }
+    ensures { IfOk result (λ parts. map arc_value parts.items ≡ flat_map (share_at E.shared_of marks.now entries.now) order.now) }
+{
+    if !any_marked(marks, 0, marks.len()) {
+        return Ok(Vec::new(alloc));
+    }
+    marked_shares(alloc, marks, entries, order)
 }
 
 /// The row of marks at this place.

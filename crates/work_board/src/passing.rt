@@ -1,11 +1,24 @@
-//! Blocks of modules in which none is free are passed at once: in a large tree most are.
+//! What is passed at once: blocks of modules in which none is free, as most are in a large tree, and rows without a mark.
 ghost use Rattle.std.specs.Prelude.{◌≡◌, ◌<◌, ◌≤◌, ◌↔◌, ℕ, false, length, IsTrue};
+ghost use Rattle.work_board.specs.Marks.{marked};
 ghost use Rattle.work_board.specs.Keeping.{state_at};
 
 use crate::state::State;
 
 /// How many places are looked at together. A loop over a block has no exit before its end, so that many places are taken at once.
 pub(crate) const BLOCK: usize = 64;
+
+/// Whether one of these places has a mark. The loop has no exit before its end, so that many places are taken at once.
+pub(crate) fn any_marked(marks: &[bool], from: usize, to: usize) -> bool
+    requires { to ≤ length marks.now }
+    ensures { result ≡ false → (v : ℕ) → from ≤ v → v < to → marked marks.now v ≡ false }
+{
+    let mut found = false;
+    for place in from..to {
+        found |= marks[place];
+    }
+    found
+}
 
 /// Whether a module is free.
 fn is_free(state: State) -> bool
