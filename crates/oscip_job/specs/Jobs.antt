@@ -1,4 +1,4 @@
--- The command line as clap reads it, and the job that its words give.
+-- The command line as clap parses it, and the job that its arguments give. A row is an argument that clap found with its values.
 use Rattle.std.specs.Prelude.{◌≡◌, ◌≢◌, ◌↔◌, ◌⊎◌, ◌++◌, ◌+◌, ◌<◌, ◌≤◌, ◌^◌, ℕ, Bool, List, [], ◌∷◌, Option, Some, None, codes, map, nat_eq, option_map, pos, slice_get, String, true, false}
 use Rattle.std.specs.declared.alloc.Global.{Global}
 use Rattle.std.specs.List.{starts_with}
@@ -34,15 +34,15 @@ use Rattle.oscip_job.specs.declared.job.TreeQuestion.{TreeQuestion}
 use Rattle.oscip_job.specs.declared.job.TreeQuestion.TheVariants.{OfNet, Crossings, Net, Rules, Faults, Modules}
 use Rattle.oscip_job.specs.declared.job.TwoNames.{TwoNames}
 
--- an argument that has to be given
+-- a required argument
 abbrev pub required_rule : Text → Rule
 required_rule id = record (new_rule id) { required = true }
 
--- A B
+-- the command with the arguments A B
 abbrev pub with_modules : App → App
 with_modules app = with_rule (with_rule app (required_rule (codes "A"))) (required_rule (codes "B"))
 
--- --workers N, a number from 1 to 64, and 4 where it isn't given
+-- --workers N, a number from 1 to 64, by default 4
 abbrev pub workers_rule : Rule
 workers_rule = record (new_rule (codes "workers")) {
   long = Some (codes "workers");
@@ -51,7 +51,7 @@ workers_rule = record (new_rule (codes "workers")) {
   defaults = codes "4" ∷ [];
 }
 
--- the command with that option
+-- the command with the option --workers N
 abbrev pub with_workers : App → App
 with_workers app = with_rule app workers_rule
 
@@ -59,11 +59,11 @@ with_workers app = with_rule app workers_rule
 abbrev pub prices_rule : Rule
 prices_rule = record (new_rule (codes "prices")) { long = Some (codes "prices"); value_names = 1 }
 
--- the command with that option
+-- the command with the option --prices FILE
 abbrev pub with_prices : App → App
 with_prices app = with_rule app prices_rule
 
--- an option that is given or not
+-- a flag: an option without a value
 abbrev pub flag_rule : Text → Rule
 flag_rule id = record (new_rule id) { long = Some id; action = Some actions.SetTrue }
 
@@ -71,7 +71,7 @@ flag_rule id = record (new_rule id) { long = Some id; action = Some actions.SetT
 abbrev pub exclude_rule : Rule
 exclude_rule = record (new_rule (codes "exclude")) { long = Some (codes "exclude"); value_names = 1; action = Some actions.Append }
 
--- the command with --editor
+-- the command with the flag --editor
 abbrev pub with_editor : App → App
 with_editor app = with_rule app (flag_rule (codes "editor"))
 
@@ -83,7 +83,7 @@ with_walk_options app = with_editor (with_rule app exclude_rule)
 abbrev pub with_tree_options : App → App
 with_tree_options app = with_rule (with_walk_options app) (flag_rule (codes "skip-faults"))
 
--- A command on a folder has the options of with_tree_options beside those that are shown; `faults` has those of with_walk_options.
+-- Below, a command on a folder has the options of with_tree_options as well; faults has those of with_walk_options.
 
 -- cut [--workers N] [--prices FILE] DIR A B
 abbrev pub cut_app : App
@@ -113,7 +113,7 @@ faults_app = with_walk_options (with_rule (new_app (codes "faults")) (required_r
 abbrev pub why_app : App
 why_app = with_tree_options (with_modules (with_rule (new_app (codes "why")) (required_rule (codes "DIR"))))
 
--- the command with [--back] and M
+-- the command with [--back] M
 abbrev pub with_reached : App → App
 with_reached app = with_rule (with_rule app (required_rule (codes "M"))) (flag_rule (codes "back"))
 
@@ -141,7 +141,7 @@ check_net_app = with_prices (with_rule (with_rule (new_app (codes "check-net")) 
 abbrev pub why_net_app : App
 why_net_app = with_modules (with_rule (new_app (codes "why-net")) (required_rule (codes "FILE")))
 
--- the command with --flow
+-- the command with the flag --flow
 abbrev pub with_flow : App → App
 with_flow app = with_rule app (flag_rule (codes "flow"))
 
@@ -153,16 +153,16 @@ dot_app = with_tree_options (with_flow (with_prices (with_rule (with_rule (new_a
 abbrev pub dot_net_app : App
 dot_net_app = with_flow (with_prices (with_rule (with_rule (new_app (codes "dot-net")) (required_rule (codes "FILE"))) (required_rule (codes "REPORT"))))
 
--- a number from 0 to 2147483647
+-- a number from 0 to 2147483647, required or not
 abbrev pub number_rule : Bool → Text → Rule
 number_rule required id = record (new_rule id) { required = required; parser = Some (parsers.Signed (pos 0) (pos 2147483647)) }
 
--- PATH LINE COL, which have to be given or not
+-- the command with PATH LINE COL, required or not
 abbrev pub with_position : Bool → App → App
 with_position required app =
     with_rule (with_rule (with_rule app (record (new_rule (codes "PATH")) { required = required })) (number_rule required (codes "LINE"))) (number_rule required (codes "COL"))
 
--- a command of this name on an index
+-- a command of this name with the argument INDEX
 abbrev pub index_question_app : Text → App
 index_question_app name = with_rule (new_app name) (required_rule (codes "INDEX"))
 
@@ -170,13 +170,15 @@ index_question_app name = with_rule (new_app name) (required_rule (codes "INDEX"
 abbrev pub symbol_rule : Rule
 symbol_rule = record (new_rule (codes "symbol")) { long = Some (codes "symbol"); value_names = 1 }
 
--- a command of this name, [--symbol TEXT] [--editor] INDEX [PATH] [LINE] [COL]
+-- a command of this name: [--symbol TEXT] [--editor] INDEX [PATH] [LINE] [COL]
 abbrev pub asking_app : Text → App
 asking_app name = with_editor (with_rule (with_position false (index_question_app name)) symbol_rule)
 
+-- def [--symbol TEXT] [--editor] INDEX [PATH] [LINE] [COL]
 abbrev pub def_app : App
 def_app = asking_app (codes "def")
 
+-- refs [--symbol TEXT] [--editor] INDEX [PATH] [LINE] [COL]
 abbrev pub refs_app : App
 refs_app = asking_app (codes "refs")
 
@@ -188,15 +190,15 @@ symbol_app = with_editor (with_position true (index_question_app (codes "symbol"
 abbrev pub symbols_app : App
 symbols_app = with_editor (with_rule (index_question_app (codes "symbols")) (new_rule (codes "PATH")))
 
--- [OUT] [--hex]
+-- the command with [OUT] [--hex]
 abbrev pub with_output : App → App
 with_output app = with_rule (with_rule app (new_rule (codes "OUT"))) (flag_rule (codes "hex"))
 
--- an option with a text, which is empty where it isn't given
+-- an option with a text, by default the empty one
 abbrev pub text_rule : Text → Rule
 text_rule id = record (new_rule id) { long = Some id; value_names = 1; defaults = [] ∷ [] }
 
--- [--package TEXT] [--root TEXT] [--workers N] [--atomic]
+-- the command with [--package TEXT] [--root TEXT] [--workers N] [--atomic]
 abbrev pub with_options : App → App
 with_options app = with_rule (with_workers (with_rule (with_rule app (text_rule (codes "package"))) (text_rule (codes "root")))) (flag_rule (codes "atomic"))
 
@@ -208,110 +210,118 @@ index_app = with_tree_options (with_options (with_output (with_rule (new_app (co
 abbrev pub unresolved_app : App
 unresolved_app = with_tree_options (with_rule (new_app (codes "unresolved")) (required_rule (codes "DIR")))
 
--- the program, which tells its version, and one of whose commands has to be given
+-- the program, which has a version and requires a command
 abbrev pub program_app : App
 program_app = record (new_app (codes "oscip")) { top = record (new_app (codes "oscip")).top { subcommand_required = true; has_version = true } }
 
--- the program with the commands on folders of modules, those on networks, those that list modules, those that draw, those on indexes and those that index
+-- the program with the commands cut, check and crossings
 abbrev pub with_trees : App → App
 with_trees app = with_subcommand (with_subcommand (with_subcommand app cut_app.top) check_app.top) crossings_app.top
 
+-- the program with the commands net, why and rules
 abbrev pub with_imports : App → App
 with_imports app = with_subcommand (with_subcommand (with_subcommand app net_app.top) why_app.top) rules_app.top
 
+-- the program with the commands cut-net, check-net and why-net
 abbrev pub with_nets : App → App
 with_nets app = with_subcommand (with_subcommand (with_subcommand app cut_net_app.top) check_net_app.top) why_net_app.top
 
+-- the program with the commands modules, reach and reach-net
 abbrev pub with_lists : App → App
 with_lists app = with_subcommand (with_subcommand (with_subcommand app modules_app.top) reach_app.top) reach_net_app.top
 
+-- the program with the commands dot and dot-net
 abbrev pub with_pictures : App → App
 with_pictures app = with_subcommand (with_subcommand app dot_app.top) dot_net_app.top
 
+-- the program with the commands def and refs
 abbrev pub with_indexes : App → App
 with_indexes app = with_subcommand (with_subcommand app def_app.top) refs_app.top
 
+-- the program with the commands symbol and symbols
 abbrev pub with_symbols : App → App
 with_symbols app = with_subcommand (with_subcommand app symbol_app.top) symbols_app.top
 
+-- the program with the commands index, unresolved and faults
 abbrev pub with_indexers : App → App
 with_indexers app = with_subcommand (with_subcommand (with_subcommand app index_app.top) unresolved_app.top) faults_app.top
 
--- the program and its commands
+-- the program with all its commands
 abbrev pub oscip : App
 oscip = with_indexers (with_symbols (with_indexes (with_pictures (with_lists (with_nets (with_imports (with_trees program_app)))))))
 
--- the text that was found for an argument
+-- clap found this text for the argument
 abbrev pub Finds : List Row → Text → Text → Type 0
 Finds rows id text = first_of id rows ≡ Some text
 
--- the text that was found for an argument, or none where it wasn't given
+-- clap found this text for the argument, or the argument wasn't given and there is no text
 abbrev pub MayFind : List Row → Text → Option (String Global) → Type 0
 MayFind rows id text = first_of id rows ≡ option_map string_bytes text
 
--- the number that was found for an argument, in decimal digits, before which a plus may stand
+-- clap found this number for the argument: decimal digits, with an optional plus before them
 abbrev pub FindsNumber : List Row → Text → ℕ → Type 0
 FindsNumber rows id n =
     (text : Text) × (one_of id rows ≡ Some text) × IsNumeral 10 (without_leading_plus text) × (n ≡ digits_value 10 (without_leading_plus text))
 
--- so many workers may search
+-- the number of workers is 1 to 64
 abbrev pub MayWork : ℕ → Type 0
 MayWork workers = (1 ≤ workers) × (workers ≤ 64)
 
--- what was found for an argument are numbers from the one to the other
+-- each number below 2^32 that clap found for the argument is between these bounds
 abbrev pub NamesWithin : Text → ℕ → ℕ → List Row → Type 0
 NamesWithin id least most rows = (n : ℕ) → n < 2 ^ 32 → FindsNumber rows id n → (least ≤ n) × (n ≤ most)
 
--- those of --workers are 1 to 64
+-- the number of --workers is 1 to 64
 abbrev pub NamesWorkers : List Row → Type 0
 NamesWorkers rows = NamesWithin (codes "workers") 1 64 rows
 
--- those of LINE and COL are 0 to 2147483647
+-- the numbers of LINE and COL are 0 to 2147483647
 abbrev pub NamesPosition : List Row → Type 0
 NamesPosition rows = NamesWithin (codes "LINE") 0 2147483647 rows × NamesWithin (codes "COL") 0 2147483647 rows
 
+-- the numbers of --workers, LINE and COL are in range
 abbrev pub NamesNumbers : List Row → Type 0
 NamesNumbers rows = NamesWorkers rows × NamesPosition rows
 
--- an option that is given or not was given
+-- the flag was given
 abbrev pub IsGiven : List Row → Text → Type 0
 IsGiven rows id = Finds rows id (codes "true")
 
--- the number from 0 of what an argument counts: from 1 if --editor was given, and else from 0
+-- the number, counted from 0, of an argument that counts from 1 with --editor and from 0 without it
 abbrev pub FindsFromZero : List Row → Text → ℕ → Type 0
 FindsFromZero rows id n = (IsGiven rows (codes "editor") × FindsNumber rows id (n + 1)) ⊎ ((IsGiven rows (codes "editor") → ⊥) × FindsNumber rows id n)
 
--- the position holds the values that were found for its arguments
+-- the position has the values of PATH, LINE and COL
 abbrev pub HasPlace : List Row → Position → Type 0
 HasPlace rows at =
     Finds rows (codes "PATH") (string_bytes at.path) × FindsFromZero rows (codes "LINE") at.line × FindsFromZero rows (codes "COL") at.column
 
--- an argument wasn't given
+-- the argument wasn't given
 abbrev pub LacksValue : List Row → Text → Type 0
 LacksValue rows id = first_of id rows ≡ None
 
--- the one symbol that the words name: by a position, or by --symbol
+-- the symbol has the values of its arguments: a position and no --symbol, or --symbol and neither LINE nor COL
 abbrev pub HasAskedSymbol : List Row → AskedSymbol → Type 0
 HasAskedSymbol rows (At position) = LacksValue rows (codes "symbol") × HasPlace rows position
 HasAskedSymbol rows (Named symbol path) =
     Finds rows (codes "symbol") (string_bytes symbol) × MayFind rows (codes "PATH") path × LacksValue rows (codes "LINE") × LacksValue rows (codes "COL")
 
--- what is asked of an index holds the values that were found for its arguments
+-- the question about an index has the values of its arguments
 abbrev pub HasIndexQuestion : List Row → IndexQuestion → Type 0
 HasIndexQuestion rows (PlacesOf places symbol) = HasAskedSymbol rows symbol
 HasIndexQuestion rows (SymbolAt position) = HasPlace rows position
 HasIndexQuestion rows (Symbols path) = MayFind rows (codes "PATH") path
 
--- the one place that the words name: standard output, by --hex and without --atomic, or a file, by OUT
+-- the output is standard output if --hex is given and neither OUT nor --atomic is, or the file OUT if --hex isn't given
 abbrev pub HasOutput : List Row → Output → Type 0
 HasOutput rows outputs.Hex = IsGiven rows (codes "hex") × LacksValue rows (codes "OUT") × (IsGiven rows (codes "atomic") → ⊥)
 HasOutput rows (outputs.File path) = (IsGiven rows (codes "hex") → ⊥) × Finds rows (codes "OUT") (string_bytes path)
 
--- the texts that were found for an argument, and no text if it wasn't given
+-- the texts that clap found for the argument, none if it wasn't given
 abbrev pub FindsAll : List Row → Text → List Text → Type 0
 FindsAll rows id found = unwrap_or (all_of id rows) [] ≡ found
 
--- the tree holds the values that were found for its arguments
+-- the tree has the values of its arguments
 abbrev pub HasTree : List Row → SourceTree → Type 0
 HasTree rows tree =
     Finds rows (codes "DIR") (string_bytes tree.folder) × FindsAll rows (codes "exclude") (map string_bytes tree.excluded.items)
@@ -321,40 +331,40 @@ HasTree rows tree =
 abbrev pub AsksForAtomic : List Row → Type 0
 AsksForAtomic rows = IsGiven rows (codes "atomic") ⊎ IsGiven rows (codes "skip-faults")
 
--- the index holds the values that were found for its arguments
+-- the request for an index has the values of its arguments
 abbrev pub HasIndexing : List Row → Indexing → Type 0
 HasIndexing rows it =
     HasTree rows it.tree × HasOutput rows it.output × Finds rows (codes "package") (string_bytes it.package)
     × Finds rows (codes "root") (string_bytes it.root) × FindsNumber rows (codes "workers") it.workers × (it.is_atomic ≡ true ↔ AsksForAtomic rows)
 
--- the names of two modules, which these arguments give
+-- the two names are the values of these arguments
 abbrev pub HasTwoNames : List Row → Text → Text → TwoNames → Type 0
 HasTwoNames rows first second names = Finds rows first (string_bytes names.from) × Finds rows second (string_bytes names.to)
 
--- what says how a cut is searched for
+-- the request for a cut has the values of its arguments
 abbrev pub HasCutting : List Row → Cutting → Type 0
 HasCutting rows it =
     Finds rows (codes "A") (string_bytes it.from) × Finds rows (codes "B") (string_bytes it.to)
     × FindsNumber rows (codes "workers") it.workers × MayFind rows (codes "prices") it.prices
 
--- the report and its prices
+-- the report and its prices are the values of their arguments
 abbrev pub HasReported : List Row → Reported → Type 0
 HasReported rows it = Finds rows (codes "REPORT") (string_bytes it.report) × MayFind rows (codes "prices") it.prices
 
--- the report and its prices, and whether --flow was given
+-- the request for a picture has the values of its arguments, and is by flow if and only if --flow was given
 abbrev pub HasDrawing : List Row → Drawing → Type 0
 HasDrawing rows it = HasReported rows it.reported × (it.by_flow ≡ true ↔ IsGiven rows (codes "flow"))
 
--- the direction is along the imports, and against them if --back was given
+-- the direction is against the imports if and only if --back was given
 abbrev pub HasDirection : List Row → Direction → Type 0
 HasDirection rows Imported = IsGiven rows (codes "back") → ⊥
 HasDirection rows Importing = IsGiven rows (codes "back")
 
--- the module from which others are reached
+-- the request for reached modules has the values of its arguments
 abbrev pub HasReaching : List Row → Reaching → Type 0
 HasReaching rows it = Finds rows (codes "M") (string_bytes it.module) × HasDirection rows it.direction
 
--- what is asked of a network holds the values that were found for its arguments
+-- the question about a network has the values of its arguments
 abbrev pub HasNetQuestion : List Row → NetQuestion → Type 0
 HasNetQuestion rows (Cut cutting) = HasCutting rows cutting
 HasNetQuestion rows (Check reported) = HasReported rows reported
@@ -362,7 +372,7 @@ HasNetQuestion rows (Dot drawing) = HasDrawing rows drawing
 HasNetQuestion rows (Why names) = HasTwoNames rows (codes "A") (codes "B") names
 HasNetQuestion rows (Reach reaching) = HasReaching rows reaching
 
--- so does what is asked of a tree
+-- the question about a tree has the values of its arguments
 abbrev pub HasTreeQuestion : List Row → TreeQuestion → Type 0
 HasTreeQuestion rows (OfNet question) = HasNetQuestion rows question
 HasTreeQuestion rows (Crossings names) = HasTwoNames rows (codes "M") (codes "N") names
@@ -371,7 +381,7 @@ HasTreeQuestion rows (Rules rules) = Finds rows (codes "FILE") (string_bytes rul
 HasTreeQuestion rows Faults = Unit {0}
 HasTreeQuestion rows Modules = Unit {0}
 
--- the job holds the values that were found for its arguments
+-- the job has the values of its arguments
 abbrev pub HasValues : List Row → Job → Type 0
 HasValues rows (Tree tree question) = HasTree rows tree × HasTreeQuestion rows question
 HasValues rows (Network network question) = Finds rows (codes "FILE") (string_bytes network) × HasNetQuestion rows question
@@ -380,7 +390,7 @@ HasValues rows (Ask index question for_editor) =
 HasValues rows (Index indexing) = HasIndexing rows indexing
 HasValues rows (Unresolved tree) = HasTree rows tree
 
--- the word for what is asked of a network
+-- the name of the command on a tree for a question about a network
 abbrev pub net_question_name : NetQuestion → Text
 net_question_name (Cut cutting) = codes "cut"
 net_question_name (Check reported) = codes "check"
@@ -388,7 +398,7 @@ net_question_name (Dot drawing) = codes "dot"
 net_question_name (Why names) = codes "why"
 net_question_name (Reach reaching) = codes "reach"
 
--- the word for what is asked of a tree
+-- the name of the command for a question about a tree
 abbrev pub tree_question_name : TreeQuestion → Text
 tree_question_name (OfNet question) = net_question_name question
 tree_question_name (Crossings names) = codes "crossings"
@@ -397,18 +407,18 @@ tree_question_name (Rules rules) = codes "rules"
 tree_question_name Faults = codes "faults"
 tree_question_name Modules = codes "modules"
 
--- the word for which places an index is asked for
+-- the name of the command that returns occurrences of this kind
 abbrev pub asking_name : Places → Text
 asking_name Definitions = codes "def"
 asking_name References = codes "refs"
 
--- the word for what is asked of an index
+-- the name of the command for a question about an index
 abbrev pub index_question_name : IndexQuestion → Text
 index_question_name (PlacesOf places symbol) = asking_name places
 index_question_name (SymbolAt position) = codes "symbol"
 index_question_name (Symbols path) = codes "symbols"
 
--- the word that names the command
+-- the name of the job's command
 abbrev pub command_name : Job → Text
 command_name (Tree tree question) = tree_question_name question
 command_name (Network network question) = net_question_name question ++ codes "-net"
@@ -416,12 +426,12 @@ command_name (Ask index question for_editor) = index_question_name question
 command_name (Index indexing) = codes "index"
 command_name (Unresolved tree) = codes "unresolved"
 
--- the command that clap found is the job's, with its values
+-- the job's command and its values are those that clap found
 abbrev pub Holds : Option (Text × List Row) → Job → Type 0
 Holds None job = ⊥
 Holds (Some found) job = (found.0 ≡ command_name job) × HasValues found.1 job
 
--- the workers of a question, where it has them, are 1 to 64
+-- a question about a network that has a number of workers has 1 to 64 of them
 abbrev pub HasNetWorkers : NetQuestion → Type 0
 HasNetWorkers (Cut cutting) = MayWork cutting.workers
 HasNetWorkers (Check reported) = Unit {0}
@@ -429,6 +439,7 @@ HasNetWorkers (Dot drawing) = Unit {0}
 HasNetWorkers (Why names) = Unit {0}
 HasNetWorkers (Reach reaching) = Unit {0}
 
+-- a question about a tree that has a number of workers has 1 to 64 of them
 abbrev pub HasTreeWorkers : TreeQuestion → Type 0
 HasTreeWorkers (OfNet question) = HasNetWorkers question
 HasTreeWorkers (Crossings names) = Unit {0}
@@ -437,7 +448,7 @@ HasTreeWorkers (Rules rules) = Unit {0}
 HasTreeWorkers Faults = Unit {0}
 HasTreeWorkers Modules = Unit {0}
 
--- so those of the job
+-- a job that has a number of workers has 1 to 64 of them
 abbrev pub HasWorkers : Job → Type 0
 HasWorkers (Tree tree question) = HasTreeWorkers question
 HasWorkers (Network network question) = HasNetWorkers question
@@ -449,17 +460,18 @@ HasWorkers (Unresolved tree) = Unit {0}
 abbrev pub IsWithin : Position → Type 0
 IsWithin at = (at.line ≤ 2147483647) × (at.column ≤ 2147483647)
 
--- so those of a question, where it has them
+-- the line and column of a symbol that is given by a position are at most 2147483647
 abbrev pub HasSymbolPosition : AskedSymbol → Type 0
 HasSymbolPosition (At position) = IsWithin position
 HasSymbolPosition (Named symbol path) = Unit {0}
 
+-- the line and column of a question about an index that has a position are at most 2147483647
 abbrev pub HasIndexPosition : IndexQuestion → Type 0
 HasIndexPosition (PlacesOf places symbol) = HasSymbolPosition symbol
 HasIndexPosition (SymbolAt position) = IsWithin position
 HasIndexPosition (Symbols path) = Unit {0}
 
--- so those of the job, where it has them
+-- the line and column of a job that has a position are at most 2147483647
 abbrev pub HasPosition : Job → Type 0
 HasPosition (Tree tree question) = Unit {0}
 HasPosition (Network network question) = Unit {0}
@@ -467,21 +479,22 @@ HasPosition (Ask index question for_editor) = HasIndexPosition question
 HasPosition (Index indexing) = Unit {0}
 HasPosition (Unresolved tree) = Unit {0}
 
--- the text of a symbol of one document
+-- the text is that of a local symbol, which belongs to one document
 abbrev pub is_local : Text → Bool
 is_local text = starts_with nat_eq text (codes "local ")
 
--- such a symbol comes with the path of its document
+-- a local symbol that is given by its text has the path of its document
 abbrev pub HasSymbolPath : AskedSymbol → Type 0
 HasSymbolPath (At position) = Unit {0}
 HasSymbolPath (Named symbol path) = is_local (string_bytes symbol) ≡ true → path ≢ None
 
+-- a local symbol that the question gives by its text has the path of its document
 abbrev pub HasIndexPath : IndexQuestion → Type 0
 HasIndexPath (PlacesOf places symbol) = HasSymbolPath symbol
 HasIndexPath (SymbolAt position) = Unit {0}
 HasIndexPath (Symbols path) = Unit {0}
 
--- so that of the job, where it has one
+-- a local symbol that the job gives by its text has the path of its document
 abbrev pub HasPath : Job → Type 0
 HasPath (Tree tree question) = Unit {0}
 HasPath (Network network question) = Unit {0}
@@ -489,17 +502,18 @@ HasPath (Ask index question for_editor) = HasIndexPath question
 HasPath (Index indexing) = Unit {0}
 HasPath (Unresolved tree) = Unit {0}
 
--- the text of a symbol that a question names isn't empty
+-- the text of a symbol that is given by its text isn't empty
 abbrev pub HasSymbolText : AskedSymbol → Type 0
 HasSymbolText (At position) = Unit {0}
 HasSymbolText (Named symbol path) = string_bytes symbol ≢ []
 
+-- the text of a symbol that the question names isn't empty
 abbrev pub HasIndexText : IndexQuestion → Type 0
 HasIndexText (PlacesOf places symbol) = HasSymbolText symbol
 HasIndexText (SymbolAt position) = Unit {0}
 HasIndexText (Symbols path) = Unit {0}
 
--- so that of the job, where it names one
+-- the text of a symbol that the job names isn't empty
 abbrev pub HasText : Job → Type 0
 HasText (Tree tree question) = Unit {0}
 HasText (Network network question) = Unit {0}
@@ -507,11 +521,11 @@ HasText (Ask index question for_editor) = HasIndexText question
 HasText (Index indexing) = Unit {0}
 HasText (Unresolved tree) = Unit {0}
 
--- a package that can stand in a symbol: it isn't a full stop, and no space stands in front
+-- a valid package in a symbol: it isn't a full stop and doesn't begin with a space
 abbrev pub IsPackage : Text → Type 0
 IsPackage text = (text ≢ codes ".") × (slice_get text 0 ≢ Some 32)
 
--- so that of the job, where it has one
+-- the package of a job that makes an index is valid
 abbrev pub HasPackage : Job → Type 0
 HasPackage (Tree tree question) = Unit {0}
 HasPackage (Network network question) = Unit {0}
@@ -519,19 +533,21 @@ HasPackage (Ask index question for_editor) = Unit {0}
 HasPackage (Index indexing) = IsPackage (string_bytes indexing.package)
 HasPackage (Unresolved tree) = Unit {0}
 
--- the job is that of the command that clap found, and its numbers, its package, its path and its symbol are as they may be
+-- the job has the command and the values that clap found, and its numbers, package, path and symbol are valid
 abbrev pub IsJobOf : Option (Text × List Row) → Job → Type 0
 IsJobOf found job = Holds found job × HasWorkers job × HasPosition job × HasPackage job × HasPath job × HasText job
 
--- ---- what is made on the way
+-- ---- intermediate results
 
--- the question is the one of this name, with its values, and its workers are as they may be
+-- the question about a network is that of the command with this name, has its values, and has a valid number of workers
 abbrev pub IsNetQuestionOf : Text → List Row → NetQuestion → Type 0
 IsNetQuestionOf name rows question = (name ≡ net_question_name question) × HasNetQuestion rows question × HasNetWorkers question
 
+-- the question about a tree is that of the command with this name, has its values, and has a valid number of workers
 abbrev pub IsTreeQuestionOf : Text → List Row → TreeQuestion → Type 0
 IsTreeQuestionOf name rows question = (name ≡ tree_question_name question) × HasTreeQuestion rows question × HasTreeWorkers question
 
+-- the question about an index is that of the command with this name, has its values, and has a valid position, path and text
 abbrev pub IsIndexQuestionOf : Text → List Row → IndexQuestion → Type 0
 IsIndexQuestionOf name rows question =
     (name ≡ index_question_name question) × HasIndexQuestion rows question × HasIndexPosition question × HasIndexPath question × HasIndexText question

@@ -1,4 +1,4 @@
-//! The commands of the program and their words, as `clap` takes them.
+//! The commands of the program and their arguments, as `clap` parses them.
 ghost use Rattle.std.specs.Prelude.{◌≡◌, IfOk, codes, false};
 ghost use Rattle.clap.specs.Words.{app_of, new_app, new_rule, rule_of, with_rule, with_subcommand, App};
 ghost use Rattle.oscip_job.specs.Jobs.{asking_app, crossings_app, exclude_rule, faults_app, flag_rule, index_app, index_question_app, modules_app, net_app, number_rule, oscip, program_app, reach_app, reach_net_app, required_rule, rules_app, symbol_app, symbol_rule, symbols_app, text_rule, unresolved_app, with_editor, with_flow, with_imports, with_indexers, with_indexes, with_lists, with_modules, with_nets, with_options, with_output, with_pictures, with_position, with_prices, with_reached, with_symbols, with_tree_options, with_trees, with_walk_options, with_workers};
@@ -15,8 +15,8 @@ use crate::helps::{
 use clap::{Arg, ArgAction, Command, value_parser};
 use std::alloc::{AllocError, Global};
 
-/// A command, or the want of memory that stopped its making: the steps after that hand it on. In its box the command has
-/// one name for what takes it over.
+/// A command under construction, or the failed allocation that stopped it, which each later step returns.
+/// The command is boxed, so that the contract of the next step refers to it by one name.
 type Made<'a> = Result<Box<Command<'a>>, AllocError>;
 
 fn boxed<'a>(alloc: Global, command: Command<'a>) -> Made<'a>
@@ -25,7 +25,7 @@ fn boxed<'a>(alloc: Global, command: Command<'a>) -> Made<'a>
     Ok(Box::new(alloc, command)?)
 }
 
-/// The command of this name, with what help says of it and what stands at the end of that.
+/// A command with this name, the text `about` in its help, and the text `end` after its help.
 fn named<'a>(alloc: Global, name: &'a str, about: &'a str, end: &'a str) -> Made<'a>
     ensures { IfOk result (λ c. Reads (new_app name.entry.now) c.value) }
 {
@@ -33,7 +33,7 @@ fn named<'a>(alloc: Global, name: &'a str, about: &'a str, end: &'a str) -> Made
     boxed(alloc, command)
 }
 
-/// The command with one more argument, which is of this command alone.
+/// Adds an argument to a command. The argument isn't global: it belongs to this command alone.
 fn with_arg<'a>(alloc: Global, command: Box<Command<'a>>, arg: Arg<'a>) -> Made<'a>
     requires { arg.global ≡ false }
     ensures { (app : App) → Reads app command.entry.value → IfOk result (λ c. Reads (with_rule app (rule_of arg.entry)) c.value) }
@@ -42,7 +42,7 @@ fn with_arg<'a>(alloc: Global, command: Box<Command<'a>>, arg: Arg<'a>) -> Made<
     boxed(alloc, command)
 }
 
-/// The command with one more argument that has to be given.
+/// Adds a required argument.
 fn with_required<'a>(alloc: Global, command: Made<'a>, id: &'a str, help: &'a str) -> Made<'a>
     ensures { (app : App) → IfOk command.entry (λ c. Reads app c.value) → IfOk result (λ c. Reads (with_rule app (required_rule id.entry.now)) c.value) }
 {
@@ -51,7 +51,7 @@ fn with_required<'a>(alloc: Global, command: Made<'a>, id: &'a str, help: &'a st
     with_arg(alloc, command, required)
 }
 
-/// The command with one more argument that may be given.
+/// Adds an optional argument.
 fn with_value<'a>(alloc: Global, command: Made<'a>, id: &'a str, help: &'a str) -> Made<'a>
     ensures { (app : App) → IfOk command.entry (λ c. Reads app c.value) → IfOk result (λ c. Reads (with_rule app (new_rule id.entry.now)) c.value) }
 {
@@ -60,7 +60,7 @@ fn with_value<'a>(alloc: Global, command: Made<'a>, id: &'a str, help: &'a str) 
     with_arg(alloc, command, value)
 }
 
-/// The command with the line of its usage, where `clap` can't tell which arguments go together.
+/// Sets the usage line of a command. The default doesn't show which arguments go together.
 fn with_usage<'a>(alloc: Global, command: Made<'a>, usage: &'a str) -> Made<'a>
     ensures { (app : App) → IfOk command.entry (λ c. Reads app c.value) → IfOk result (λ c. Reads app c.value) }
 {
@@ -68,7 +68,7 @@ fn with_usage<'a>(alloc: Global, command: Made<'a>, usage: &'a str) -> Made<'a>
     boxed(alloc, Box::into_inner(command).override_usage(usage))
 }
 
-/// The command with the names of two modules, A and B, and what help says of them.
+/// Adds the names of two modules, A and B, with these help texts.
 fn with_modules<'a>(
     alloc: Global,
     command: Made<'a>,
@@ -81,7 +81,7 @@ fn with_modules<'a>(
     with_required(alloc, command, "B", second_help)
 }
 
-/// The command with the option of how many workers there are, 1 to 64.
+/// Adds the option `--workers`: the number of threads, from 1 to 64.
 fn with_workers<'a>(alloc: Global, command: Made<'a>) -> Made<'a>
     ensures { (app : App) → IfOk command.entry (λ c. Reads app c.value) → IfOk result (λ c. Reads (with_workers app) c.value) }
 {
@@ -95,7 +95,7 @@ fn with_workers<'a>(alloc: Global, command: Made<'a>) -> Made<'a>
     with_arg(alloc, command, workers)
 }
 
-/// The command with the option of a file of prices.
+/// Adds the option `--prices`: the file of prices.
 fn with_prices<'a>(alloc: Global, command: Made<'a>) -> Made<'a>
     ensures { (app : App) → IfOk command.entry (λ c. Reads app c.value) → IfOk result (λ c. Reads (with_prices app) c.value) }
 {
@@ -107,7 +107,7 @@ fn with_prices<'a>(alloc: Global, command: Made<'a>) -> Made<'a>
     with_arg(alloc, command, prices)
 }
 
-/// The command with the options of a cut.
+/// Adds the options of a command that cuts.
 fn with_cut_options<'a>(alloc: Global, command: Made<'a>) -> Made<'a>
     ensures { (app : App) → IfOk command.entry (λ c. Reads app c.value) → IfOk result (λ c. Reads (with_prices (with_workers app)) c.value) }
 {
@@ -115,7 +115,7 @@ fn with_cut_options<'a>(alloc: Global, command: Made<'a>) -> Made<'a>
     with_prices(alloc, command)
 }
 
-/// The command with a report and the option of the file of the prices that it was made with.
+/// Adds a report, and the option of the prices that the report was made with.
 fn with_report<'a>(alloc: Global, command: Made<'a>, help: &'a str) -> Made<'a>
     ensures { (app : App) → IfOk command.entry (λ c. Reads app c.value) → IfOk result (λ c. Reads (with_prices (with_rule app (required_rule (codes "REPORT")))) c.value) }
 {
@@ -123,7 +123,7 @@ fn with_report<'a>(alloc: Global, command: Made<'a>, help: &'a str) -> Made<'a>
     with_prices(alloc, command)
 }
 
-/// The command of this name with a cut's words: what is cut, the names of two modules, and its options.
+/// A command that cuts: the argument `id` is what it cuts, followed by the names of two modules and the options of a cut.
 fn cutting<'a>(
     alloc: Global,
     name: &'a str,
@@ -145,7 +145,7 @@ fn cutting<'a>(
     with_cut_options(alloc, command)
 }
 
-/// The command of this name with the words of a check or a picture: what was cut, and the report.
+/// A command that checks or draws: the argument `id` is what was cut, followed by the report and the option of its prices.
 fn checking<'a>(
     alloc: Global,
     name: &'a str,
@@ -162,7 +162,7 @@ fn checking<'a>(
     with_report(alloc, command, report_help)
 }
 
-/// The command with one more option that is given or not.
+/// Adds a flag, which is an option without a value.
 fn with_flag<'a>(alloc: Global, command: Made<'a>, id: &'a str, help: &'a str) -> Made<'a>
     ensures { (app : App) → IfOk command.entry (λ c. Reads app c.value) → IfOk result (λ c. Reads (with_rule app (flag_rule id.entry.now)) c.value) }
 {
@@ -174,7 +174,7 @@ fn with_flag<'a>(alloc: Global, command: Made<'a>, id: &'a str, help: &'a str) -
     with_arg(alloc, command, flag)
 }
 
-/// The command with the option of patterns of excluded files.
+/// Adds the option `--exclude`: patterns of files to leave out.
 fn with_exclude<'a>(alloc: Global, command: Made<'a>) -> Made<'a>
     ensures { (app : App) → IfOk command.entry (λ c. Reads app c.value) → IfOk result (λ c. Reads (with_rule app exclude_rule) c.value) }
 {
@@ -187,14 +187,14 @@ fn with_exclude<'a>(alloc: Global, command: Made<'a>) -> Made<'a>
     with_arg(alloc, command, exclude)
 }
 
-/// The command with the option of locations for editors.
+/// Adds the flag `--editor`: locations for editors.
 fn with_editor<'a>(alloc: Global, command: Made<'a>, help: &'a str) -> Made<'a>
     ensures { (app : App) → IfOk command.entry (λ c. Reads app c.value) → IfOk result (λ c. Reads (with_editor app) c.value) }
 {
     with_flag(alloc, command, "editor", help)
 }
 
-/// The command with the options of a folder that is walked.
+/// Adds the options of a folder whose files are read.
 fn with_walk_options<'a>(alloc: Global, command: Made<'a>) -> Made<'a>
     ensures { (app : App) → IfOk command.entry (λ c. Reads app c.value) → IfOk result (λ c. Reads (with_walk_options app) c.value) }
 {
@@ -202,7 +202,7 @@ fn with_walk_options<'a>(alloc: Global, command: Made<'a>) -> Made<'a>
     with_editor(alloc, command, TREE_EDITOR_HELP)
 }
 
-/// The command with the options of a folder whose modules are read.
+/// Adds the options of a folder whose modules are read, with `--skip-faults`.
 fn with_tree_options<'a>(alloc: Global, command: Made<'a>, skip_help: &'a str) -> Made<'a>
     ensures { (app : App) → IfOk command.entry (λ c. Reads app c.value) → IfOk result (λ c. Reads (with_tree_options app) c.value) }
 {
@@ -210,7 +210,7 @@ fn with_tree_options<'a>(alloc: Global, command: Made<'a>, skip_help: &'a str) -
     with_flag(alloc, command, "skip-faults", skip_help)
 }
 
-/// The command with the option of the picture by flow.
+/// Adds the flag `--flow`: the picture by flow.
 fn with_flow<'a>(alloc: Global, command: Made<'a>) -> Made<'a>
     ensures { (app : App) → IfOk command.entry (λ c. Reads app c.value) → IfOk result (λ c. Reads (with_flow app) c.value) }
 {
@@ -222,7 +222,7 @@ fn with_flow<'a>(alloc: Global, command: Made<'a>) -> Made<'a>
     )
 }
 
-/// The command with the names of two modules, M and N.
+/// Adds the names of two modules, M and N.
 fn with_users<'a>(alloc: Global, command: Made<'a>) -> Made<'a>
     ensures { (app : App) → IfOk command.entry (λ c. Reads app c.value) → IfOk result (λ c. Reads (with_rule (with_rule app (required_rule (codes "M"))) (required_rule (codes "N"))) c.value) }
 {
@@ -276,7 +276,7 @@ fn rules_command<'a>(alloc: Global) -> Made<'a>
     with_tree_options(alloc, command, SKIP_FAULTS_HELP)
 }
 
-/// The command of this name with the words of a search for a chain: what it is searched in, and the names of two modules.
+/// A command that searches for a path of imports: the argument `id` is what it searches, followed by the names of two modules.
 fn chaining<'a>(
     alloc: Global,
     name: &'a str,
@@ -297,7 +297,7 @@ fn chaining<'a>(
     )
 }
 
-/// The command with the option of the direction against the imports, and the name of a module.
+/// Adds the name of a module, and the flag `--back` for the direction against the imports.
 fn with_reached<'a>(alloc: Global, command: Made<'a>) -> Made<'a>
     ensures { (app : App) → IfOk command.entry (λ c. Reads app c.value) → IfOk result (λ c. Reads (with_reached app) c.value) }
 {
@@ -345,7 +345,7 @@ fn modules_command<'a>(alloc: Global) -> Made<'a>
     with_tree_options(alloc, command, SKIP_FAULTS_HELP)
 }
 
-/// The command with one more number, from 0 to 2,147,483,647.
+/// Adds a number from 0 to 2,147,483,647.
 fn with_number<'a>(
     alloc: Global,
     command: Made<'a>,
@@ -363,7 +363,7 @@ fn with_number<'a>(
     with_arg(alloc, command, number)
 }
 
-/// The command with the path of a document, and a line and a column of it.
+/// Adds the path of a document, a line and a column.
 fn with_position<'a>(alloc: Global, command: Made<'a>, required: bool) -> Made<'a>
     ensures { (app : App) → IfOk command.entry (λ c. Reads app c.value) → IfOk result (λ c. Reads (with_position required app) c.value) }
 {
@@ -386,7 +386,7 @@ fn with_position<'a>(alloc: Global, command: Made<'a>, required: bool) -> Made<'
     )
 }
 
-/// The command of this name with the index that it asks.
+/// A command with the index that it queries.
 fn on_index<'a>(alloc: Global, name: &'a str, about: &'a str, end: &'a str) -> Made<'a>
     ensures { IfOk result (λ c. Reads (index_question_app name.entry.now) c.value) }
 {
@@ -399,7 +399,7 @@ fn on_index<'a>(alloc: Global, name: &'a str, about: &'a str, end: &'a str) -> M
     )
 }
 
-/// The command with the option of a symbol's text.
+/// Adds the option `--symbol`: the text of a symbol.
 fn with_symbol<'a>(alloc: Global, command: Made<'a>) -> Made<'a>
     ensures { (app : App) → IfOk command.entry (λ c. Reads app c.value) → IfOk result (λ c. Reads (with_rule app symbol_rule) c.value) }
 {
@@ -411,7 +411,7 @@ fn with_symbol<'a>(alloc: Global, command: Made<'a>) -> Made<'a>
     with_arg(alloc, command, symbol)
 }
 
-/// The command of this name with the words of a question for places: the index, and a position in a document or the text of a symbol.
+/// A command that queries an index for locations: the index, and a position in a document or the text of a symbol.
 fn asking<'a>(
     alloc: Global,
     name: &'a str,
@@ -459,7 +459,7 @@ fn symbols_command<'a>(alloc: Global) -> Made<'a>
     with_editor(alloc, command, EDITOR_HELP)
 }
 
-/// The command with the words that say where an index goes: the path of a file, or `--hex`.
+/// Adds the output of an index: the path of a file, or `--hex`.
 fn with_output<'a>(alloc: Global, command: Made<'a>) -> Made<'a>
     ensures { (app : App) → IfOk command.entry (λ c. Reads app c.value) → IfOk result (λ c. Reads (with_output app) c.value) }
 {
@@ -472,7 +472,7 @@ fn with_output<'a>(alloc: Global, command: Made<'a>) -> Made<'a>
     )
 }
 
-/// The command with one more option that takes a text, which is empty where it isn't given.
+/// Adds an option with a text, which is empty by default.
 fn with_text<'a>(alloc: Global, command: Made<'a>, id: &'a str, help: &'a str) -> Made<'a>
     ensures { (app : App) → IfOk command.entry (λ c. Reads app c.value) → IfOk result (λ c. Reads (with_rule app (text_rule id.entry.now)) c.value) }
 {
@@ -485,7 +485,7 @@ fn with_text<'a>(alloc: Global, command: Made<'a>, id: &'a str, help: &'a str) -
     with_arg(alloc, command, text)
 }
 
-/// The command with the options of an index.
+/// Adds the options of a command that makes an index.
 fn with_options<'a>(alloc: Global, command: Made<'a>) -> Made<'a>
     ensures { (app : App) → IfOk command.entry (λ c. Reads app c.value) → IfOk result (λ c. Reads (with_options app) c.value) }
 {
@@ -547,7 +547,7 @@ fn faults_command<'a>(alloc: Global) -> Made<'a>
     with_walk_options(alloc, command)
 }
 
-/// The program with one more command.
+/// Adds a command to the program.
 fn with_sub<'a>(alloc: Global, program: Made<'a>, command: Made<'a>) -> Made<'a>
     ensures { (first : App) → (second : App) → IfOk program.entry (λ c. app_of c.value ≡ first) → IfOk command.entry (λ c. Reads second c.value) →
         IfOk result (λ c. app_of c.value ≡ with_subcommand first second.top) }
@@ -558,7 +558,7 @@ fn with_sub<'a>(alloc: Global, program: Made<'a>, command: Made<'a>) -> Made<'a>
     boxed(alloc, program)
 }
 
-/// The program with the commands that cut and check folders of modules, and that tell of crossings.
+/// Adds the commands `cut`, `check` and `crossings`.
 fn with_trees<'a>(alloc: Global, program: Made<'a>) -> Made<'a>
     ensures { (app : App) → IfOk program.entry (λ c. app_of c.value ≡ app) → IfOk result (λ c. app_of c.value ≡ with_trees app) }
 {
@@ -587,7 +587,7 @@ fn with_trees<'a>(alloc: Global, program: Made<'a>) -> Made<'a>
     with_sub(alloc, program, crossings)
 }
 
-/// The program with the commands that tell of the imports of a folder's modules.
+/// Adds the commands `net`, `why` and `rules`.
 fn with_imports<'a>(alloc: Global, program: Made<'a>) -> Made<'a>
     ensures { (app : App) → IfOk program.entry (λ c. app_of c.value ≡ app) → IfOk result (λ c. app_of c.value ≡ with_imports app) }
 {
@@ -607,7 +607,7 @@ fn with_imports<'a>(alloc: Global, program: Made<'a>) -> Made<'a>
     with_sub(alloc, program, rules)
 }
 
-/// The program with the commands on networks, but for the one that draws.
+/// Adds the commands `cut-net`, `check-net` and `why-net`.
 fn with_nets<'a>(alloc: Global, program: Made<'a>) -> Made<'a>
     ensures { (app : App) → IfOk program.entry (λ c. app_of c.value ≡ app) → IfOk result (λ c. app_of c.value ≡ with_nets app) }
 {
@@ -641,7 +641,7 @@ fn with_nets<'a>(alloc: Global, program: Made<'a>) -> Made<'a>
     with_sub(alloc, program, why)
 }
 
-/// The program with the commands that list modules.
+/// Adds the commands `modules`, `reach` and `reach-net`.
 fn with_lists<'a>(alloc: Global, program: Made<'a>) -> Made<'a>
     ensures { (app : App) → IfOk program.entry (λ c. app_of c.value ≡ app) → IfOk result (λ c. app_of c.value ≡ with_lists app) }
 {
@@ -653,7 +653,7 @@ fn with_lists<'a>(alloc: Global, program: Made<'a>) -> Made<'a>
     with_sub(alloc, program, reach_net)
 }
 
-/// The program with the commands that draw.
+/// Adds the commands `dot` and `dot-net`.
 fn with_pictures<'a>(alloc: Global, program: Made<'a>) -> Made<'a>
     ensures { (app : App) → IfOk program.entry (λ c. app_of c.value ≡ app) → IfOk result (λ c. app_of c.value ≡ with_pictures app) }
 {
@@ -682,7 +682,7 @@ fn with_pictures<'a>(alloc: Global, program: Made<'a>) -> Made<'a>
     with_sub(alloc, program, net)
 }
 
-/// The program with the commands on indexes.
+/// Adds the commands `def` and `refs`.
 fn with_indexes<'a>(alloc: Global, program: Made<'a>) -> Made<'a>
     ensures { (app : App) → IfOk program.entry (λ c. app_of c.value ≡ app) → IfOk result (λ c. app_of c.value ≡ with_indexes app) }
 {
@@ -704,7 +704,7 @@ fn with_indexes<'a>(alloc: Global, program: Made<'a>) -> Made<'a>
     with_sub(alloc, program, refs)
 }
 
-/// The program with the commands that tell the symbols of indexes.
+/// Adds the commands `symbol` and `symbols`.
 fn with_symbols<'a>(alloc: Global, program: Made<'a>) -> Made<'a>
     ensures { (app : App) → IfOk program.entry (λ c. app_of c.value ≡ app) → IfOk result (λ c. app_of c.value ≡ with_symbols app) }
 {
@@ -714,7 +714,7 @@ fn with_symbols<'a>(alloc: Global, program: Made<'a>) -> Made<'a>
     with_sub(alloc, program, symbols)
 }
 
-/// The program with the commands that index modules, and that tell what is wrong with them.
+/// Adds the commands `index`, `unresolved` and `faults`.
 fn with_indexers<'a>(alloc: Global, program: Made<'a>) -> Made<'a>
     ensures { (app : App) → IfOk program.entry (λ c. app_of c.value ≡ app) → IfOk result (λ c. app_of c.value ≡ with_indexers app) }
 {
@@ -726,7 +726,7 @@ fn with_indexers<'a>(alloc: Global, program: Made<'a>) -> Made<'a>
     with_sub(alloc, program, faults)
 }
 
-/// The program without any command.
+/// The program without commands.
 fn bare<'a>(alloc: Global) -> Made<'a>
     ensures { IfOk result (λ c. app_of c.value ≡ program_app) }
 {

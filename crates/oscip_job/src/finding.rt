@@ -1,4 +1,4 @@
-//! From what `clap` finds for the words to the job.
+//! The conversion of the values that `clap` finds into a job.
 ghost use Rattle.std.specs.Prelude.{◌≡◌, ◌++◌, ◌≤◌, ◌↔◌, ℕ, IfOk, IfSome, List, codes, map, true};
 ghost use Rattle.std.specs.String.{string_bytes};
 ghost use Rattle.clap.specs.Words.{found_of, kind_of, rows_of, subcommand_of, subcommand_rows_of};
@@ -13,52 +13,52 @@ use clap::ArgMatches;
 use clap::error::ErrorKind;
 use std::alloc::{AllocError, Global};
 
-/// Why a command line is refused that gives neither a file nor `--hex`, or both.
+/// The error for a command line with neither a file nor `--hex`, or with both.
 const ONE_OUTPUT: &str =
     "error: either OUT or --hex has to be given, and not both\n\nFor more information, try '--help'.\n";
 
-/// Why a command line with `--atomic` and `--hex` is rejected.
+/// The error for a command line with `--atomic` and `--hex`.
 const NO_FILE: &str =
     "error: --atomic can't be given with --hex, by which no file is written\n\nFor more information, try '--help'.\n";
 
-/// Why a command line is refused whose package can't stand in a symbol.
+/// The error for a package that can't be part of a symbol.
 const WRONG_PACKAGE: &str =
     "error: the package can't be `.` and can't begin with a space\n\nFor more information, try '--help'.\n";
 
-/// Why a command line is refused that names no symbol, or one in two ways.
+/// The error for a command line that gives no symbol, or gives it by a position and by `--symbol`.
 const ONE_SYMBOL: &str =
     "error: either PATH, LINE and COL have to be given, or --symbol without LINE and COL\n\nFor more information, try '--help'.\n";
 
-/// Why a command line is refused that asks by a symbol without a text.
+/// The error for an empty `--symbol`.
 const NO_SYMBOL: &str =
     "error: the text of a symbol can't be empty\n\nFor more information, try '--help'.\n";
 
-/// Why a command line is refused that names a symbol of one document and no document.
+/// The error for a local symbol without the path of its document.
 const NO_DOCUMENT: &str =
     "error: a symbol that begins with `local ` is one of a document, whose PATH has to be given\n\nFor more information, try '--help'.\n";
 
-/// Why a command line is rejected that counts lines and columns from 1 and gives 0.
+/// The error for a LINE or COL of 0 with `--editor`, which counts from 1.
 const FROM_ONE: &str =
     "error: with --editor LINE and COL are counted from 1\n\nFor more information, try '--help'.\n";
 
-/// Why there is no job of what `clap` found.
+/// Why the values that `clap` found give no job.
 #[derive(Drop)]
 enum Refusal {
-    /// A value isn't there that `clap` sees to, or the words name no symbol, or one in two ways.
+    /// A value is missing that `clap` requires, or the symbol isn't given in exactly one of its two forms.
     Missing,
-    /// The words name a symbol of no text.
+    /// The text of the symbol is empty.
     Empty,
-    /// The words name a symbol of one document and no document.
+    /// The symbol is local, and the path of its document is missing.
     Document,
-    /// The words give neither a file nor `--hex`, or both.
+    /// Neither a file nor `--hex` is given, or both are.
     Output,
-    /// The words give `--atomic` and `--hex`.
+    /// Both `--atomic` and `--hex` are given.
     Atomic,
-    /// The package can't stand in a symbol.
+    /// The package can't be part of a symbol.
     Package,
-    /// A line or a column that is counted from 1 is 0.
+    /// A line or a column that counts from 1 is 0.
     FromOne,
-    /// A growth of memory was refused.
+    /// An allocation failed.
     Memory,
 }
 
@@ -68,7 +68,7 @@ impl From<AllocError> for Refusal {
     }
 }
 
-/// The refusal of a command line with this text.
+/// The fault for an invalid command line, with this message.
 fn refused(alloc: Global, text: &str) -> JobFault {
     match String::from_str(alloc, text) {
         Ok(text) => JobFault::Line { text },
@@ -76,7 +76,7 @@ fn refused(alloc: Global, text: &str) -> JobFault {
     }
 }
 
-/// What is told of a refusal.
+/// The fault with the message of this `Refusal`.
 fn fault_of(alloc: Global, refusal: Refusal) -> JobFault {
     match refusal {
         Refusal::Missing => refused(alloc, ONE_SYMBOL),
@@ -90,7 +90,7 @@ fn fault_of(alloc: Global, refusal: Refusal) -> JobFault {
     }
 }
 
-/// The texts, as texts of their own.
+/// Copies of the texts.
 fn copies_of(alloc: Global, texts: &[&str]) -> Result<Vec<String>, AllocError>
     ensures { IfOk result (λ copies. map string_bytes copies.items ≡ map (λ t. t.now) texts.now) }
 {
@@ -101,7 +101,7 @@ fn copies_of(alloc: Global, texts: &[&str]) -> Result<Vec<String>, AllocError>
     Ok(copies)
 }
 
-/// The value of an argument, as text of its own.
+/// A copy of the value of an argument. Fails with `Missing` if `clap` found none.
 fn value_of(alloc: Global, found: &ArgMatches<'_>, id: &str) -> Result<String, Refusal>
     ensures { IfOk result (λ text. Finds (rows_of (found_of found.now)) id.now (string_bytes text)) }
 {
@@ -111,7 +111,7 @@ fn value_of(alloc: Global, found: &ArgMatches<'_>, id: &str) -> Result<String, R
     }
 }
 
-/// The value of an argument, as text of its own, where it is given.
+/// A copy of the value of an argument, if it is given.
 fn value_given(
     alloc: Global,
     found: &ArgMatches<'_>,
@@ -125,7 +125,7 @@ fn value_given(
     }
 }
 
-/// Whether an option is given that is given or not.
+/// Whether a flag, which is an option without a value, is given.
 fn is_given(found: &ArgMatches<'_>, id: &str) -> bool
     ensures { result ≡ true ↔ IsGiven (rows_of (found_of found.now)) id.now }
 {
@@ -135,7 +135,7 @@ fn is_given(found: &ArgMatches<'_>, id: &str) -> bool
     }
 }
 
-/// The values of an argument, as texts of their own.
+/// Copies of all values of an argument, which may be given repeatedly.
 fn values_of(alloc: Global, found: &ArgMatches<'_>, id: &str) -> Result<Vec<String>, AllocError>
     ensures { IfOk result (λ texts. FindsAll (rows_of (found_of found.now)) id.now (map string_bytes texts.items)) }
 {
@@ -145,7 +145,7 @@ fn values_of(alloc: Global, found: &ArgMatches<'_>, id: &str) -> Result<Vec<Stri
     }
 }
 
-/// The tree that the words name.
+/// The tree, from the arguments DIR, `--exclude`, `--skip-faults` and `--editor`.
 fn tree_of(alloc: Global, found: &ArgMatches<'_>) -> Result<SourceTree, Refusal>
     ensures { IfOk result (HasTree (rows_of (found_of found.now))) }
 {
@@ -159,7 +159,7 @@ fn tree_of(alloc: Global, found: &ArgMatches<'_>) -> Result<SourceTree, Refusal>
     })
 }
 
-/// The number of workers, as `clap` found it.
+/// The number of workers, as `clap` parsed it.
 fn workers_of(found: &ArgMatches<'_>) -> Result<u32, Refusal>
     requires { NamesWorkers (rows_of (found_of found.now)) }
     ensures value { IfOk result (FindsNumber (rows_of (found_of found.now)) (codes "workers")) }
@@ -171,7 +171,7 @@ fn workers_of(found: &ArgMatches<'_>) -> Result<u32, Refusal>
     }
 }
 
-/// The names of two modules, which the arguments of these names give.
+/// The names of two modules, which are the values of the arguments `first` and `second`.
 fn two_names(
     alloc: Global,
     found: &ArgMatches<'_>,
@@ -185,7 +185,7 @@ fn two_names(
     Ok(TwoNames { from, to })
 }
 
-/// The words of a command that cuts, but for what is cut.
+/// The request for a cut, without its input.
 fn cutting_of(alloc: Global, found: &ArgMatches<'_>) -> Result<Cutting, Refusal>
     requires { NamesWorkers (rows_of (found_of found.now)) }
     ensures values { IfOk result (HasCutting (rows_of (found_of found.now))) }
@@ -203,7 +203,7 @@ fn cutting_of(alloc: Global, found: &ArgMatches<'_>) -> Result<Cutting, Refusal>
     })
 }
 
-/// The words of a command that reads a report, but for what the report is on.
+/// The report and its prices, without the input that the report is about.
 fn reported_of(alloc: Global, found: &ArgMatches<'_>) -> Result<Reported, Refusal>
     ensures { IfOk result (HasReported (rows_of (found_of found.now))) }
 {
@@ -212,7 +212,7 @@ fn reported_of(alloc: Global, found: &ArgMatches<'_>) -> Result<Reported, Refusa
     Ok(Reported { report, prices })
 }
 
-/// The words of a command that draws, but for what the report is on.
+/// The request for a picture, without the input that the report is about.
 fn drawing_of(alloc: Global, found: &ArgMatches<'_>) -> Result<Drawing, Refusal>
     ensures { IfOk result (HasDrawing (rows_of (found_of found.now))) }
 {
@@ -221,7 +221,7 @@ fn drawing_of(alloc: Global, found: &ArgMatches<'_>) -> Result<Drawing, Refusal>
     Ok(Drawing { reported, by_flow })
 }
 
-/// The direction that the words name.
+/// The direction of imports: against them with `--back`.
 fn direction_of(found: &ArgMatches<'_>) -> Direction
     ensures { HasDirection (rows_of (found_of found.now)) result }
 {
@@ -232,7 +232,7 @@ fn direction_of(found: &ArgMatches<'_>) -> Direction
     }
 }
 
-/// The words of a command that lists what a module reaches, but for the input.
+/// The request for reached modules, without its input.
 fn reaching_of(alloc: Global, found: &ArgMatches<'_>) -> Result<Reaching, Refusal>
     ensures { IfOk result (HasReaching (rows_of (found_of found.now))) }
 {
@@ -241,7 +241,7 @@ fn reaching_of(alloc: Global, found: &ArgMatches<'_>) -> Result<Reaching, Refusa
     Ok(Reaching { module, direction })
 }
 
-/// What the command of this name asks of the network of a tree, or with `-net` behind the name of one in a file.
+/// The question about a network that the command of this name asks. The name is without a final `-net`.
 fn net_question(alloc: Global, name: &str, found: &ArgMatches<'_>) -> Result<NetQuestion, Refusal>
     requires { NamesWorkers (rows_of (found_of found.now)) }
     ensures { IfOk result (IsNetQuestionOf name.now (rows_of (found_of found.now))) }
@@ -264,7 +264,7 @@ fn net_question(alloc: Global, name: &str, found: &ArgMatches<'_>) -> Result<Net
     Err(Refusal::Missing)
 }
 
-/// What the command of this name asks of a tree.
+/// The question about a tree that the command of this name asks.
 fn tree_question(alloc: Global, name: &str, found: &ArgMatches<'_>) -> Result<TreeQuestion, Refusal>
     requires { NamesWorkers (rows_of (found_of found.now)) }
     ensures { IfOk result (IsTreeQuestionOf name.now (rows_of (found_of found.now))) }
@@ -287,7 +287,7 @@ fn tree_question(alloc: Global, name: &str, found: &ArgMatches<'_>) -> Result<Tr
     Ok(TreeQuestion::OfNet(net_question(alloc, name, found)?))
 }
 
-/// The job of the command of this name on a tree.
+/// The job on a tree that the command of this name requests.
 fn tree_job(alloc: Global, name: &str, found: &ArgMatches<'_>) -> Result<Job, Refusal>
     requires { NamesWorkers (rows_of (found_of found.now)) }
     ensures { IfOk result (IsJobOf (Some (name.now, rows_of (found_of found.now)))) }
@@ -297,7 +297,7 @@ fn tree_job(alloc: Global, name: &str, found: &ArgMatches<'_>) -> Result<Job, Re
     Ok(Job::Tree { tree, question })
 }
 
-/// The job on a network of the command of this name with `-net` behind it.
+/// The job on a network in a file that the command named `name`, followed by `-net`, requests.
 fn net_job(alloc: Global, name: &str, found: &ArgMatches<'_>) -> Result<Job, Refusal>
     requires { NamesWorkers (rows_of (found_of found.now)) }
     ensures { IfOk result (IsJobOf (Some (name.now ++ codes "-net", rows_of (found_of found.now)))) }
@@ -307,7 +307,7 @@ fn net_job(alloc: Global, name: &str, found: &ArgMatches<'_>) -> Result<Job, Ref
     Ok(Job::Network { network, question })
 }
 
-/// A number of a position, as `clap` found it.
+/// A number of a position, as `clap` parsed it.
 fn number_of(found: &ArgMatches<'_>, id: &str) -> Result<u32, Refusal>
     requires { NamesWithin id.now 0 2147483647 (rows_of (found_of found.now)) }
     ensures value { IfOk result (FindsNumber (rows_of (found_of found.now)) id.now) }
@@ -319,7 +319,7 @@ fn number_of(found: &ArgMatches<'_>, id: &str) -> Result<u32, Refusal>
     }
 }
 
-/// A number of a position, counted from 0.
+/// A number of a position, converted to count from 0. With `--editor` the argument counts from 1.
 fn number_from_zero(found: &ArgMatches<'_>, id: &str) -> Result<u32, Refusal>
     requires { NamesWithin id.now 0 2147483647 (rows_of (found_of found.now)) }
     ensures value { IfOk result (FindsFromZero (rows_of (found_of found.now)) id.now) }
@@ -335,7 +335,7 @@ fn number_from_zero(found: &ArgMatches<'_>, id: &str) -> Result<u32, Refusal>
     Ok(number - 1)
 }
 
-/// The position that the words name.
+/// The position that PATH, LINE and COL give.
 fn position_of(alloc: Global, found: &ArgMatches<'_>) -> Result<Position, Refusal>
     requires { NamesPosition (rows_of (found_of found.now)) }
     ensures values { IfOk result (HasPlace (rows_of (found_of found.now))) }
@@ -347,7 +347,8 @@ fn position_of(alloc: Global, found: &ArgMatches<'_>) -> Result<Position, Refusa
     Ok(Position { path, line, column })
 }
 
-/// The symbol of this text, which the words name by it.
+/// The symbol that `--symbol` gives. Fails with `Empty` for an empty text, `Missing` if LINE or COL is given too, and `Document` if it is
+/// local and PATH is missing.
 fn named_symbol(alloc: Global, found: &ArgMatches<'_>, symbol: &str) -> Result<AskedSymbol, Refusal>
     requires { Finds (rows_of (found_of found.now)) (codes "symbol") symbol.now }
     ensures values { IfOk result (HasAskedSymbol (rows_of (found_of found.now))) }
@@ -369,7 +370,7 @@ fn named_symbol(alloc: Global, found: &ArgMatches<'_>, symbol: &str) -> Result<A
     Ok(AskedSymbol::Named { symbol, path })
 }
 
-/// The one symbol that the words name.
+/// The symbol, which is given by a position or by `--symbol`.
 fn asked_symbol(alloc: Global, found: &ArgMatches<'_>) -> Result<AskedSymbol, Refusal>
     requires { NamesPosition (rows_of (found_of found.now)) }
     ensures values { IfOk result (HasAskedSymbol (rows_of (found_of found.now))) }
@@ -383,7 +384,7 @@ fn asked_symbol(alloc: Global, found: &ArgMatches<'_>) -> Result<AskedSymbol, Re
     }
 }
 
-/// What the command of this name asks of an index, where it asks that of one.
+/// The question about an index that the command of this name asks, or none if the command has another input.
 fn index_question(
     alloc: Global,
     name: &str,
@@ -408,7 +409,7 @@ fn index_question(
     Ok(Some(IndexQuestion::PlacesOf { places, symbol }))
 }
 
-/// The job of a command that asks this of an index.
+/// The job of a question about an index.
 fn asking_job(
     alloc: Global,
     question: IndexQuestion,
@@ -424,7 +425,7 @@ fn asking_job(
     })
 }
 
-/// Standard output, in the place of a file that could be replaced as a whole.
+/// Standard output, which `--hex` selects. Fails with `Atomic` if `--atomic` is given, since no file can be replaced then.
 fn hex_output(found: &ArgMatches<'_>) -> Result<Output, Refusal>
     requires hex { IsGiven (rows_of (found_of found.now)) (codes "hex") }
     requires out { LacksValue (rows_of (found_of found.now)) (codes "OUT") }
@@ -436,7 +437,7 @@ fn hex_output(found: &ArgMatches<'_>) -> Result<Output, Refusal>
     Ok(Output::Hex)
 }
 
-/// Where the index goes, of which the words have to name exactly one.
+/// The output of the index. Fails with `Output` unless exactly one of OUT and `--hex` is given.
 fn output_of(alloc: Global, found: &ArgMatches<'_>) -> Result<Output, Refusal>
     ensures { IfOk result (HasOutput (rows_of (found_of found.now))) }
 {
@@ -448,7 +449,7 @@ fn output_of(alloc: Global, found: &ArgMatches<'_>) -> Result<Output, Refusal>
     }
 }
 
-/// Whether this is a package that can stand in a symbol: it isn't `.`, and no space stands in front.
+/// Whether the text is a valid package in a symbol: it isn't `.` and doesn't begin with a space.
 fn is_package(text: &str) -> bool
     ensures { result ≡ true ↔ IsPackage text.now }
 {
@@ -456,7 +457,7 @@ fn is_package(text: &str) -> bool
     text != "." && bytes.first() != Some(&b' ')
 }
 
-/// The package of an index.
+/// The package of the index. Fails with `Package` if it is invalid.
 fn package_of(alloc: Global, found: &ArgMatches<'_>) -> Result<String, Refusal>
     ensures value { IfOk result (λ text. Finds (rows_of (found_of found.now)) (codes "package") (string_bytes text)) }
     ensures package { IfOk result (λ text. IsPackage (string_bytes text)) }
@@ -469,14 +470,14 @@ fn package_of(alloc: Global, found: &ArgMatches<'_>) -> Result<String, Refusal>
     }
 }
 
-/// Whether the file of the index is to be replaced as a whole.
+/// Whether the file of the index is replaced atomically.
 fn is_atomic(found: &ArgMatches<'_>) -> bool
     ensures { result ≡ true ↔ AsksForAtomic (rows_of (found_of found.now)) }
 {
     is_given(found, "atomic") || is_given(found, "skip-faults")
 }
 
-/// What index the words ask for.
+/// The request for an index that the arguments give.
 fn indexing_of(alloc: Global, found: &ArgMatches<'_>) -> Result<Indexing, Refusal>
     requires { NamesWorkers (rows_of (found_of found.now)) }
     ensures values { IfOk result (HasIndexing (rows_of (found_of found.now))) }
@@ -512,7 +513,7 @@ fn unresolved_job(alloc: Global, found: &ArgMatches<'_>) -> Result<Job, Refusal>
     Ok(Job::Unresolved(tree_of(alloc, found)?))
 }
 
-/// The job of the command of this name on a tree or on a network.
+/// The job on a tree or on a network in a file that the command of this name requests.
 fn graph_job(alloc: Global, name: &str, found: &ArgMatches<'_>) -> Result<Job, Refusal>
     requires { NamesWorkers (rows_of (found_of found.now)) }
     ensures { IfOk result (IsJobOf (Some (name.now, rows_of (found_of found.now)))) }
@@ -523,7 +524,7 @@ fn graph_job(alloc: Global, name: &str, found: &ArgMatches<'_>) -> Result<Job, R
     }
 }
 
-/// The job of the command of this name.
+/// The job that the command of this name requests.
 fn job_named(alloc: Global, name: &str, found: &ArgMatches<'_>) -> Result<Job, Refusal>
     requires { NamesNumbers (rows_of (found_of found.now)) }
     ensures { IfOk result (IsJobOf (Some (name.now, rows_of (found_of found.now)))) }
@@ -540,7 +541,7 @@ fn job_named(alloc: Global, name: &str, found: &ArgMatches<'_>) -> Result<Job, R
     }
 }
 
-/// The job of the command that was met, and the values that were found for it.
+/// The job of the command that `clap` found, with the values of its arguments.
 fn job_met(alloc: Global, matches: &ArgMatches<'_>) -> Result<Job, Refusal>
     requires { IfSome (subcommand_rows_of matches.now) (λ found. NamesNumbers found.1) }
     ensures { IfOk result (IsJobOf (subcommand_rows_of matches.now)) }
@@ -579,20 +580,20 @@ fn fault_from(alloc: Global, error: &clap::Error) -> JobFault
     }
 }
 
-/// The job that the words ask for, the program's name first. Refuses with Line where `clap` refuses them, with Help
-/// where they ask for help or the version, and with Memory.
+/// Parses the arguments of the command line, the program's name first, into a job.
+/// Fails with `Line` if the command line is invalid, with `Help` if help or the version is requested, and with `Memory`.
 pub fn job_of(alloc: Global, words: &[String]) -> Result<Job, JobFault>
-    // The job has the values that `clap` finds for the words.
+    // The job's command and its values are those that `clap` finds for the arguments.
     ensures values { IfOk result (Holds (subcommand_of oscip (map string_bytes words.now))) }
-    // Its workers, where it has them, are 1 to 64.
+    // A job with a number of workers has 1 to 64 of them.
     ensures workers { IfOk result HasWorkers }
-    // Its line and its column, where it has them, are at most 2,147,483,647.
+    // The line and column of a job with a position are at most 2,147,483,647.
     ensures position { IfOk result HasPosition }
-    // Its package, where it has one, isn't `.` and doesn't begin with a space.
+    // The package of a job that makes an index isn't `.` and doesn't begin with a space.
     ensures package { IfOk result HasPackage }
-    // A symbol that it names, and that begins with `local `, comes with the path of its document.
+    // A job that names a symbol which begins with `local ` has the path of the symbol's document.
     ensures path { IfOk result HasPath }
-    // The text of a symbol that it names isn't empty.
+    // The text of a symbol that the job names isn't empty.
     ensures text { IfOk result HasText }
 {
     let command = command(alloc)?;

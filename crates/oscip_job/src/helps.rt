@@ -1,33 +1,33 @@
-//! The helps of the program and of its commands. Each of their lines has at most 100 columns.
+//! Help texts of the program and its commands. Each of their lines has at most 100 columns.
 
-/// The help of a folder of modules.
+/// Help of the argument DIR.
 pub(crate) const FOLDER_HELP: &str = "The folder of the modules:{n}\
     its files, and those of its folders, that end in `.Mod` or `.mod`";
 
-/// The help of a network.
+/// Help of a network in a file.
 pub(crate) const NETWORK_HELP: &str = "The network: lines `module M` and `import M N w`";
 
-/// The help of a file of prices.
+/// Help of the option `--prices`.
 pub(crate) const PRICES_HELP: &str =
     "The file of prices: lines `price M N k`, by which M's import of N{n}\
     weighs k, and `pin M N`, by which it is not to be removed";
 
-/// The help of a file of rules.
+/// Help of the argument FILE of `rules`.
 pub(crate) const RULES_HELP: &str =
     "The file of rules: lines `set S M`, `folder S PATH`, `named S PATTERN`, `tree S`,{n}\
     `forbid X Y`, `forbid-import X Y`, `may X Y` and `allow M N`";
 
-/// The help of the file of an index that is made.
+/// Help of the argument OUT.
 pub(crate) const OUT_HELP: &str = "The file that the index is written to, in the SCIP format;{n}\
     it is emptied only once DIR has been read, so it may be one of DIR's files";
 
-/// The help of the option that replaces the file of an index as a whole.
+/// Help of the flag `--atomic`.
 pub(crate) const ATOMIC_HELP: &str =
     "Replace OUT as a whole: the index is written to OUT.oscip-partial,{n}\
     which then takes OUT's place; if the run fails, OUT is as it was;{n}\
     not with --hex";
 
-/// The help of the option that leaves out files with faults.
+/// Help of the flag `--skip-faults`.
 pub(crate) const SKIP_FAULTS_HELP: &str =
     "Leave out the files that have a fault of their own, and report these{n}\
     faults; import paths through their modules are missing then";
@@ -36,26 +36,26 @@ pub(crate) const INDEX_SKIP_FAULTS_HELP: &str =
     "Leave out the files that have a fault of their own, and report these{n}\
     faults; OUT is replaced as with --atomic";
 
-/// The help of the option of excluded files.
+/// Help of the option `--exclude`.
 pub(crate) const EXCLUDE_HELP: &str =
     "Pass over the files and folders whose last name matches PATTERN, or,{n}\
     if PATTERN has a `/`, whose path below DIR does, without opening them;{n}\
     `*` matches any bytes but `/`";
 
-/// The help of the option of locations for editors.
+/// Help of the flag `--editor` for an index.
 pub(crate) const EDITOR_HELP: &str = "Count lines and columns from 1";
 
 pub(crate) const TREE_EDITOR_HELP: &str =
     "Count lines and columns from 1, and write DIR before each path";
 
-/// The help of a document of an index.
+/// Help of the path of a document in an index.
 pub(crate) const PATH_HELP: &str = "The path of a document, as the index has it";
 
-/// The help of the text of a symbol.
+/// Help of the option `--symbol`.
 pub(crate) const SYMBOL_HELP: &str = "The text of the symbol, in place of a position;{n}\
     with one that begins with `local ` goes the PATH of its document";
 
-/// The usage of the commands whose arguments go together in two ways.
+/// Usage of the commands whose arguments go together in two forms.
 pub(crate) const DEF_USAGE: &str =
     "oscip def <INDEX> <PATH> <LINE> <COL>\n       oscip def --symbol <TEXT> <INDEX> [PATH]";
 
@@ -64,14 +64,14 @@ pub(crate) const REFS_USAGE: &str =
 
 pub(crate) const INDEX_USAGE: &str = "oscip index [OPTIONS] <DIR> <OUT|--hex>";
 
-/// What `--version` prints after the program's name.
+/// The version, which `--version` prints after the program's name.
 pub(crate) const VERSION: &str = "0.1.0";
 
-/// The end of the program's help.
+/// End of the program's help.
 pub(crate) const PROGRAM_END: &str = "Example: oscip cut examples/editor Edit Net{n}{n}\
     `oscip COMMAND --help` has an example of each command and its exit statuses.";
 
-/// The end of the help of a command that cuts.
+/// End of the help of a command that cuts.
 pub(crate) const CUT_END: &str = "Example: oscip cut examples/editor Edit Net{n}{n}\
     Status: 0 the report is printed, 5 files were left out,{n}\
     1 a module, a price or a name is rejected,{n}\
@@ -83,7 +83,7 @@ pub(crate) const CUT_NET_END: &str = "Example: oscip cut-net examples/six.net A 
     2 the command line is invalid, 3 a file can't be read or standard output can't be written,{n}\
     4 out of memory";
 
-/// The end of the help of a command that checks.
+/// End of the help of a command that checks.
 pub(crate) const CHECK_END: &str = "Example: oscip check examples/editor edit.cut{n}{n}\
     Status: 0 yes, 5 no or files were left out,{n}\
     1 a module, a price or the report is rejected,{n}\
@@ -96,20 +96,20 @@ pub(crate) const CHECK_NET_END: &str =
     2 the command line is invalid, 3 a file can't be read or standard output can't be written,{n}\
     4 out of memory";
 
-/// The end of the help of the command that prints where a module uses another.
+/// End of the help of `crossings`.
 pub(crate) const CROSSINGS_END: &str = "Example: oscip crossings examples/editor Edit Sync{n}{n}\
     Status: 0 the locations are printed, 5 files were left out,{n}\
     1 a module or a name is rejected,{n}\
     2 the command line is invalid, 3 a file can't be read or standard output can't be written,{n}\
     4 out of memory";
 
-/// The end of the help of the command that prints the network of modules.
+/// End of the help of `net`.
 pub(crate) const NET_END: &str = "Example: oscip net examples/editor{n}{n}\
     Status: 0 the network is printed, 5 files were left out, 1 a module is rejected,{n}\
     2 the command line is invalid, 3 a file can't be read or standard output can't be written,{n}\
     4 out of memory";
 
-/// The end of the help of a command that prints why a module reaches another one.
+/// End of the help of a command that prints a path of imports.
 pub(crate) const WHY_END: &str = "Example: oscip why examples/editor Edit Net{n}{n}\
     Status: 0 the path is printed, 5 there is none or files were left out,{n}\
     1 a module or a name is rejected,{n}\
@@ -121,7 +121,7 @@ pub(crate) const WHY_NET_END: &str = "Example: oscip why-net examples/six.net A 
     2 the command line is invalid, 3 a file can't be read or standard output can't be written,{n}\
     4 out of memory";
 
-/// The end of the help of a command that lists the modules that one reaches.
+/// End of the help of a command that lists reached modules.
 pub(crate) const REACH_END: &str = "Example: oscip reach --back examples/editor Net{n}{n}\
     Status: 0 the modules are printed, 5 files were left out,{n}\
     1 a module or a name is rejected,{n}\
@@ -133,13 +133,13 @@ pub(crate) const REACH_NET_END: &str = "Example: oscip reach-net examples/six.ne
     2 the command line is invalid, 3 a file can't be read or standard output can't be written,{n}\
     4 out of memory";
 
-/// The end of the help of the command that lists modules.
+/// End of the help of `modules`.
 pub(crate) const MODULES_END: &str = "Example: oscip modules examples/editor{n}{n}\
     Status: 0 the modules are printed, 5 files were left out, 1 a module is rejected,{n}\
     2 the command line is invalid, 3 a file can't be read or standard output can't be written,{n}\
     4 out of memory";
 
-/// The end of the help of the command that checks rules.
+/// End of the help of `rules`.
 pub(crate) const RULES_END: &str =
     "Example: oscip rules examples/editor examples/editor.rules{n}{n}\
     Status: 0 yes, 5 a rule is broken, an `allow` is stale or files were left out,{n}\
@@ -147,7 +147,7 @@ pub(crate) const RULES_END: &str =
     2 the command line is invalid, 3 a file can't be read or standard output can't be written,{n}\
     4 out of memory";
 
-/// The end of the help of a command that draws.
+/// End of the help of a command that draws.
 pub(crate) const DOT_END: &str = "Example: oscip dot examples/editor edit.cut{n}{n}\
     Status: 0 the graph is printed, 5 files were left out,{n}\
     1 a module, a price or the report is rejected,{n}\
@@ -160,13 +160,13 @@ pub(crate) const DOT_NET_END: &str =
     2 the command line is invalid, 3 a file can't be read or standard output can't be written,{n}\
     4 out of memory";
 
-/// The end of the help of the command that makes an index.
+/// End of the help of `index`.
 pub(crate) const INDEX_END: &str = "Example: oscip index --atomic examples/editor editor.scip{n}{n}\
     Status: 0 the index is written, 5 files were left out, 1 a module is rejected,{n}\
     2 the command line is invalid, 3 a file or standard output can't be read or written,{n}\
     4 out of memory";
 
-/// The end of the help of a command that lists what is wrong with modules.
+/// End of the help of a command that lists faults or unresolved identifiers.
 pub(crate) const UNRESOLVED_END: &str = "Example: oscip unresolved examples/editor{n}{n}\
     Status: 0 the identifiers are printed, 5 files were left out,{n}\
     1 a module is rejected,{n}\
@@ -177,7 +177,7 @@ pub(crate) const FAULTS_END: &str = "Example: oscip faults examples/editor{n}{n}
     Status: 0 yes, 5 the faults are printed, 2 the command line is invalid,{n}\
     3 a file can't be read or standard output can't be written, 4 out of memory";
 
-/// The end of the help of a question to an index.
+/// End of the help of a command that queries an index.
 pub(crate) const DEF_END: &str = "Example: oscip def examples/foreign.scip src/view.ts 2 19{n}{n}\
     Status: 0 the locations are printed, 1 the index or the path is rejected,{n}\
     2 the command line is invalid, 3 a file can't be read or standard output can't be written,{n}\

@@ -1,14 +1,14 @@
-//! What the words of a command line ask for.
+//! Jobs: the parsed form of a command line.
 
 use std::alloc::AllocError;
 use thiserror::Error;
 
-/// Which places of a symbol are asked for.
+/// The kind of occurrence of a symbol that a query returns.
 #[derive(Clone, Copy)]
 pub enum Places {
-    /// Those where it is defined.
+    /// The occurrences that define the symbol.
     Definitions,
-    /// Those where it is used and not defined.
+    /// The occurrences that use the symbol and don't define it.
     References,
 }
 
@@ -17,90 +17,91 @@ pub enum Places {
 pub struct Position {
     /// The path of the document, as the index has it.
     pub path: String,
-    /// A line of it, from 0 to 2,147,483,647.
+    /// The line, counted from 0, at most 2,147,483,647.
     pub line: u32,
-    /// A column of that line, from 0 to 2,147,483,647.
+    /// The column, counted from 0 in the units of the index, at most 2,147,483,647.
     pub column: u32,
 }
 
-/// Which symbol of an index is asked for.
+/// The symbol that a query is about: it is given by a position or by its text.
 #[derive(Drop)]
 pub enum AskedSymbol {
-    /// The one at this position.
+    /// The symbol at this position.
     At(Position),
-    /// The one of this text.
+    /// The symbol with this text.
     Named {
         symbol: String,
-        /// The path of a document. It is there where the text begins with `local `: such a symbol is one of a document.
+        /// The path of a document. It is given if the text begins with `local `, since a local symbol belongs to one document.
         path: Option<String>,
     },
 }
 
-/// What is asked of an index.
+/// A question about an index.
 #[derive(Drop)]
 pub enum IndexQuestion {
-    /// These places of a symbol.
+    /// Where are the occurrences of this kind of the symbol?
     PlacesOf { places: Places, symbol: AskedSymbol },
-    /// The text of the symbol at a position.
+    /// What is the text of the symbol at this position?
     SymbolAt(Position),
-    /// Where which symbols are defined: in the document of this path, or in all.
+    /// Which symbols are defined where, in the document of this path or, without a path, in all documents?
     Symbols { path: Option<String> },
 }
 
-/// The modules that a job reads, and how locations in them are written.
+/// The modules that a job reads, and the style of locations in them.
 #[derive(Drop)]
 pub struct SourceTree {
-    /// The path of the folder that has them.
+    /// The path of the folder of the modules.
     pub folder: String,
-    /// Patterns of the files and folders that are passed over. `*` matches any bytes but `/`. A pattern with a `/` is matched against
-    /// the path below the folder, any other against the last name of that path.
+    /// Patterns of files and folders to leave out. `*` matches any bytes but `/`. A pattern with a `/` is matched against the path below
+    /// the folder, any other against the last name of that path.
     pub excluded: Vec<String>,
-    /// Whether files that have a fault of their own are left out.
+    /// Whether to leave out files that have a fault of their own.
     pub skips_faults: bool,
-    /// Whether lines and columns are written from 1, and paths with the folder's before them.
+    /// Whether to count lines and columns from 1, and to write the folder's path before the path of a file.
     pub for_editor: bool,
 }
 
-/// Where an index goes.
+/// The output of an index.
 #[derive(Drop)]
 pub enum Output {
-    /// Into the file of this path.
+    /// The file of this path.
     File(String),
-    /// To standard output, as a line of hexadecimal digits.
+    /// Standard output, as a line of hexadecimal digits.
     Hex,
 }
 
-/// What index is to be made.
+/// A request for an index of a tree.
 #[derive(Drop)]
 pub struct Indexing {
     pub tree: SourceTree,
-    /// Where the index goes.
+    /// Where to write the index.
     pub output: Output,
-    /// The package that symbols name: not `.`, and it doesn't begin with a space.
+    /// The package in the symbols: it isn't `.` and doesn't begin with a space.
     pub package: String,
-    /// The root that the index names.
+    /// The root of the project, which the metadata of the index names.
     pub root: String,
-    /// How many workers make it, from 1 to 64.
+    /// The number of threads that make the index, from 1 to 64.
     pub workers: u32,
-    /// Whether the file is replaced as a whole, by an index that is whole. It is so if files are left out.
+    /// Whether the index replaces the file atomically: after an error the file is unchanged. It is true with `--atomic` and with
+    /// `--skip-faults`.
     pub is_atomic: bool,
 }
 
-/// The names of two modules.
+/// The names of two modules: the start and the end of a path, or the module that uses and the one that is used.
 #[derive(Drop)]
 pub struct TwoNames {
     pub from: String,
     pub to: String,
 }
 
-/// Between the modules of which names a cut is searched for, and how.
+/// A request for a cheapest cut between the modules of two names.
 #[derive(Drop)]
 pub struct Cutting {
     pub from: String,
     pub to: String,
-    /// How many workers search, from 1 to 64.
+    /// The number of threads that search for the cut, from 1 to 64.
     pub workers: u32,
-    /// The path of a file with prices of imports, where it is given.
+    /// The path of a file with prices of imports, if one is given.
     pub prices: Option<String>,
 }
 
@@ -109,19 +110,20 @@ pub struct Cutting {
 pub struct Reported {
     /// The path of the report's file.
     pub report: String,
-    /// The path of a file with prices of imports, where it is given.
+    /// The path of a file with prices of imports, if one is given.
     pub prices: Option<String>,
 }
 
-/// A report of which a picture is drawn, and which picture.
+/// A request for a picture of a report.
 #[derive(Drop)]
 pub struct Drawing {
     pub reported: Reported,
-    /// Whether it is the picture by flow, which has only the imports that the report removes or gives flow.
+    /// Whether to draw the picture by flow: only the imports that the report removes or that carry flow in it, or those of its blocked
+    /// path.
     pub by_flow: bool,
 }
 
-/// Along which imports modules are reached.
+/// The direction in which imports are followed.
 #[derive(Clone, Copy)]
 pub enum Direction {
     /// From the importing module to the imported one.
@@ -130,81 +132,81 @@ pub enum Direction {
     Importing,
 }
 
-/// Which modules are reached from one.
+/// A request for the modules that are reached from a module in a direction.
 #[derive(Drop)]
 pub struct Reaching {
     pub module: String,
     pub direction: Direction,
 }
 
-/// What is asked of a network, one that stands in a file or that of a tree.
+/// A question about a network, which is read from a file or made of a tree.
 #[derive(Drop)]
 pub enum NetQuestion {
-    /// A cheapest cut between two modules.
+    /// What is a cheapest cut between two modules?
     Cut(Cutting),
-    /// Whether a report on it is right.
+    /// Is a report on the network correct?
     Check(Reported),
-    /// A picture of what a report on it says.
+    /// A picture of a report on the network. The report isn't verified.
     Dot(Drawing),
-    /// The least chain of imports from the first module to the second.
+    /// What is the shortest path of imports from the first module to the second?
     Why(TwoNames),
-    /// The modules that a module reaches, or that reach it.
+    /// Which modules does a module reach, or which reach it?
     Reach(Reaching),
 }
 
-/// What is asked of the modules of a tree.
+/// A question about the modules of a tree.
 #[derive(Drop)]
 pub enum TreeQuestion {
-    /// This of their network.
+    /// A question about the network of the modules.
     OfNet(NetQuestion),
-    /// Where the first module uses the second.
+    /// Where does the first module use the second?
     Crossings(TwoNames),
-    /// Their network, as a text.
+    /// What is the network of the modules, as text?
     Net,
-    /// Whether they keep the rules in the file of this path.
+    /// Do the modules keep the rules in the file of this path?
     Rules(String),
-    /// Which of their files have faults.
+    /// Which files have faults?
     Faults,
-    /// Their names, each with the path of its file.
+    /// What are the names of the modules, and the paths of their files?
     Modules,
 }
 
-/// A command with the values of its words: what is read, and what is asked of it. A network and an index are given by their paths.
+/// A parsed command line: the input, given by its path, and the question about it.
 #[derive(Drop)]
 pub enum Job {
-    /// Asks this of the modules below a folder.
+    /// Answers a question about the modules below a folder.
     Tree {
         tree: SourceTree,
         question: TreeQuestion,
     },
-    /// Asks this of a network.
+    /// Answers a question about the network in the file of the path `network`.
     Network {
         network: String,
         question: NetQuestion,
     },
-    /// Asks this of an index.
+    /// Answers a question about the index in the file of the path `index`.
     Ask {
         index: String,
         question: IndexQuestion,
-        /// Whether lines and columns are written from 1.
+        /// Whether to count lines and columns from 1.
         for_editor: bool,
     },
     /// Makes an index of the modules below a folder.
     Index(Indexing),
-    /// Lists the identifiers of modules that can't be resolved.
+    /// Lists the identifiers that can't be resolved in the modules below a folder.
     Unresolved(SourceTree),
 }
 
-/// Why there is no job.
+/// Why a command line gives no job.
 #[derive(Debug, Drop, Error)]
 pub enum JobFault {
-    /// The command line is refused, and this text says why.
+    /// The command line is invalid. The text is the error message, ready to be written.
     #[error("{text}")]
     Line { text: String },
-    /// Help or the version was asked for, and this is its text.
+    /// Help or the version was requested. The text is what to write to standard output.
     #[error("{text}")]
     Help { text: String },
-    /// A growth of memory was refused.
+    /// An allocation failed.
     #[error("memory ran out")]
     Memory,
 }

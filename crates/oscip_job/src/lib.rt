@@ -1,6 +1,7 @@
-//! The command line: the words that the program is called with, and the job that they ask for.
-//! Stands on `clap`, with `thiserror` for its faults.
-//! Its contract: a job holds exactly what `clap` finds for the words; its numbers and its package are as they may be, and an index goes to one place.
+//! The command line: parses the arguments of the program into a `Job`, which names the files to read and the question to answer.
+//! Depends on `clap`, which parses the arguments and makes help texts, and on `thiserror` for the errors.
+//! The main call is `job_of`. It promises that a job holds exactly the values that `clap` finds for the arguments.
+//! It also promises that numbers of workers, positions, packages and symbols are valid, and that an index has one output.
 #![tactic(auto)]
 
 mod commands;
