@@ -1,4 +1,4 @@
--- What a run on the modules of a tree reads and writes. Answers are the answers of the reader.
+-- What a run on the modules of a tree reads and writes. Answers holds for the readings that the reader may return.
 use Rattle.std.specs.Prelude.{ℕ, List, Option, Result}
 use Rattle.index_run.specs.IndexRuns.{IsUnresolvedRun}
 use Rattle.oscip_job.specs.declared.job.SourceTree.{SourceTree}
@@ -10,7 +10,7 @@ use Rattle.oscip_run.specs.TreeRuns.{IsTreeRun}
 use Rattle.oscip_run.specs.declared.fault.RunFault.{RunFault}
 use Rattle.oscip_run.specs.declared.tree_run.TreeRun.{TreeRun}
 
--- a run that lists the unresolved identifiers of a tree; a list is no check that says no
+-- a run that lists the unresolved identifiers of a tree, and never returns false
 abbrev pub IsUnresolvedRunOn : (Reading → Type 0) → SourceTree → Option (List ℕ) → Option (List ℕ) → Result TreeRun RunFault → Type 0
 IsUnresolvedRunOn Answers tree old new result =
     IsTreeRun Answers tree (λ used ended. IsUnresolvedRun (style_of_tree tree) used old new (without_answer ended) × NeverSaysNo ended) old new result

@@ -1,4 +1,4 @@
--- What a run that indexes a tree reads and puts.
+-- What a run that indexes a tree reads and writes.
 use Rattle.std.specs.Prelude.{◌≡◌, ◌⊎◌, ℕ, List, ◌++◌, Option, Result, Ok, Err, codes}
 use Rattle.std.specs.Io.KnownBytes.{Appends, Keeps}
 use Rattle.std.specs.List.{flat_map}
@@ -18,41 +18,41 @@ use Rattle.scip_index.specs.Plain.{PlainIndex}
 use Rattle.scip_index.specs.Written.{written}
 use Rattle.text_escape.specs.Places.{location_text, Style}
 
--- the bytes are the written form of the index of the tree
+-- the bytes are the written form of the index of the tree, with this package and root
 pub record IsIndexText (sources : List Source) (package_name root text : List ℕ) : Type 0 where
   pub index : PlainIndex
   pub is_index : IsIndex sources package_name root index
   pub text_is : text ≡ written index
 
--- the text is a line with the digits of these bytes
+-- the text is the line of hexadecimal digits of the index's written form
 pub record IsHexText (sources : List Source) (package_name root text : List ℕ) : Type 0 where
   pub bytes : List ℕ
   pub is_index : IsIndexText sources package_name root bytes
   pub text_is : text ≡ encode_lower bytes ++ codes "\n"
 
--- PATH:LINE:COL NAME and the end of the line: an identifier that can't be resolved, and where it begins, in this style
+-- the line PATH:LINE:COL NAME of an unresolved identifier: where it begins, in this style, and its name
 abbrev pub unresolved_line : Style → PlainUnresolved → List ℕ
 unresolved_line style row = location_text style row.path row.line row.column ++ codes " " ++ row.name ++ codes "\n"
 
--- a line for each of them, in their order
+-- a line for each of the identifiers, in their order
 abbrev pub unresolved_lines : Style → List PlainUnresolved → List ℕ
 unresolved_lines style rows = flat_map (unresolved_line style) rows
 
--- the text has exactly the lines of the identifiers of the tree that stand for nothing
+-- the text has exactly the lines of the tree's unresolved identifiers
 pub record IsUnresolvedText (style : Style) (sources : List Source) (text : List ℕ) : Type 0 where
   pub rows : List PlainUnresolved
   pub are_rows : AreUnresolved sources rows
   pub text_is : text ≡ unresolved_lines style rows
 
--- the sink has the whole text
+-- the sink took all of a text for which IsText holds
 abbrev pub PutsText : (List ℕ → Type 0) → Option (List ℕ) → Option (List ℕ) → Type 0
 PutsText IsText old new = (text : List ℕ) × IsText text × Appends old new text
 
--- the sink has a front of it
+-- the sink took a prefix of a text for which IsText holds
 abbrev pub PutsTextFront : (List ℕ → Type 0) → Option (List ℕ) → Option (List ℕ) → Type 0
 PutsTextFront IsText old new = (text : List ℕ) × IsText text × AppendsFront old new text
 
--- a run of an engine that puts this text of a tree: a refused tree leaves the sink as it was, with the fault that the tree has
+-- a run that writes a text for which IsText holds: a rejected tree leaves the sink unchanged, and Device or Memory leave it with at most a prefix
 abbrev pub IsTextRun : List Source → (List ℕ → Type 0) → Option (List ℕ) → Option (List ℕ) → Result (Unit {0}) RunFault → Type 0
 IsTextRun sources IsText old new (Ok _) = PutsText IsText old new
 IsTextRun sources IsText old new (Err (CannotRead path)) = ⊥
@@ -67,23 +67,23 @@ IsTextRun sources IsText old new (Err (Query fault)) = ⊥
 IsTextRun sources IsText old new (Err Device) = PutsTextFront IsText old new
 IsTextRun sources IsText old new (Err Memory) = Keeps old new ⊎ PutsTextFront IsText old new
 
--- a run that puts the index of a tree
+-- a run that writes the index of a tree
 abbrev pub IsIndexRun : List Source → List ℕ → List ℕ → Option (List ℕ) → Option (List ℕ) → Result (Unit {0}) RunFault → Type 0
 IsIndexRun sources package_name root = IsTextRun sources (IsIndexText sources package_name root)
 
--- one that puts it as a line of digits
+-- a run that writes the index of a tree as a line of hexadecimal digits
 abbrev pub IsHexRun : List Source → List ℕ → List ℕ → Option (List ℕ) → Option (List ℕ) → Result (Unit {0}) RunFault → Type 0
 IsHexRun sources package_name root = IsTextRun sources (IsHexText sources package_name root)
 
--- one that tells what stands for nothing
+-- a run that lists the unresolved identifiers of a tree
 abbrev pub IsUnresolvedRun : Style → List Source → Option (List ℕ) → Option (List ℕ) → Result (Unit {0}) RunFault → Type 0
 IsUnresolvedRun style sources = IsTextRun sources (IsUnresolvedText style sources)
 
--- a run with a package and a root, to where the index goes: into a file as it is, or to standard output as a line of digits
+-- a run that writes the index to this output: as bytes to a file, or as a line of hexadecimal digits to standard output
 abbrev pub IsRunTo : Output → List Source → List ℕ → List ℕ → Option (List ℕ) → Option (List ℕ) → Result (Unit {0}) RunFault → Type 0
 IsRunTo (outputs.File path) = IsIndexRun
 IsRunTo outputs.Hex = IsHexRun
 
--- a run of a job that makes an index
+-- a run of a job that makes an index, with the job's own package, root and output
 abbrev pub IsIndexingRun : List Source → Indexing → Option (List ℕ) → Option (List ℕ) → Result (Unit {0}) RunFault → Type 0
 IsIndexingRun sources it old new result = IsRunTo it.output sources (string_bytes it.package) (string_bytes it.root) old new result

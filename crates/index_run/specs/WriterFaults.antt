@@ -1,8 +1,8 @@
--- What a writer of an index answers where it stops.
+-- The faults with which a writer of an index fails.
 use Rattle.std.specs.Prelude.{◌≡◌, ◌⊎◌}
 use Rattle.proto_wire.specs.declared.fault.WireFault.{WireFault}
 use Rattle.proto_wire.specs.declared.fault.WireFault.TheVariants as faults
 
--- the fault is one of a sink
+-- the fault is one of a sink: a failed device, or memory
 abbrev pub IsOfSink : WireFault → Type 0
 IsOfSink fault = (fault ≡ faults.Device) ⊎ (fault ≡ faults.Memory)

@@ -9,10 +9,10 @@ use byte_sink::{Sink, SinkFault, put_all};
 use std::alloc::Global;
 use text_pieces::put_enough;
 
-/// The digits of so many bytes are made at once.
+/// The number of bytes that are converted at once.
 const CHUNK: usize = 32768;
 
-/// Gathers two hexadecimal digits for each of the bytes.
+/// Appends two hexadecimal digits for each of the bytes to the text, and writes the text if it is long.
 fn push_digits<S: Sink>(
     alloc: Global,
     text: &mut String,
@@ -33,9 +33,12 @@ fn push_digits<S: Sink>(
     put_enough(text, sink)
 }
 
-/// Puts the bytes as a line: two hexadecimal digits for each, in lower case, and an LF. At a refusal a front of it is taken.
+/// Writes the bytes as a line: two lower-case hexadecimal digits for each byte, and an LF. Fails with the fault of the sink, `Device` or
+/// `Memory`; the sink then has a prefix of the line.
 pub fn hex_line<S: Sink>(alloc: Global, bytes: &[u8], sink: &mut S) -> Result<(), SinkFault>
+    // With `Ok` the sink took the whole line, otherwise a prefix of it.
     ensures puts { Puts (S.taken sink.old) (S.taken sink.new) result (encode_lower bytes.now ++ codes "\n") }
+    // The sink counts a failure if and only if the result is `Device`.
     ensures failures { S.failures sink.new ≡ failures_after result (S.failures sink.old) }
 {
     let mut text = String::new(alloc);

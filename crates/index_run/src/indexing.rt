@@ -1,4 +1,4 @@
-//! What the commands that index a tree put, over any sink.
+//! The engines of `index` and `unresolved`, over any sink.
 ghost use Rattle.std.specs.Prelude.{◌≡◌, ◌++◌, IfErr, IfOk, OnOk, false, map};
 ghost use Rattle.std.specs.String.{string_bytes};
 ghost use Rattle.byte_sink.specs.Sinks.{failures_after, failures_by, AppendsFront, Puts};
@@ -26,7 +26,7 @@ use std::thread::Threads;
 use text_escape::{PlaceStyle, PlaceWriter};
 use text_pieces::put_enough;
 
-/// The gate of a board that lets every worker through at once.
+/// A gate of the scheduler that never makes a worker wait.
 #[derive(Drop)]
 pub struct OpenBoard;
 
@@ -34,9 +34,10 @@ impl BoardGate for OpenBoard {
     fn at(&self, _worker: u32, _turn: u64) {}
 }
 
-/// Makes the index of a tree, with so many workers that call the gate between a claim and its delivery, and puts it: its
-/// written form (scip.proto). Workers and gate stand in no clause on the index.
-/// Refuses with `Tree`, `Device` or `Memory`. It may wait for a lock and for its threads.
+/// Makes the index of a tree, and writes its written form (scip.proto, `Index`).
+/// `workers` threads make it, each of which calls `gate` between claiming and completing an entry. The index doesn't depend on their number
+/// or on the gate.
+/// Fails with `Tree`, `Device` or `Memory`. It may wait for a lock and for its threads.
 pub fn index_to<R: Threads + Wait + Sync, G: BoardGate + Sync, S: Sink>(
     rt: &R,
     alloc: Global,
@@ -46,14 +47,16 @@ pub fn index_to<R: Threads + Wait + Sync, G: BoardGate + Sync, S: Sink>(
     gate: &G,
     sink: &mut S,
 ) -> Result<(), RunFault>
-    // The files stand in the order of their paths.
+    // The files are sorted by path, each path once.
     requires in_order { ArePathsInOrder sources.now }
     // The package isn't `.` and doesn't begin with a space.
     requires package { is_wrong_part (string_bytes options.now.package) ≡ false }
+    // The number of workers is 1 to 64.
     requires workers { MayWork workers }
-    // What was read, and what the sink took; after a refusal of the input it took nothing.
+    // With `Ok` the sink took exactly the written form of the tree's index. After `Device` or `Memory` it has at most a prefix of it, after
+    // `Tree` none.
     ensures run { IsIndexRun sources.now (string_bytes options.now.package) (string_bytes options.now.root) (S.taken sink.old) (S.taken sink.new) result }
-    // Device is answered where the sink counted a failure, and nowhere else.
+    // The sink counts a failure if and only if the result is `Device`.
     ensures failures { S.failures sink.new ≡ failures_by is_device result (S.failures sink.old) }
 {
     in_parts();
@@ -67,7 +70,7 @@ pub fn index_to<R: Threads + Wait + Sync, G: BoardGate + Sync, S: Sink>(
     Ok(())
 }
 
-/// Makes the same index and puts its bytes as a line of hexadecimal digits, in lower case. Refuses as `index_to` does.
+/// Makes the index of a tree, and writes its bytes as a line of lower-case hexadecimal digits. Fails as `index_to` does.
 pub fn index_hex_to<R: Threads + Wait + Sync, G: BoardGate + Sync, S: Sink>(
     rt: &R,
     alloc: Global,
@@ -77,14 +80,16 @@ pub fn index_hex_to<R: Threads + Wait + Sync, G: BoardGate + Sync, S: Sink>(
     gate: &G,
     sink: &mut S,
 ) -> Result<(), RunFault>
-    // The files stand in the order of their paths.
+    // The files are sorted by path, each path once.
     requires in_order { ArePathsInOrder sources.now }
     // The package isn't `.` and doesn't begin with a space.
     requires package { is_wrong_part (string_bytes options.now.package) ≡ false }
+    // The number of workers is 1 to 64.
     requires workers { MayWork workers }
-    // What was read, and what the sink took; after a refusal of the input it took nothing.
+    // With `Ok` the sink took exactly the digits of the index's written form, and an LF. After `Device` or `Memory` it has at most a prefix
+    // of this line, after `Tree` none.
     ensures run { IsHexRun sources.now (string_bytes options.now.package) (string_bytes options.now.root) (S.taken sink.old) (S.taken sink.new) result }
-    // Device is answered where the sink counted a failure, and nowhere else.
+    // The sink counts a failure if and only if the result is `Device`.
     ensures failures { S.failures sink.new ≡ failures_by is_device result (S.failures sink.old) }
 {
     let mut bytes = Vec::new(alloc);
@@ -93,7 +98,7 @@ pub fn index_hex_to<R: Threads + Wait + Sync, G: BoardGate + Sync, S: Sink>(
     Ok(())
 }
 
-/// The package and the root of a job.
+/// Copies of the package and the root of a job.
 #[tactic(auto, using(crate::proofs::Packages::not_wrong))]
 fn options_of(alloc: Global, indexing: &Indexing) -> Result<IndexOptions, AllocError>
     requires { IsPackage (string_bytes indexing.now.package) }
@@ -106,8 +111,8 @@ fn options_of(alloc: Global, indexing: &Indexing) -> Result<IndexOptions, AllocE
     Ok(IndexOptions { package, root })
 }
 
-/// Makes the index that a job asks for, with the job's number of workers, and puts it as it goes where the job says: as it is
-/// for a file, and else as a line of hexadecimal digits. Refuses as `index_to` does.
+/// Makes the index that a job requests, with the job's number of threads, package and root.
+/// Writes it as bytes if the job's output is a file, and otherwise as a line of hexadecimal digits. Fails as `index_to` does.
 pub fn answer_index<R: Threads + Wait + Sync, G: BoardGate + Sync, S: Sink>(
     rt: &R,
     alloc: Global,
@@ -116,12 +121,15 @@ pub fn answer_index<R: Threads + Wait + Sync, G: BoardGate + Sync, S: Sink>(
     gate: &G,
     sink: &mut S,
 ) -> Result<(), RunFault>
+    // The files are sorted by path, each path once.
     requires in_order { ArePathsInOrder sources.now }
+    // The package isn't `.` and doesn't begin with a space.
     requires package { IsPackage (string_bytes indexing.now.package) }
+    // The number of workers is 1 to 64.
     requires workers { MayWork indexing.now.workers }
-    // What was read, and what the sink took; after a refusal of the input it took nothing.
+    // With the job's own package and root, `index_to` runs if the output is a file, and `index_hex_to` if it is standard output.
     ensures run { IsIndexingRun sources.now indexing.now (S.taken sink.old) (S.taken sink.new) result }
-    // Device is answered where the sink counted a failure, and nowhere else.
+    // The sink counts a failure if and only if the result is `Device`.
     ensures failures { S.failures sink.new ≡ failures_by is_device result (S.failures sink.old) }
 {
     let options = options_of(alloc, indexing)?;
@@ -131,7 +139,7 @@ pub fn answer_index<R: Threads + Wait + Sync, G: BoardGate + Sync, S: Sink>(
     }
 }
 
-/// Adds the line of an identifier that stands for nothing to the text.
+/// Appends the line of an unresolved identifier to the text.
 fn push_line<'a>(
     writer: &mut PlaceWriter<'a>,
     text: &mut String,
@@ -145,7 +153,7 @@ fn push_line<'a>(
     writeln!(text, " {name}")
 }
 
-/// Gathers the line of an identifier that stands for nothing, of which pieces are put.
+/// Appends the line of an unresolved identifier to the text, and writes the text if it is long.
 fn gather_line<'a, S: Sink>(
     writer: &mut PlaceWriter<'a>,
     text: &mut String,
@@ -163,7 +171,7 @@ fn gather_line<'a, S: Sink>(
     put_enough(text, sink)
 }
 
-/// Puts the lines of identifiers that stand for nothing, in their order, piece by piece. At a refusal a front of them is taken.
+/// Writes the lines of unresolved identifiers, in their order. After an error the sink has a prefix of the lines.
 fn put_lines<S: Sink>(
     alloc: Global,
     style: PlaceStyle<'_>,
@@ -181,9 +189,9 @@ fn put_lines<S: Sink>(
     put_all(sink, text.as_bytes())
 }
 
-/// Writes a line for each identifier of a tree that can't be resolved and isn't predeclared, as `PATH:LINE:COL NAME`: where it begins,
-/// in this style, columns in bytes, in the order of the files and in each by start. Control characters of a path are written out.
-/// Its errors are `Tree`, `Device` and `Memory`.
+/// Writes a line `PATH:LINE:COL NAME` for each identifier of a tree that can't be resolved and isn't predeclared.
+/// LINE and COL are where the identifier begins, in this style, with columns in bytes. The control characters of a path are escaped.
+/// The lines are in the order of the files, and within a file by position. Fails with `Tree`, `Device` or `Memory`.
 pub fn unresolved_to<R: Threads + Sync, S: Sink>(
     rt: &R,
     alloc: Global,
@@ -191,11 +199,11 @@ pub fn unresolved_to<R: Threads + Sync, S: Sink>(
     style: PlaceStyle<'_>,
     sink: &mut S,
 ) -> Result<(), RunFault>
-    // The files stand in the order of their paths.
+    // The files are sorted by path, each path once.
     requires { ArePathsInOrder sources.now }
-    // What was read, and the lines that the sink took; after a refusal of the input it took nothing.
+    // With `Ok` the sink took exactly these lines. After `Device` or `Memory` it has at most a prefix of them, after `Tree` none.
     ensures run { IsUnresolvedRun (style_of style.entry) sources.now (S.taken sink.old) (S.taken sink.new) result }
-    // Device is answered where the sink counted a failure, and nowhere else.
+    // The sink counts a failure if and only if the result is `Device`.
     ensures failures { S.failures sink.new ≡ failures_by is_device result (S.failures sink.old) }
 {
     let rows = unresolved_in_tree(rt, alloc, sources, READERS)?;

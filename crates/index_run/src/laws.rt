@@ -1,5 +1,4 @@
-//! Laws of indexing runs: what is put of a tree is put in one way.
-//! Each function is a law: its body is empty, and its contract is proved.
+//! Laws of runs that index, proved as contracts of functions with an empty body: the bytes written for a tree are unique.
 ghost use Rattle.std.specs.Prelude.{◌≡◌, ℕ, List, Ok, Option, Some};
 ghost use Rattle.index_run.specs.IndexRuns.{IsHexRun, IsIndexingRun, IsIndexRun, IsUnresolvedRun};
 ghost use Rattle.oscip_job.specs.declared.job.Indexing.{Indexing};
@@ -8,20 +7,26 @@ ghost use Rattle.oscip_tree.specs.declared.source.Source.{Source};
 ghost use Rattle.oscip_tree.specs.declared.tree_fault.TreeFault.{TreeFault};
 ghost use Rattle.text_escape.specs.Places.{Style};
 
-/// Two runs on one tree that end well leave a sink of known bytes with the same bytes. The runs that `index_to`, `index_hex_to`
-/// and `unresolved_to` answer for name no workers, so it is so for every two numbers of workers and whatever turns they take.
+/// Two runs on one tree that succeed leave a sink of known bytes with the same bytes.
+/// The runs of `index_to`, `index_hex_to` and `unresolved_to` mention no workers, so this holds for every two numbers of workers and every
+/// schedule.
 pub fn same_bytes()
+    // Two runs of `index_to` with one package and root write the same bytes.
     ensures index { (sources : List Source) (package_name root before : List ℕ) (new other : Option (List ℕ)) →
         IsIndexRun sources package_name root (Some before) new (Ok tt) → IsIndexRun sources package_name root (Some before) other (Ok tt) → new ≡ other }
+    // Two runs of `index_hex_to` with one package and root write the same bytes.
     ensures hex { (sources : List Source) (package_name root before : List ℕ) (new other : Option (List ℕ)) →
         IsHexRun sources package_name root (Some before) new (Ok tt) → IsHexRun sources package_name root (Some before) other (Ok tt) → new ≡ other }
+    // Two runs of `unresolved_to` in one style write the same bytes.
     ensures unresolved { (style : Style) (sources : List Source) (before : List ℕ) (new other : Option (List ℕ)) →
         IsUnresolvedRun style sources (Some before) new (Ok tt) → IsUnresolvedRun style sources (Some before) other (Ok tt) → new ≡ other }
 {}
 
-/// Two runs of a job on one tree that leave out the files with faults of their own, and end well, leave a sink of known bytes with the
-/// same bytes, for every two numbers of workers.
+/// Two runs of a job on one tree that leave out the files with faults of their own write the same bytes.
+/// It holds for runs that succeed, on a sink of known bytes, for every two numbers of workers.
 pub fn same_accepted_bytes()
+    // Two runs of `answer_index` on the files without faults of their own write the same bytes if their jobs differ only in the number of
+    // workers.
     ensures { (sources accepted others : List Source) (faults more : List TreeFault) (it : Indexing) (workers : ℕ) (before : List ℕ) (new other : Option (List ℕ)) →
         ArePartedFiles sources accepted faults → ArePartedFiles sources others more →
         IsIndexingRun accepted it (Some before) new (Ok tt) → IsIndexingRun others (record it { workers = workers }) (Some before) other (Ok tt) → new ≡ other }

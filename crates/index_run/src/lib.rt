@@ -1,6 +1,8 @@
-//! Runs of an indexer: the engines that put the index of a tree, or what stands for nothing in it, into any sink.
-//! Stands on `oscip_run` for the faults of a run and for readers of files, on `ob_board` for the index, on `scip_index` for its written form, with `hex` and `text_pieces` for digits, and on `oscip_job` and `oscip_tree`.
-//! Its contract: what an engine puts is what the definitions say of the tree, and nothing else.
+//! Runs that index: write the SCIP index of a tree, or the list of its unresolved identifiers, to any sink.
+//! Depends on `ob_board` for the index, `scip_index` for its written form, `oscip_run` for readers and faults, and `oscip_job` and
+//! `oscip_tree` for jobs and trees.
+//! It also depends on `hex` and `text_pieces` for hexadecimal digits.
+//! The main call is `answer_index`. It promises that the sink takes exactly the written form of the tree's index.
 #![tactic(auto)]
 
 mod hexadecimal;

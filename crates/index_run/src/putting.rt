@@ -1,4 +1,4 @@
-//! An index, put into a sink document by document.
+//! Writing an index to a sink, document by document.
 ghost use Rattle.std.specs.Prelude.{◌≡◌, IfErr, IsSome, None, OnOk, map};
 ghost use Rattle.proto_wire.specs.Writers.{is_failure, PutsRecord};
 ghost use Rattle.byte_sink.specs.Sinks.{failures_after, failures_by, is_device, Puts};
@@ -13,7 +13,7 @@ use scip_index::laws::in_parts;
 use scip_index::{Document, Index, IndexWriter};
 use std::alloc::Global;
 
-/// Puts the documents one after the other, each given up once it is put. At a refusal a front of them is taken.
+/// Writes the documents one after the other, and drops each once it is written. After an error the sink has a prefix of them.
 fn put_documents<S: Sink>(
     writer: &mut IndexWriter,
     documents: Vec<Document>,
@@ -33,7 +33,7 @@ fn put_documents<S: Sink>(
     Ok(())
 }
 
-/// Puts the parts of an index that says something of itself. At a refusal a front of them is taken.
+/// Writes the metadata, the documents and the external symbols of an index. After an error the sink has a prefix of them.
 fn put_parts<S: Sink>(alloc: Global, index: Index, sink: &mut S) -> Result<(), WireFault>
     requires { IsSome index.metadata }
     ensures puts { PutsRecord (S.taken sink.old) (S.taken sink.new) result (written (plain_index index)) }
@@ -50,7 +50,7 @@ fn put_parts<S: Sink>(alloc: Global, index: Index, sink: &mut S) -> Result<(), W
     writer.end(index.external_symbols.as_slice(), sink)
 }
 
-/// Why a writer stopped: its sink failed, or memory ran out.
+/// The fault of the sink that a writer failed with.
 pub(crate) fn stopped_by(fault: &WireFault) -> SinkFault
     requires { IsOfSink fault.now }
     ensures { is_device result ≡ is_failure fault.now }
@@ -66,13 +66,14 @@ pub(crate) fn stopped_by(fault: &WireFault) -> SinkFault
     }
 }
 
-/// Puts an index that says something of itself: its written form (scip.proto), document by document, each given up once it is
-/// put. At a refusal a front of it is taken.
+/// Writes an index that has metadata: its written form (scip.proto, `Index`), document by document. Drops each document once it is written.
+/// Fails with the fault of the sink, `Device` or `Memory`; the sink then has a prefix of the written form.
 pub fn put_index<S: Sink>(alloc: Global, index: Index, sink: &mut S) -> Result<(), SinkFault>
+    // The index has metadata.
     requires { IsSome index.metadata }
-    // The whole written form at Ok, and a front of it at a refusal.
+    // With `Ok` the sink took the whole written form, otherwise a prefix of it.
     ensures puts { Puts (S.taken sink.old) (S.taken sink.new) result (written (plain_index index)) }
-    // Device is answered where the sink counted a failure, and nowhere else.
+    // The sink counts a failure if and only if the result is `Device`.
     ensures failures { S.failures sink.new ≡ failures_after result (S.failures sink.old) }
 {
     match put_parts(alloc, index, sink) {

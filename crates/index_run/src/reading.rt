@@ -1,4 +1,4 @@
-//! Runs that list the unresolved identifiers of a tree, over any reader.
+//! Runs that list the unresolved identifiers of a tree, over any reader and any sink.
 ghost use Rattle.std.specs.Prelude.{◌≡◌, IfErr, IfOk};
 ghost use Rattle.byte_sink.specs.Sinks.{failures_by};
 ghost use Rattle.index_run.specs.FolderRuns.{IsUnresolvedRunOn};
@@ -35,8 +35,8 @@ fn ask_unresolved<R: Threads + Sync, S: Sink>(
     Ok(true)
 }
 
-/// Lists the unresolved identifiers of the modules that the reader gives of a tree. The list is no check that says no. Fails with the
-/// fault of the reader for the tree's folder, or with `Memory`, before anything is written.
+/// Lists the unresolved identifiers of the modules of a tree. The result in the returned `ended` is never false.
+/// Fails with the fault of the reader for the tree's folder, or with `Memory`, before anything is written. Any other fault is in `ended`.
 pub fn run_unresolved<R: Threads + Sync, F: Reader, S: Sink>(
     rt: &R,
     alloc: Global,
@@ -44,11 +44,12 @@ pub fn run_unresolved<R: Threads + Sync, F: Reader, S: Sink>(
     tree: &SourceTree,
     sink: &mut S,
 ) -> Result<TreeRun, RunFault>
-    // Which files the run used, the faults of those that were left out, and what the run on the files did.
+    // `unresolved_to` runs on the files that `tree_files` returns, in the style of the tree. With an error there is no run, and the sink is
+    // unchanged.
     ensures run { IsUnresolvedRunOn (F.answers reader.now) tree.now (S.taken sink.old) (S.taken sink.new) result }
-    // That run ended with Device if the sink counted a failure, and only then.
+    // The sink counts a failure if and only if that run ended with `Device`.
     ensures failures { IfOk result (λ run. S.failures sink.new ≡ failures_by is_device run.ended (S.failures sink.old)) }
-    // If there was no run, the sink didn't fail.
+    // Without a run the sink counts no failure.
     ensures failed { IfErr result (λ _. S.failures sink.new ≡ S.failures sink.old) }
 {
     let PartedFiles { accepted, faults } = tree_files(rt, alloc, reader, tree, READERS)?;

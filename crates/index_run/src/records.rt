@@ -1,4 +1,4 @@
-//! An index whose documents are written already, put into a sink.
+//! Writing an index whose documents are already in their written form.
 ghost use Rattle.std.specs.Prelude.{◌≡◌, ◌++◌, None, OnOk, Some, map};
 ghost use Rattle.std.specs.List.{flat_map};
 ghost use Rattle.byte_sink.specs.Sinks.{failures_after, Puts};
@@ -11,7 +11,7 @@ use byte_sink::{Sink, SinkFault, put_all};
 use scip_index::{IndexWriter, Metadata, SymbolInfo};
 use std::alloc::Global;
 
-/// Puts the metadata's record. At a refusal a front of it is taken.
+/// Writes the record of the metadata. After an error the sink has a prefix of it.
 fn put_metadata<S: Sink>(
     writer: &mut IndexWriter,
     metadata: &Metadata,
@@ -30,8 +30,8 @@ fn put_metadata<S: Sink>(
     }
 }
 
-/// Puts the records of documents as they are, one after the other, each given up once it is put. At a refusal a front of them is
-/// taken.
+/// Writes the records of documents as they are, one after the other, and drops each once it is written. After an error the sink has a
+/// prefix of them.
 fn put_records<S: Sink>(records: Vec<Vec<u8>>, sink: &mut S) -> Result<(), SinkFault>
     ensures puts { Puts (S.taken sink.old) (S.taken sink.new) result (flat_map (λ row. row.items) records.items) }
     ensures failures { S.failures sink.new ≡ failures_after result (S.failures sink.old) }
@@ -42,7 +42,7 @@ fn put_records<S: Sink>(records: Vec<Vec<u8>>, sink: &mut S) -> Result<(), SinkF
     Ok(())
 }
 
-/// Puts the records of the external symbols. At a refusal a front of them is taken.
+/// Writes the records of the external symbols. After an error the sink has a prefix of them.
 fn put_externals<S: Sink>(
     writer: &mut IndexWriter,
     external_symbols: &[SymbolInfo],
@@ -59,8 +59,9 @@ fn put_externals<S: Sink>(
     }
 }
 
-/// Puts an index in its parts: what it says of itself, the records of its documents as they are, each given up once it is put, and
-/// its external symbols (scip.proto). At a refusal a front of them is taken.
+/// Writes an index from its parts (scip.proto, `Index`): its metadata, the records of its documents, and its external symbols.
+/// Writes the records as they are, and drops each once it is written. Fails with the fault of the sink, `Device` or `Memory`; the sink then
+/// has a prefix of the index.
 pub fn put_written<S: Sink>(
     alloc: Global,
     metadata: &Metadata,
@@ -68,10 +69,10 @@ pub fn put_written<S: Sink>(
     external_symbols: &[SymbolInfo],
     sink: &mut S,
 ) -> Result<(), SinkFault>
-    // All parts at Ok, and a front of them at a refusal.
+    // With `Ok` the sink took the records of the metadata, the documents and the external symbols, otherwise a prefix of them.
     ensures puts { Puts (S.taken sink.old) (S.taken sink.new) result
         (metadata_part (Some (plain_metadata metadata.now)) ++ flat_map (λ row. row.items) records.items ++ externals_part (map plain_symbol external_symbols.now)) }
-    // Device is answered where the sink counted a failure, and nowhere else.
+    // The sink counts a failure if and only if the result is `Device`.
     ensures failures { S.failures sink.new ≡ failures_after result (S.failures sink.old) }
 {
     let mut writer = IndexWriter::new(alloc);

@@ -1,7 +1,7 @@
-//! The program: reads files, runs one engine on the real standard output, and ends with a status.
+//! The program: parses the command line, runs one engine on the files of the system and standard output, and returns an exit status.
 //! Depends on `oscip_job` for the command line, on `oscip_run` and `index_run` for the engines, the files and the ends of runs, and on
-//! `atomic_file` for an index that replaces its file as a whole.
-//! Its contract: it is safe. What it writes, and its status, is what the calls of these crates promise.
+//! `atomic_file` for replacing an index.
+//! It is proved to be safe. What it writes, and its status, is what the calls of these crates promise.
 #![tactic(auto)]
 
 ghost use Rattle.std.specs.String.{string_bytes};
@@ -27,7 +27,7 @@ use std::thread::Threads;
 use std::{env, fs, io};
 use text_escape::PlaceStyle;
 
-/// The fault of a file with this path that can't be written, or `Memory`.
+/// The fault that the file of this path can't be written, or `Memory`.
 fn cannot_write(alloc: Global, path: &str) -> RunFault {
     match String::from_str(alloc, path) {
         Ok(path) => RunFault::CannotWrite { path },
@@ -35,7 +35,8 @@ fn cannot_write(alloc: Global, path: &str) -> RunFault {
     }
 }
 
-/// Writes an index to the file of this path, which is made or emptied first.
+/// Writes an index to the file of this path, after creating or emptying the file. Fails with `CannotWrite` for the path if the file can't
+/// be opened or written.
 fn index_to_file<R: Files + AllocGlobal + Threads + Wait + Sync>(
     rt: &R,
     indexing: &Indexing,
@@ -56,7 +57,8 @@ fn index_to_file<R: Files + AllocGlobal + Threads + Wait + Sync>(
     }
 }
 
-/// Replaces the content of the file of this path by an index.
+/// Replaces the content of the file of this path atomically by an index. Fails with `CannotWrite` for the path of the file, or of the
+/// partial file.
 fn replace_index<R: Files<File = File> + AllocGlobal + Threads + Wait + Sync>(
     rt: &R,
     indexing: &Indexing,
@@ -88,7 +90,7 @@ fn replace_index<R: Files<File = File> + AllocGlobal + Threads + Wait + Sync>(
     }
 }
 
-/// Writes an index where the job says.
+/// Writes an index to the output of the job.
 fn write_index<R: Files<File = File> + AllocGlobal + Threads + Wait + Sync, S: Sink>(
     rt: &R,
     indexing: &Indexing,
@@ -108,7 +110,7 @@ fn write_index<R: Files<File = File> + AllocGlobal + Threads + Wait + Sync, S: S
     }
 }
 
-/// Makes an index, once all files of its folder are read.
+/// Makes an index, once all files of its folder have been read.
 fn run_index<R: Files<File = File> + AllocGlobal + Threads + Wait + Sync, F: Reader, S: Sink>(
     rt: &R,
     reader: &F,
@@ -128,7 +130,7 @@ fn run_index<R: Files<File = File> + AllocGlobal + Threads + Wait + Sync, F: Rea
     })
 }
 
-/// Runs the job on the real files and the real standard output.
+/// Runs the job on the files of the system and standard output.
 fn run_job<
     R: Files<File = File> + AllocGlobal + Print + Threads + Wait + Sync + Clone + Drop,
     E: Sink,
@@ -155,7 +157,7 @@ fn run_job<
     end_of_tree(alloc, run, style, stderr)
 }
 
-/// Runs the job, reports its fault, and returns the status.
+/// Runs the job, reports its fault, and returns the exit status.
 fn end_of_job<
     R: Files<File = File> + AllocGlobal + Print + Threads + Wait + Sync + Clone + Drop,
     E: Sink,
@@ -169,7 +171,7 @@ fn end_of_job<
     end_of(&ended, line, stderr)
 }
 
-/// Reports why there is no job, or writes the help, and returns the status.
+/// Reports why there is no job, or writes the help, and returns the exit status.
 fn end_of_words<R: AllocGlobal + Print, E: Sink>(
     rt: &R,
     fault: &JobFault,
@@ -190,7 +192,7 @@ fn run<R: Files<File = File> + AllocGlobal + Print + Threads + Wait + Sync + Clo
     }
 }
 
-/// Why there is no job if a word of the command line isn't UTF-8.
+/// The fault for a command line with an argument that isn't UTF-8.
 fn not_words(alloc: Global) -> JobFault {
     match String::from_str(alloc, "error: a word of the command line isn't UTF-8\n") {
         Ok(text) => JobFault::Line { text },
@@ -198,7 +200,7 @@ fn not_words(alloc: Global) -> JobFault {
     }
 }
 
-/// The words of the command line, the program's name first.
+/// The arguments of the command line, the program's name first.
 fn words_of<R: Env + AllocGlobal>(rt: &R) -> io::Result<Vec<String>> {
     let words = env::args(rt)?;
     Ok(words.collect(rt.alloc())?)

@@ -1,4 +1,4 @@
--- What a run of a question to an index reads and puts.
+-- What a run of a question about an index reads and writes.
 use Rattle.std.specs.Prelude.{◌≡◌, ℕ, List, Option, option_map, Result, Ok, Err}
 use Rattle.std.specs.String.{string_bytes}
 use Rattle.index_store.specs.declared.place.Position.{Position}
@@ -18,27 +18,27 @@ use Rattle.index_store.specs.declared.query_fault.QueryFault.{QueryFault}
 use Rattle.oscip_run.specs.declared.fault.RunFault.{RunFault}
 use Rattle.oscip_run.specs.Faults.{of_query}
 
--- a position of a question
+-- the position of a question, as index_store takes it
 abbrev pub position_of : job.Position → Position
 position_of at = record { line = at.line; column = at.column }
 
--- the places that a question asks for, as the index tells them
+-- the kind of occurrence of a question, as index_store takes it
 abbrev pub which_of : Places → Which
 which_of places.Definitions = Definitions
 which_of places.References = References
 
--- a run for the places of a symbol, written in this style: of the one at a position, or of the one of a text
+-- a run for the locations of a symbol, in this style; the symbol is given by a position or by its text
 abbrev pub IsPlacesRun : Style → List ℕ → Places → AskedSymbol → Option (List ℕ) → Option (List ℕ) → Result (Unit {0}) QueryFault → Type 0
 IsPlacesRun style index places (At at) old new result = IsQueryRun style index (string_bytes at.path) (position_of at) (which_of places) old new result
 IsPlacesRun style index places (Named symbol path) old new result = IsNamedRun style index (option_map string_bytes path) (string_bytes symbol) (which_of places) old new result
 
--- a run for what is asked of an index
+-- a run of a question about an index: for locations of a symbol, for the symbol at a position, or for definitions
 abbrev pub IsIndexRun : Style → List ℕ → IndexQuestion → Option (List ℕ) → Option (List ℕ) → Result (Unit {0}) QueryFault → Type 0
 IsIndexRun style index (PlacesOf places symbol) old new result = IsPlacesRun style index places symbol old new result
 IsIndexRun style index (SymbolAt at) old new result = IsSymbolRun index (string_bytes at.path) (position_of at) old new result
 IsIndexRun style index (Symbols path) old new result = IsSymbolsRun style index (option_map string_bytes path) old new result
 
--- a run of a question to the bytes of an index; its fault is that of the lower crate
+-- a run of a question about the bytes of an index, with the fault of index_store as the fault of the run
 abbrev pub IsAskedRun : Style → List ℕ → IndexQuestion → Option (List ℕ) → Option (List ℕ) → Result (Unit {0}) RunFault → Type 0
 IsAskedRun style index question old new (Ok _) = IsIndexRun style index question old new (Ok tt)
 IsAskedRun style index question old new (Err fault) = (lower : QueryFault) × (fault ≡ of_query lower) × IsIndexRun style index question old new (Err lower)

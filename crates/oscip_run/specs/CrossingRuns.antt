@@ -1,4 +1,4 @@
--- What a run that tells where a module uses another reads and puts.
+-- What a run that prints where a module uses another one reads and writes.
 use Rattle.std.specs.Prelude.{◌≡◌, ◌⊎◌, ℕ, List, map, Option, Result, Ok, Err}
 use Rattle.std.specs.Io.KnownBytes.{Appends, Keeps}
 use Rattle.std.specs.String.{string_bytes}
@@ -15,39 +15,39 @@ use Rattle.oscip_tree.specs.Crossings.{AreUses, IsNoModule, IsNoNode}
 use Rattle.oscip_tree.specs.declared.crossing.Span.{Span}
 use Rattle.oscip_tree.specs.declared.source.Source.{Source}
 
--- a place in the file of this path
+-- the location of a span in the file of this path
 abbrev pub place_in_file : List ℕ → Span → PlainPlace
 place_in_file path span = record {
   path = path;
   span = record { start = record { line = span.start.line; column = span.start.column }; end = record { line = span.end.line; column = span.end.column } };
 }
 
--- the text has exactly the lines of the places where the one module uses the other, in this style
+-- the text has exactly the lines of the locations where module m uses module n, in this style
 pub record IsUsesText (style : Style) (sources : List Source) (m n text : List ℕ) : Type 0 where
   pub path : List ℕ
   pub spans : List Span
   pub uses : AreUses sources m n path spans
   pub lines : text ≡ place_lines style (map (place_in_file path) spans)
 
--- the sink has the whole text
+-- the sink took the whole text
 abbrev pub PutsUses : Style → List Source → List ℕ → List ℕ → Option (List ℕ) → Option (List ℕ) → Type 0
 PutsUses style sources m n old new = (text : List ℕ) × IsUsesText style sources m n text × Appends old new text
 
--- the sink has a front of it
+-- the sink took a prefix of the text
 abbrev pub PutsUsesFront : Style → List Source → List ℕ → List ℕ → Option (List ℕ) → Option (List ℕ) → Type 0
 PutsUsesFront style sources m n old new = (text : List ℕ) × IsUsesText style sources m n text × AppendsFront old new text
 
--- of the two names this is the first that is none of a module, where the first has to be one of the tree
+-- the name is the first unknown one of the two: m has to be a module with a file, n any module of the network
 abbrev pub IsFirstUnknown : List Source → List ℕ → List ℕ → List ℕ → Type 0
 IsFirstUnknown sources m n name = ((name ≡ m) × IsNoModule sources m) ⊎ ((name ≡ n) × IsNoNode sources m n)
 
--- so says the fault of the names
+-- the fault states the first unknown one of the two names
 abbrev pub IsUnknown : List Source → List ℕ → List ℕ → SolveFault → Type 0
 IsUnknown sources m n solve.SameModule = ⊥
 IsUnknown sources m n (solve.NoSuchModule name) = IsFirstUnknown sources m n (string_bytes name)
 IsUnknown sources m n solve.Memory = ⊥
 
--- a run of the engine: refused input leaves the sink as it was, with the fault that the input has
+-- a run of the engine: a rejected tree or name leaves the sink unchanged; Device or Memory leave it with at most a prefix of the text
 abbrev pub IsCrossingsRun : Style → List Source → List ℕ → List ℕ → Option (List ℕ) → Option (List ℕ) → Result (Unit {0}) RunFault → Type 0
 IsCrossingsRun style sources m n old new (Ok _) = PutsUses style sources m n old new
 IsCrossingsRun style sources m n old new (Err (CannotRead path)) = ⊥
@@ -62,9 +62,9 @@ IsCrossingsRun style sources m n old new (Err (Query fault)) = ⊥
 IsCrossingsRun style sources m n old new (Err Device) = PutsUsesFront style sources m n old new
 IsCrossingsRun style sources m n old new (Err Memory) = Keeps old new ⊎ PutsUsesFront style sources m n old new
 
--- ---- what is made on the way
+-- ---- intermediate results
 
--- the fault says that this name is none of a module, or memory ran out
+-- the fault states that no module has this name, or memory ran out
 abbrev pub IsNoName : List ℕ → RunFault → Type 0
 IsNoName name (CannotRead path) = ⊥
 IsNoName name (CannotWrite path) = ⊥

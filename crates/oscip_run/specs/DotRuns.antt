@@ -1,4 +1,4 @@
--- What a run that draws what a report says reads and puts.
+-- What a run that draws a report reads and writes.
 use Rattle.std.specs.Prelude.{◌⊎◌, ℕ, Bool, true, false, List, [], Option, Result, Ok, Err}
 use Rattle.std.specs.Io.KnownBytes.{Appends, Keeps}
 use Rattle.byte_sink.specs.Sinks.{AppendsFront}
@@ -11,19 +11,20 @@ use Rattle.oscip_run.specs.declared.fault.RunFault.{RunFault}
 use Rattle.oscip_run.specs.declared.fault.RunFault.TheVariants.{CannotRead, CannotWrite, Tree, Net, Price, Rules, Report, Solve, Query, Device, Memory}
 use Rattle.oscip_run.specs.Runs.{IsRefusedReport}
 
--- the picture of all imports between two modules, of what is said of them; where no cut can be made nothing is removed, and nothing flows
+-- the text is the picture of all imports on paths between two modules, with this claim about them; if no cut exists, nothing is removed and
+-- there is no flow
 abbrev pub IsPictureOf : Network → ℕ → ℕ → Said → List ℕ → Type 0
 IsPictureOf net a b (CutOf total printed flow) text = IsPicture net a b printed flow text
 IsPictureOf net a b (BlockedBy chain) text = IsPicture net a b [] [] text
 
--- the picture that is asked for: the one by flow, or the one of all imports between the two modules
+-- the text is the requested picture: by flow if the first argument is true, or of all imports on paths between the two modules
 abbrev pub IsAskedPicture : Bool → Network → ℕ → ℕ → Said → List ℕ → Type 0
 IsAskedPicture true net a b said text = IsPictureByFlow net a b said text
 IsAskedPicture false net a b said text = IsPictureOf net a b said text
 
--- Below Shows says that a text is such a picture of what is said of two modules.
+-- Below, Shows states that a text is such a picture of a claim about two modules.
 
--- the report is one on the input's network, and the text is the picture of what it says, right or wrong
+-- the report is one on the input's network, and the text is the picture of its claim, right or wrong
 pub record IsDrawn (Shows : Network → ℕ → ℕ → Said → List ℕ → Type 0) (IsOf : Network → Type 0) (report text : List ℕ) : Type 0 where
   pub net : Network
   pub reads : IsOf net
@@ -31,15 +32,16 @@ pub record IsDrawn (Shows : Network → ℕ → ℕ → Said → List ℕ → Ty
   pub says : IsReportOutcome net report (Ok entry)
   pub picture : Shows net entry.from entry.to entry.said text
 
--- the sink has the whole picture
+-- the sink took the whole picture
 abbrev pub PutsDrawn : (Network → ℕ → ℕ → Said → List ℕ → Type 0) → (Network → Type 0) → List ℕ → Option (List ℕ) → Option (List ℕ) → Type 0
 PutsDrawn Shows IsOf report old new = (text : List ℕ) × IsDrawn Shows IsOf report text × Appends old new text
 
--- the sink has a front of the picture
+-- the sink took a prefix of the picture
 abbrev pub PutsDrawnFront : (Network → ℕ → ℕ → Said → List ℕ → Type 0) → (Network → Type 0) → List ℕ → Option (List ℕ) → Option (List ℕ) → Type 0
 PutsDrawnFront Shows IsOf report old new = (text : List ℕ) × IsDrawn Shows IsOf report text × AppendsFront old new text
 
--- a run of the engine: refused input leaves the sink as it was, with the fault that the input has
+-- a run of the engine: rejected input or a rejected report leaves the sink unchanged; Device or Memory leave it with at most a prefix of
+-- the picture
 abbrev pub IsDotRun : (Network → ℕ → ℕ → Said → List ℕ → Type 0) → (Network → Type 0) → (RunFault → Type 0) → List ℕ → Option (List ℕ) → Option (List ℕ) → Result (Unit {0}) RunFault → Type 0
 IsDotRun Shows IsOf IsRefused report old new (Ok _) = PutsDrawn Shows IsOf report old new
 IsDotRun Shows IsOf IsRefused report old new (Err (CannotRead path)) = ⊥

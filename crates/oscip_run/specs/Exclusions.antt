@@ -8,6 +8,6 @@ use Rattle.oscip_tree.specs.declared.source.Source.{Source}
 abbrev pub AreIncludedPaths : List (List ℕ) → List (List ℕ) → Type 0
 AreIncludedPaths patterns paths = All (λ path. IsExcluded patterns path → ⊥) paths
 
--- no pattern excludes one of the files
+-- no pattern excludes the path of one of the files
 abbrev pub AreIncluded : List (List ℕ) → List Source → Type 0
 AreIncluded patterns sources = AreIncludedPaths patterns (map (λ (source : Source). string_bytes source.path) sources)

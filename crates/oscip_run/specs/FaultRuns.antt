@@ -1,4 +1,4 @@
--- What a run that tells all faults of a tree reads and puts.
+-- What a run that lists the faults of a tree reads and writes.
 use Rattle.std.specs.Prelude.{◌≡◌, ◌⊎◌, ◌↔◌, ℕ, Bool, IsTrue, List, [], ◌∷◌, ◌++◌, map, Option, Result, Ok, Err, codes}
 use Rattle.std.specs.Io.KnownBytes.{Appends, Keeps}
 use Rattle.std.specs.List.{flat_map}
@@ -13,35 +13,35 @@ use Rattle.oscip_tree.specs.declared.tree_fault.TreeFault.{TreeFault}
 use Rattle.text_escape.specs.Escapes.{escaped}
 use Rattle.text_escape.specs.Places.{plain_style, Style}
 
--- what is told of a fault, with control characters written out, and the end of the line
+-- the line of a fault's text: its control characters are escaped, and an LF follows
 abbrev pub told_line : List ℕ → List ℕ
 told_line told = escaped told ++ codes "\n"
 
--- a line for each of the faults, in their order, places in this style
+-- a line for each of the faults, in their order, with locations in this style
 abbrev pub fault_lines : Style → List TreeFault → List ℕ
 fault_lines style faults = flat_map told_line (map (tree_fault_text style) faults)
 
--- the same, and `yes` where there is none
+-- a line for each of the faults, in their order, or yes if there is none
 abbrev pub faults_text : Style → List TreeFault → List ℕ
 faults_text style [] = codes "yes\n"
 faults_text style (fault ∷ faults) = fault_lines style (fault ∷ faults)
 
--- the text tells all that the tree is refused for, and the answer is whether it is accepted
+-- the text has a line for each fault for which the tree is rejected, or is yes, and the result is whether the tree is accepted
 pub record IsFaultsText (style : Style) (sources : List Source) (text : List ℕ) (agrees : Bool) : Type 0 where
   pub faults : List TreeFault
   pub are_faults : AreTreeFaults sources faults
   pub text_is : text ≡ faults_text style faults
   pub agrees_is : IsTrue agrees ↔ ((files : List ModuleFile) × IsTree sources files)
 
--- the sink has the whole text
+-- the sink took the whole text
 abbrev pub PutsFaults : Style → List Source → Option (List ℕ) → Option (List ℕ) → Bool → Type 0
 PutsFaults style sources old new agrees = (text : List ℕ) × IsFaultsText style sources text agrees × Appends old new text
 
--- the sink has a front of it
+-- the sink took a prefix of the text
 abbrev pub PutsFaultsFront : Style → List Source → Option (List ℕ) → Option (List ℕ) → Type 0
 PutsFaultsFront style sources old new = (text : List ℕ) × (agrees : Bool) × IsFaultsText style sources text agrees × AppendsFront old new text
 
--- a run of the engine, which refuses no tree
+-- a run of the engine, which rejects no tree: Device or Memory leave the sink with at most a prefix of the text
 abbrev pub IsFaultsRun : Style → List Source → Option (List ℕ) → Option (List ℕ) → Result Bool RunFault → Type 0
 IsFaultsRun style sources old new (Ok agrees) = PutsFaults style sources old new agrees
 IsFaultsRun style sources old new (Err (CannotRead path)) = ⊥

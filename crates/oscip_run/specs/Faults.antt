@@ -1,4 +1,4 @@
--- How the faults of the lower crates become those of a run, what is told of them, and how a run ends.
+-- The conversion of faults of other crates to those of a run, the texts of faults, and their exit statuses.
 use Rattle.std.specs.Prelude.{ℕ, Bool, true, false, List, ◌++◌, codes, if◌then◌else◌}
 use Rattle.std.specs.List.{flat_map}
 use Rattle.std.specs.Fmt.{decimal}
@@ -25,10 +25,11 @@ use Rattle.text_escape.specs.Places.{Style}
 use Rattle.oscip_tree.specs.declared.tree_fault.TreeFault.{TreeFault}
 use Rattle.oscip_tree.specs.TreeFaults.{after_space, tree_fault_text, wants_memory}
 
--- want of memory is one fault, whoever met it
+-- the fault of a run for a fault of a tree, with one Memory for each failed allocation
 abbrev pub of_tree : TreeFault → RunFault
 of_tree fault = if wants_memory fault then Memory else Tree fault
 
+-- the fault of a run for a fault of a network
 abbrev pub of_net : NetFault → RunFault
 of_net (net.BadLine line) = Net (net.BadLine line)
 of_net (net.TwiceImport line) = Net (net.TwiceImport line)
@@ -37,6 +38,7 @@ of_net net.WeightOverflow = Net net.WeightOverflow
 of_net (net.TooMany line) = Net (net.TooMany line)
 of_net net.Memory = Memory
 
+-- the fault of a run for a fault of prices
 abbrev pub of_price : PriceFault → RunFault
 of_price (price.BadLine line) = Price (price.BadLine line)
 of_price (price.NoSuchImport line) = Price (price.NoSuchImport line)
@@ -44,6 +46,7 @@ of_price (price.TwicePrice line) = Price (price.TwicePrice line)
 of_price price.PriceOverflow = Price price.PriceOverflow
 of_price price.Memory = Memory
 
+-- the fault of a run for a fault of rules
 abbrev pub of_rules : RulesFault → RunFault
 of_rules (rules.BadLine line) = Rules (rules.BadLine line)
 of_rules (rules.SetIsModule line name) = Rules (rules.SetIsModule line name)
@@ -53,7 +56,7 @@ of_rules (rules.EmptySet line text) = Rules (rules.EmptySet line text)
 of_rules (rules.TooMany line) = Rules (rules.TooMany line)
 of_rules rules.Memory = Memory
 
--- and so is a failed device
+-- the fault of a run for a fault of a report, with one Device for each failed device
 abbrev pub of_report : ReportFault → RunFault
 of_report (report.BadLine line) = Report (report.BadLine line)
 of_report (report.UnknownName line) = Report (report.UnknownName line)
@@ -62,21 +65,25 @@ of_report report.NoEnd = Report report.NoEnd
 of_report report.Device = Device
 of_report report.Memory = Memory
 
+-- the fault of a run for a fault of the solver
 abbrev pub of_solve : SolveFault → RunFault
 of_solve solve.SameModule = Solve solve.SameModule
 of_solve (solve.NoSuchModule name) = Solve (solve.NoSuchModule name)
 of_solve solve.Memory = Memory
 
+-- the fault of a run for a fault of a query
 abbrev pub of_query : QueryFault → RunFault
 of_query (query.Wire fault) = Query (query.Wire fault)
 of_query query.NoDocument = Query query.NoDocument
 of_query query.Device = Device
 of_query query.Memory = Memory
 
+-- the fault of a run for a fault of a sink
 abbrev pub of_sink : SinkFault → RunFault
 of_sink sink.Memory = Memory
 of_sink sink.Device = Device
 
+-- the text of a fault of a network
 abbrev pub net_fault_text : NetFault → List ℕ
 net_fault_text (net.BadLine line) = decimal line ++ codes ": BadLine"
 net_fault_text (net.TwiceImport line) = decimal line ++ codes ": TwiceImport"
@@ -85,6 +92,7 @@ net_fault_text net.WeightOverflow = codes "WeightOverflow"
 net_fault_text (net.TooMany line) = decimal line ++ codes ": TooMany"
 net_fault_text net.Memory = codes "Memory"
 
+-- the text of a fault of prices
 abbrev pub price_fault_text : PriceFault → List ℕ
 price_fault_text (price.BadLine line) = decimal line ++ codes ": BadLine"
 price_fault_text (price.NoSuchImport line) = decimal line ++ codes ": NoSuchImport"
@@ -92,6 +100,7 @@ price_fault_text (price.TwicePrice line) = decimal line ++ codes ": TwicePrice"
 price_fault_text price.PriceOverflow = codes "PriceOverflow"
 price_fault_text price.Memory = codes "Memory"
 
+-- the text of a fault of rules
 abbrev pub rules_fault_text : RulesFault → List ℕ
 rules_fault_text (rules.BadLine line) = decimal line ++ codes ": BadLine"
 rules_fault_text (rules.SetIsModule line name) = decimal line ++ (codes ": SetIsModule " ++ string_bytes name)
@@ -101,6 +110,7 @@ rules_fault_text (rules.EmptySet line text) = decimal line ++ (codes ": EmptySet
 rules_fault_text (rules.TooMany line) = decimal line ++ codes ": TooMany"
 rules_fault_text rules.Memory = codes "Memory"
 
+-- the text of a fault of a report
 abbrev pub report_fault_text : ReportFault → List ℕ
 report_fault_text (report.BadLine line) = decimal line ++ codes ": BadLine"
 report_fault_text (report.UnknownName line) = decimal line ++ codes ": UnknownName"
@@ -109,12 +119,13 @@ report_fault_text report.NoEnd = codes "NoEnd"
 report_fault_text report.Device = codes "cannot write"
 report_fault_text report.Memory = codes "Memory"
 
+-- the text of a fault of the solver
 abbrev pub solve_fault_text : SolveFault → List ℕ
 solve_fault_text solve.SameModule = codes "SameModule"
 solve_fault_text (solve.NoSuchModule name) = codes "NoSuchModule " ++ string_bytes name
 solve_fault_text solve.Memory = codes "Memory"
 
--- what is told of a fault, places in files of a tree in this style
+-- the text of a fault, with locations in files of a tree in this style
 abbrev pub fault_text : Style → RunFault → List ℕ
 fault_text style (CannotRead path) = codes "cannot read " ++ string_bytes path
 fault_text style (CannotWrite path) = codes "cannot write " ++ string_bytes path
@@ -128,7 +139,7 @@ fault_text style (Query fault) = query_fault_text fault
 fault_text style Device = codes "cannot write"
 fault_text style Memory = codes "Memory"
 
--- the status: 1 for refused input, 3 for a file or a device, 4 for memory
+-- the status of a fault of a network: 1 for rejected input, 4 for memory
 abbrev pub net_status : NetFault → ℕ
 net_status (net.BadLine line) = 1
 net_status (net.TwiceImport line) = 1
@@ -137,6 +148,7 @@ net_status net.WeightOverflow = 1
 net_status (net.TooMany line) = 1
 net_status net.Memory = 4
 
+-- the status of a fault of prices: 1 for rejected input, 4 for memory
 abbrev pub price_status : PriceFault → ℕ
 price_status (price.BadLine line) = 1
 price_status (price.NoSuchImport line) = 1
@@ -144,6 +156,7 @@ price_status (price.TwicePrice line) = 1
 price_status price.PriceOverflow = 1
 price_status price.Memory = 4
 
+-- the status of a fault of rules: 1 for rejected input, 4 for memory
 abbrev pub rules_status : RulesFault → ℕ
 rules_status (rules.BadLine line) = 1
 rules_status (rules.SetIsModule line name) = 1
@@ -153,6 +166,7 @@ rules_status (rules.EmptySet line text) = 1
 rules_status (rules.TooMany line) = 1
 rules_status rules.Memory = 4
 
+-- the status of a fault of a report: 1 for rejected input, 3 for a device, 4 for memory
 abbrev pub report_status : ReportFault → ℕ
 report_status (report.BadLine line) = 1
 report_status (report.UnknownName line) = 1
@@ -161,14 +175,17 @@ report_status report.NoEnd = 1
 report_status report.Device = 3
 report_status report.Memory = 4
 
+-- the status of a fault of the solver: 1 for rejected names, 4 for memory
 abbrev pub solve_status : SolveFault → ℕ
 solve_status solve.SameModule = 1
 solve_status (solve.NoSuchModule name) = 1
 solve_status solve.Memory = 4
 
+-- the status of a fault of a tree: 1 for rejected input, 4 for memory
 abbrev pub tree_status : TreeFault → ℕ
 tree_status fault = if wants_memory fault then 4 else 1
 
+-- the status of a fault: 1 for rejected input, 3 for a file or a device, 4 for memory
 abbrev pub status_number : RunFault → ℕ
 status_number (CannotRead path) = 3
 status_number (CannotWrite path) = 3
@@ -182,7 +199,7 @@ status_number (Query fault) = query_status fault
 status_number Device = 3
 status_number Memory = 4
 
--- a device failed in the run
+-- the fault is that of a device
 abbrev pub is_device : RunFault → Bool
 is_device (CannotRead path) = false
 is_device (CannotWrite path) = false

@@ -1,4 +1,4 @@
--- What the runs that tell the imports of an input read and put: its network as a text, and the chain of imports between two modules.
+-- What the runs of net and why read and write: the network of an input, and the shortest path of imports between two modules.
 use Rattle.std.specs.Prelude.{◌≡◌, ◌≢◌, ◌⊎◌, ℕ, Bool, true, false, List, [], Option, Some, Result, Ok, Err}
 use Rattle.std.specs.Io.KnownBytes.{Appends, Keeps}
 use Rattle.byte_sink.specs.Sinks.{AppendsFront}
@@ -11,15 +11,15 @@ use Rattle.oscip_run.specs.CutRuns.{IsRefusedNames}
 use Rattle.oscip_run.specs.declared.fault.RunFault.{RunFault}
 use Rattle.oscip_run.specs.declared.fault.RunFault.TheVariants.{CannotRead, CannotWrite, Tree, Net, Price, Rules, Report, Solve, Query, Device, Memory}
 
--- the sink has all of such a text
+-- the sink took all of a text for which IsText holds
 abbrev pub PutsTold : (List ℕ → Type 0) → Option (List ℕ) → Option (List ℕ) → Type 0
 PutsTold IsText old new = (text : List ℕ) × IsText text × Appends old new text
 
--- the sink has a front of it
+-- the sink took a prefix of a text for which IsText holds
 abbrev pub PutsToldFront : (List ℕ → Type 0) → Option (List ℕ) → Option (List ℕ) → Type 0
 PutsToldFront IsText old new = (text : List ℕ) × IsText text × AppendsFront old new text
 
--- a run of an engine that puts such a text, or refuses with such a fault: then it leaves the sink as it was
+-- a run that writes a text for which IsText holds, or fails with a fault for which IsRefused holds and leaves the sink unchanged
 abbrev pub IsToldRun : (List ℕ → Type 0) → (RunFault → Type 0) → Option (List ℕ) → Option (List ℕ) → Result (Unit {0}) RunFault → Type 0
 IsToldRun IsText IsRefused old new (Ok _) = PutsTold IsText old new
 IsToldRun IsText IsRefused old new (Err (CannotRead path)) = ⊥
@@ -34,26 +34,25 @@ IsToldRun IsText IsRefused old new (Err (Query fault)) = ⊥
 IsToldRun IsText IsRefused old new (Err Device) = PutsToldFront IsText old new
 IsToldRun IsText IsRefused old new (Err Memory) = Keeps old new ⊎ PutsToldFront IsText old new
 
--- Below a network is that of the input, a text or a tree.
+-- Below, IsOf net states that net is the network of the input, a text or a tree.
 
--- the text is the one text of the input's network, and read again it says exactly that network
+-- the text is the one that spells the input's network, and parsed again it states exactly that network
 pub record IsNetText (IsOf : Network → Type 0) (text : List ℕ) : Type 0 where
   pub net : Network
   pub reads : IsOf net
   pub spelled : text ≡ net_text net
   pub says : IsNetOutcome text (Ok net)
 
--- a run that tells the input's network
+-- a run that writes the input's network as text
 abbrev pub IsNetTextRun : (Network → Type 0) → (RunFault → Type 0) → Option (List ℕ) → Option (List ℕ) → Result (Unit {0}) RunFault → Type 0
 IsNetTextRun IsOf = IsToldRun (IsNetText IsOf)
 
--- if there is a path of imports from a to b, the text has a line for each import of the shortest one, of several the first by names;
--- otherwise it is empty
+-- the text has a line for each import of the shortest path from a to b, of several the lexicographically smallest; without a path it is empty
 abbrev pub IsPathText : Network → ℕ → ℕ → Bool → List ℕ → Type 0
 IsPathText net a b true text = (path : List ℕ) × IsLeastChain (Imports net.imports Any) a b path × (text ≡ chain_text net path) × (text ≢ [])
 IsPathText net a b false text = (Chain net.imports Any a b → ⊥) × (text ≡ [])
 
--- the text between the two modules of the input's network that have these names, and whether there is a path
+-- the text is that of the path between the two modules of the input's network that have these names
 pub record IsWhyText (IsOf : Network → Type 0) (first second : List ℕ) (found : Bool) (text : List ℕ) : Type 0 where
   pub net : Network
   pub reads : IsOf net
@@ -64,7 +63,7 @@ pub record IsWhyText (IsOf : Network → Type 0) (first second : List ℕ) (foun
   pub apart : a ≢ b
   pub exact : IsPathText net a b found text
 
--- the input is refused with this fault; or it isn't, and the names are
+-- the input is rejected with this fault, or it is accepted and the names are rejected
 abbrev pub IsWhyRefused : (Network → Type 0) → (RunFault → Type 0) → List ℕ → List ℕ → RunFault → Type 0
 IsWhyRefused IsOf IsRefused first second (CannotRead path) = ⊥
 IsWhyRefused IsOf IsRefused first second (CannotWrite path) = ⊥
@@ -78,7 +77,7 @@ IsWhyRefused IsOf IsRefused first second (Query fault) = ⊥
 IsWhyRefused IsOf IsRefused first second Device = ⊥
 IsWhyRefused IsOf IsRefused first second Memory = ⊥
 
--- a run that writes the shortest path of imports between two names; it returns whether there is one
+-- a run that writes the shortest path of imports between the modules of two names, and returns whether there is one
 abbrev pub IsWhyRun : (Network → Type 0) → (RunFault → Type 0) → List ℕ → List ℕ → Option (List ℕ) → Option (List ℕ) → Result Bool RunFault → Type 0
 IsWhyRun IsOf IsRefused first second old new (Ok found) = PutsTold (IsWhyText IsOf first second found) old new
 IsWhyRun IsOf IsRefused first second old new (Err fault) = IsToldRun (IsWhyText IsOf first second true) (IsWhyRefused IsOf IsRefused first second) old new (Err fault)

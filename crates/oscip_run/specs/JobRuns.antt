@@ -1,4 +1,4 @@
--- What a run of a job reads and puts.
+-- What a run of a question about a network reads and writes.
 use Rattle.std.specs.Prelude.{◌≡◌, ℕ, Bool, true, List, Option, None, Result, Ok, Err, IfOk}
 use Rattle.std.specs.String.{string_bytes}
 use Rattle.cut_net.specs.Network.{Network}
@@ -13,29 +13,30 @@ use Rattle.oscip_job.specs.declared.job.Direction.{Direction}
 use Rattle.oscip_job.specs.declared.job.NetQuestion.{NetQuestion}
 use Rattle.oscip_job.specs.declared.job.NetQuestion.TheVariants.{Cut, Check, Dot, Why, Reach}
 
--- the run, without its answer
+-- the result, without its Boolean
 abbrev pub without_answer : Result Bool RunFault → Result (Unit {0}) RunFault
 without_answer (Ok agrees) = Ok tt
 without_answer (Err fault) = Err fault
 
--- a run of the search for a cut between two names; a cut that is put is no check that says no
+-- a run that searches for a cut between two names, and never returns false
 abbrev pub IsCutJobRun : (Network → Type 0) → (RunFault → Type 0) → List ℕ → List ℕ → Option (List ℕ) → Option (List ℕ) → Result Bool RunFault → Type 0
 IsCutJobRun IsOf IsRefused first second old new result =
     IsCutRun IsOf IsRefused first second old new (without_answer result) × IfOk result (λ agrees. agrees ≡ true)
 
--- a run that draws such pictures as Shows says; one that is put is no check that says no
+-- a run that draws a picture for which Shows holds, and never returns false
 abbrev pub IsDotJobRun : (Network → ℕ → ℕ → Said → List ℕ → Type 0) → (Network → Type 0) → (RunFault → Type 0) → List ℕ → Option (List ℕ) → Option (List ℕ) → Result Bool RunFault → Type 0
 IsDotJobRun Shows IsOf IsRefused report old new result =
     IsDotRun Shows IsOf IsRefused report old new (without_answer result) × IfOk result (λ agrees. agrees ≡ true)
 
--- a run that lists what a module reaches, or what reaches it; a list that is written is no check that says no
+-- a run that lists the modules that a module reaches, or that reach it, and never returns false
 abbrev pub IsReachJobRun : (Network → Type 0) → (RunFault → Type 0) → List ℕ → Direction → Option (List ℕ) → Option (List ℕ) → Result Bool RunFault → Type 0
 IsReachJobRun IsOf IsRefused name direction old new result =
     IsReachRun IsOf IsRefused name direction old new (without_answer result) × IfOk result (λ agrees. agrees ≡ true)
 
--- Below a network is that of the input with these prices, where they are given.
+-- Below, IsOf prices net states that net is the network of the input with these prices, if they are given.
 
--- a run of the engine for what is asked of a network, with the question's own names, or with the report; paths don't depend on prices
+-- a run of the engine of a question about a network, with the question's own names or the report; paths and reached modules don't depend on
+-- prices
 abbrev pub IsJobRun : (Option (List ℕ) → Network → Type 0) → (Option (List ℕ) → RunFault → Type 0) → NetQuestion → List ℕ → Option (List ℕ) → Option (List ℕ) → Option (List ℕ) → Result Bool RunFault → Type 0
 IsJobRun IsOf IsRefused (Cut cutting) report prices old new result = IsCutJobRun (IsOf prices) (IsRefused prices) (string_bytes cutting.from) (string_bytes cutting.to) old new result
 IsJobRun IsOf IsRefused (Check reported) report prices old new result = IsCheckRun (IsOf prices) (IsRefused prices) report old new result

@@ -16,12 +16,12 @@ pub record ModuleEntry : Type 0 where
   pub name : List ℕ
   pub path : Option (List ℕ)
 
--- what follows the name in the line of an entry: a blank and the path in this style, if there is one
+-- what follows the name in the line of an entry: a space and the path in this style, if there is a path
 abbrev pub path_suffix : Style → Option (List ℕ) → List ℕ
 path_suffix style (Some path) = codes " " ++ path_text style path
 path_suffix style None = codes ""
 
--- the line of an entry
+-- the line of an entry: its name, and its path if it has one
 abbrev pub entry_line : Style → ModuleEntry → List ℕ
 entry_line style entry = entry.name ++ path_suffix style entry.path ++ codes "\n"
 
@@ -33,12 +33,12 @@ entry_lines style entries = flat_map (entry_line style) entries
 abbrev pub IsDeclaredIn : List ModuleFile → List ℕ → List ℕ → Type 0
 IsDeclaredIn files name path = (file : ModuleFile) × Contains files file × (names file 1 ≡ name) × (file.path ≡ path)
 
--- the path is that of the file that declares the module; without a path no file does
+-- the path is that of the file that declares the module; without a path no file declares it
 abbrev pub IsPathOf : List ModuleFile → List ℕ → Option (List ℕ) → Type 0
 IsPathOf files name (Some path) = IsDeclaredIn files name path
 IsPathOf files name None = (path : List ℕ) → IsDeclaredIn files name path → ⊥
 
--- the text has a line for each module of the tree's network, in the order of the names, with the path of the file that declares it
+-- the text has a line for each module of the tree's network, sorted by name, with the path of the file that declares it, if there is one
 pub record IsModulesText (style : Style) (sources : List Source) (text : List ℕ) : Type 0 where
   pub net : Network
   pub is_net : IsNetOfTree sources net
@@ -59,7 +59,8 @@ IsModulesRun style sources = IsToldRun (IsModulesText style sources) (IsRefusedT
 abbrev pub entry_of : ListedModule → ModuleEntry
 entry_of listed = record { name = listed.name.now; path = option_map (λ path. path.now) listed.path }
 
--- of the first files, whose modules have these numbers: a path is that of a file of the module, and without a path there is no such file
+-- among the first count files, whose modules have these numbers: the path is that of a file of module m, and without a path no file is one
+-- of m
 abbrev pub IsPathAt : List Source → List ℕ → ℕ → ℕ → Option (List ℕ) → Type 0
 IsPathAt sources modules count m (Some path) =
     (i : ℕ) × (i < count) × (slice_index modules i ≡ m) × (source : Source) × (slice_get sources i ≡ Some source) × (path ≡ string_bytes source.path)

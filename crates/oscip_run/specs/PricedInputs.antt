@@ -1,4 +1,4 @@
--- The network of a run: that of its input, a text or a tree, with the prices that are given.
+-- The network of a run: that of its input, a text or a tree, with the given prices. IsOf net states that net is the network of the input.
 use Rattle.std.specs.Prelude.{◌⊎◌, ℕ, List, Option, Some, None, Ok, Err}
 use Rattle.cut_net.specs.Network.{Network}
 use Rattle.cut_net.specs.Prices.{IsPriceOutcome}
@@ -9,20 +9,20 @@ use Rattle.oscip_run.specs.declared.fault.RunFault.TheVariants.{CannotRead, Cann
 use Rattle.oscip_tree.specs.Trees.{IsNetOfTree}
 use Rattle.oscip_tree.specs.declared.source.Source.{Source}
 
--- the prices make this network of the input's
+-- this text of prices makes the network from that of the input
 abbrev pub IsPricedBy : (Network → Type 0) → List ℕ → Network → Type 0
 IsPricedBy IsOf text net = (before : Network) × IsOf before × IsPriceOutcome before text (Ok net)
 
--- the network of the input, with its prices where they are given
+-- the network is that of the input, with its prices if they are given
 abbrev pub IsPricedInput : (Network → Type 0) → Option (List ℕ) → Network → Type 0
 IsPricedInput IsOf None = IsOf
 IsPricedInput IsOf (Some text) = IsPricedBy IsOf text
 
--- the prices say this of the input's network: they are refused with this fault
+-- this text of prices is rejected for the input's network, with this fault of prices
 abbrev pub IsPriceRefusal : (Network → Type 0) → List ℕ → PriceFault → Type 0
 IsPriceRefusal IsOf text fault = (before : Network) × IsOf before × IsPriceOutcome before text (Err fault)
 
--- the same, of the fault of a run
+-- this text of prices is rejected for the input's network, with this fault of a run
 abbrev pub IsRefusedBy : (Network → Type 0) → List ℕ → RunFault → Type 0
 IsRefusedBy IsOf text (CannotRead path) = ⊥
 IsRefusedBy IsOf text (CannotWrite path) = ⊥
@@ -36,34 +36,34 @@ IsRefusedBy IsOf text (Query fault) = ⊥
 IsRefusedBy IsOf text Device = ⊥
 IsRefusedBy IsOf text Memory = ⊥
 
--- the input is refused with this fault; or it isn't, and the prices are, where they are given
+-- the input is rejected with this fault, or its prices are, if they are given
 abbrev pub IsRefusedPriced : (Network → Type 0) → (RunFault → Type 0) → Option (List ℕ) → RunFault → Type 0
 IsRefusedPriced IsOf IsRefused None = IsRefused
 IsRefusedPriced IsOf IsRefused (Some text) = λ fault. IsRefused fault ⊎ IsRefusedBy IsOf text fault
 
 -- ---- of a text
 
--- the network that a text says, with its prices
+-- the network is the one that the text states, with its prices
 abbrev pub IsNetOfPricedText : List ℕ → Option (List ℕ) → Network → Type 0
 IsNetOfPricedText text = IsPricedInput (IsNetOfText text)
 
--- the text or its prices are refused
+-- the text or its prices are rejected with this fault
 abbrev pub IsRefusedPricedText : List ℕ → Option (List ℕ) → RunFault → Type 0
 IsRefusedPricedText text = IsRefusedPriced (IsNetOfText text) (IsRefusedText text)
 
 -- ---- of a tree
 
--- the network of a tree, with its prices
+-- the network is that of the tree, with its prices
 abbrev pub IsNetOfPricedTree : List Source → Option (List ℕ) → Network → Type 0
 IsNetOfPricedTree sources = IsPricedInput (IsNetOfTree sources)
 
--- the tree or its prices are refused
+-- the tree or its prices are rejected with this fault
 abbrev pub IsRefusedPricedTree : List Source → Option (List ℕ) → RunFault → Type 0
 IsRefusedPricedTree sources = IsRefusedPriced (IsNetOfTree sources) (IsRefusedTree sources)
 
--- ---- what is made on the way
+-- ---- intermediate results
 
--- memory ran out, or this is refused
+-- memory ran out, or IsRefused holds for the fault
 abbrev pub IsRefusedOr : (RunFault → Type 0) → RunFault → Type 0
 IsRefusedOr IsRefused (CannotRead path) = ⊥
 IsRefusedOr IsRefused (CannotWrite path) = ⊥

@@ -19,11 +19,11 @@ abbrev pub IsReached : Network → Direction → ℕ → ℕ → Type 0
 IsReached net Imported m n = Reaches (Imports net.imports Any) m n
 IsReached net Importing m n = Reaches (Imports net.imports Any) n m
 
--- an entry without a path
+-- the entry of a module, without a path
 abbrev pub named_entry : Network → ℕ → ModuleEntry
 named_entry net m = record { name = name_of net m; path = None }
 
--- the text has a line with the name of each module that is reached from the module of this name in this direction, in the order of the names
+-- the text has a line with the name of each module that is reached from the module of this name in this direction, sorted by name
 pub record IsReachText (IsOf : Network → Type 0) (name : List ℕ) (direction : Direction) (text : List ℕ) : Type 0 where
   pub net : Network
   pub reads : IsOf net
@@ -34,13 +34,13 @@ pub record IsReachText (IsOf : Network → Type 0) (name : List ℕ) (direction 
   pub exact : (n : ℕ) → Contains reached n ↔ IsReached net direction start n
   pub lines : text ≡ entry_lines plain_style (map (named_entry net) reached)
 
--- the fault says that no module of the network has this name
+-- the fault states that no module of the network has this name
 abbrev pub IsUnknownName : Network → List ℕ → SolveFault → Type 0
 IsUnknownName net name solve.SameModule = ⊥
 IsUnknownName net name (solve.NoSuchModule own) = (index_of net name ≡ None) × (string_bytes own ≡ name)
 IsUnknownName net name solve.Memory = ⊥
 
--- the input is rejected with this fault; or it isn't, and the name is
+-- the input is rejected with this fault, or it is accepted and no module has the name
 abbrev pub IsReachRefused : (Network → Type 0) → (RunFault → Type 0) → List ℕ → RunFault → Type 0
 IsReachRefused IsOf IsRefused name (CannotRead path) = ⊥
 IsReachRefused IsOf IsRefused name (CannotWrite path) = ⊥

@@ -1,4 +1,4 @@
--- What a reader of files and folders answers, and what a question names to be read.
+-- What a reader of files and folders returns, and the paths that a question names.
 use Rattle.std.specs.Prelude.{◌≡◌, ◌⊎◌, ℕ, [], List, Option, Some, None, option_map}
 use Rattle.std.specs.Global.{Vec}
 use Rattle.std.specs.String.{string_bytes}
@@ -10,23 +10,25 @@ use Rattle.oscip_run.specs.Files.{AreFronts, IsFile}
 use Rattle.oscip_run.specs.declared.fault.RunFault.{RunFault}
 use Rattle.oscip_tree.specs.declared.source.Source.{Source}
 
--- an answer to a path: the bytes of the file there, the modules below the folder there but for those that patterns exclude, or the fault of what can't be read
+-- a reading of a path: the bytes of the file, the modules below the folder that no pattern excludes, or the fault of a path that can't be
+-- read
 pub data Reading : Type 0 where
   FileOf : List ℕ → List ℕ → Reading
   FolderOf : List ℕ → List (List ℕ) → List Source → Reading
   Refused : List ℕ → RunFault → Reading
 
--- what is known of an answer of the system: how much is taken, which files are excluded, and which faults there are
+-- what is known of a reading of the system: how many bytes are read, that excluded files are left out, and which faults there are
 abbrev pub IsOfSystem : Reading → Type 0
 IsOfSystem (FileOf path bytes) = IsFile bytes
 IsOfSystem (FolderOf path patterns sources) = AreFronts sources × AreIncluded patterns sources
 IsOfSystem (Refused path fault) = IsReadFault fault
 
--- the paths that a question names beside its network: those of its report and its prices, where it has them
+-- the paths that a question names besides its network: of its report and its prices, if it has them
 pub record PathsBeside : Type 0 where
   pub report : Option (List ℕ)
   pub prices : Option (List ℕ)
 
+-- the paths of a question's report and prices
 abbrev pub paths_beside : NetQuestion → PathsBeside
 paths_beside (Cut cutting) = record { report = None; prices = option_map string_bytes cutting.prices }
 paths_beside (Check reported) = record { report = Some (string_bytes reported.report); prices = option_map string_bytes reported.prices }
@@ -34,40 +36,40 @@ paths_beside (Dot drawing) = record { report = Some (string_bytes drawing.report
 paths_beside (Why names) = record { report = None; prices = None }
 paths_beside (Reach reaching) = record { report = None; prices = None }
 
--- Below Answers are the answers of a reader.
+-- Below, Answers holds for the readings that a reader may return.
 
--- of a path that is named these are the bytes that the reader gave, and none are given where none is named
+-- the bytes are those that the reader returned for the path; without a path there are none
 abbrev pub IsGiven : (Reading → Type 0) → Option (List ℕ) → Option (List ℕ) → Type 0
 IsGiven Answers None given = given ≡ None
 IsGiven Answers (Some path) given = (bytes : List ℕ) × (given ≡ Some bytes) × Answers (FileOf path bytes)
 
--- a path is named, and the reader refused it with this fault
+-- there is a path, and the reader returned this fault for it
 abbrev pub IsNotGiven : (Reading → Type 0) → Option (List ℕ) → RunFault → Type 0
 IsNotGiven Answers None fault = ⊥
 IsNotGiven Answers (Some path) fault = Answers (Refused path fault)
 
--- this report and these prices are given, where the question names them
+-- the report and the prices are those that the reader returned for their paths, if the question names them
 pub record AreGiven (Answers : Reading → Type 0) (paths : PathsBeside) (report prices : Option (List ℕ)) : Type 0 where
   pub report_given : IsGiven Answers paths.report report
   pub prices_given : IsGiven Answers paths.prices prices
 
--- the report is refused; or it isn't, and the prices are
+-- the reader returned the fault for the report, or it returned the report and the fault for the prices
 abbrev pub AreNotGiven : (Reading → Type 0) → PathsBeside → RunFault → Type 0
 AreNotGiven Answers paths fault =
     IsNotGiven Answers paths.report fault ⊎ (((report : Option (List ℕ)) × IsGiven Answers paths.report report) × IsNotGiven Answers paths.prices fault)
 
--- the network is refused; or it isn't, and what is read behind it is
+-- the reader returned the fault for the network, or it returned the network and the fault for one of the files that follow
 abbrev pub IsNetNotGiven : (Reading → Type 0) → List ℕ → PathsBeside → RunFault → Type 0
 IsNetNotGiven Answers path beside fault =
     Answers (Refused path fault) ⊎ (((network : List ℕ) × Answers (FileOf path network)) × AreNotGiven Answers beside fault)
 
--- ---- what is made on the way
+-- ---- intermediate results
 
--- the bytes that were given, if any were
+-- the bytes, if any were read
 abbrev pub given_bytes : Option (Vec ℕ) → Option (List ℕ)
 given_bytes given = option_map (λ (bytes : Vec ℕ). bytes.items) given
 
--- the bytes, and none where nothing was given
+-- the bytes, or no bytes if none were read
 abbrev pub bytes_or_none : Option (List ℕ) → List ℕ
 bytes_or_none None = []
 bytes_or_none (Some bytes) = bytes

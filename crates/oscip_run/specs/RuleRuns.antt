@@ -19,16 +19,16 @@ use Rattle.oscip_tree.specs.Trees.{IsNetOfTree}
 use Rattle.oscip_tree.specs.declared.import_sites.ImportSite.{ImportSite}
 use Rattle.oscip_tree.specs.declared.source.Source.{Source}
 
--- the path of the import's file, and its position there
+-- the site has the path of the import's file and its position there
 abbrev pub IsSiteIn : List Source → ImportSite → Site → Type 0
 IsSiteIn sources i site = (source : Source) × (slice_get sources i.file ≡ Some source) × (site.path.now ≡ string_bytes source.path) × (site.line ≡ i.position.line) × (site.column ≡ i.position.column)
 
--- those of all imports, in their order
+-- the sites are those of all imports, in the order of the imports
 pub record AreSitesIn (sources : List Source) (imports : List ImportSite) (sites : List Site) : Type 0 where
   pub as_many : length sites ≡ length imports
   pub each : (k : ℕ) (i : ImportSite) (site : Site) → slice_get imports k ≡ Some i → slice_get sites k ≡ Some site → IsSiteIn sources i site
 
--- the network of a tree; its files, each with its path and the number of its module there; and where its imports are
+-- the network of a tree; its files, each with its path and the number of its module; and the sites of its imports
 pub record IsRuledTree (sources : List Source) (net : Network) (files : List File) (sites : List Site) : Type 0 where
   pub is_net : IsNetOfTree sources net
   pub paths : map (λ (f : File). f.path.now) files ≡ map (λ (s : Source). string_bytes s.path) sources
@@ -37,18 +37,18 @@ pub record IsRuledTree (sources : List Source) (net : Network) (files : List Fil
   pub are_imports : AreSitesOf sources net imports
   pub are_sites : AreSitesIn sources imports sites
 
--- it is this network, with these files and sites
+-- the second network, files and sites are the first
 abbrev pub AreThese : Network → List File → List Site → Network → List File → List Site → Type 0
 AreThese net files sites other others their = (other ≡ net) × (others ≡ files) × (their ≡ sites)
 
--- Below IsOf states that a network, files and sites are those of the input.
+-- Below, IsOf states that a network, files and sites are those of the input.
 
--- the text is rejected for nothing
+-- no line of the rules has a fault
 abbrev pub IsFaultless : Network → List File → List ℕ → Type 0
 IsFaultless net files rules = (fault : RulesFault) → IsRefusal net files (pieces_of rules) fault → ⊥
 
 module _ (IsOf : Network → List File → List Site → Type 0) (style : Style) (rules : List ℕ) where
-  -- the text has a line for each import that breaks a rule and for each stale line, or it is yes if there is none, which is the result
+  -- the text has a line for each import that breaks a rule and for each stale line, or is yes if there is none, which is the result
   pub record IsRulesText (text : List ℕ) (clean : Bool) : Type 0 where
     pub net : Network
     pub files : List File
@@ -62,11 +62,11 @@ module _ (IsOf : Network → List File → List Site → Type 0) (style : Style)
     pub text_is : text ≡ verdict_text style net sites violations stale
     pub clean_is : clean ≡ is_clean violations stale
 
-  -- the sink has the whole text
+  -- the sink took the whole text
   abbrev pub PutsRules : Option (List ℕ) → Option (List ℕ) → Bool → Type 0
   PutsRules old new clean = (text : List ℕ) × IsRulesText text clean × Appends old new text
 
-  -- the sink has a prefix of the text
+  -- the sink took a prefix of the text
   pub record PutsRulesFront (old new : Option (List ℕ)) : Type 0 where
     pub net : Network
     pub files : List File
@@ -76,11 +76,12 @@ module _ (IsOf : Network → List File → List Site → Type 0) (style : Style)
     pub prefix : (violations : List Violation) (stale : List Stale) → AreViolations net files (pieces_of rules) violations → AreStaleLines net (pieces_of rules) stale
         → AppendsFront old new (verdict_text style net sites violations stale)
 
-  -- the rules are rejected with this fault, and the input isn't
+  -- the input is accepted, and the rules are rejected with this fault
   abbrev pub IsRefusedRules : RulesFault → Type 0
   IsRefusedRules fault = (net : Network) × (files : List File) × (sites : List Site) × IsOf net files sites × IsRefusal net files (pieces_of rules) fault
 
--- a run of the engine: a fault of the input leaves the sink unchanged
+-- a run of the engine: rejected input or rejected rules leave the sink unchanged; Device or Memory leave it with at most a prefix of the
+-- text
 abbrev pub IsRulesRun : (Network → List File → List Site → Type 0) → (RunFault → Type 0) → Style → List ℕ → Option (List ℕ) → Option (List ℕ) → Result Bool RunFault → Type 0
 IsRulesRun IsOf IsRefused style rules old new (Ok clean) = PutsRules IsOf style rules old new clean
 IsRulesRun IsOf IsRefused style rules old new (Err (CannotRead path)) = ⊥

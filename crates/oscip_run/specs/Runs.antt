@@ -1,4 +1,4 @@
--- What a run of an engine reads and puts.
+-- What a run of an engine reads and writes.
 use Rattle.std.specs.Prelude.{◌≡◌, ◌⊎◌, ℕ, Bool, true, false, List, ◌++◌, Option, Result, Ok, Err, codes}
 use Rattle.std.specs.Io.KnownBytes.{Appends, Keeps}
 use Rattle.cut_net.specs.Network.{Network, name_of}
@@ -17,11 +17,11 @@ use Rattle.oscip_tree.specs.declared.source.Source.{Source}
 use Rattle.oscip_tree.specs.TreeFaults.{wants_memory}
 use Rattle.oscip_tree.specs.Trees.{IsTreeFault}
 
--- the text says this network
+-- the text states this network
 abbrev pub IsNetOfText : List ℕ → Network → Type 0
 IsNetOfText text net = IsNetOutcome text (Ok net)
 
--- the text of a network is refused with this fault
+-- the text of a network is rejected with this fault, which is not Memory
 abbrev pub IsRefusedText : List ℕ → RunFault → Type 0
 IsRefusedText text (CannotRead path) = ⊥
 IsRefusedText text (CannotWrite path) = ⊥
@@ -35,7 +35,7 @@ IsRefusedText text (Query fault) = ⊥
 IsRefusedText text Device = ⊥
 IsRefusedText text Memory = ⊥
 
--- the tree of these files is refused with this fault
+-- the tree of these files is rejected with this fault, which is not Memory
 abbrev pub IsRefusedTree : List Source → RunFault → Type 0
 IsRefusedTree sources (CannotRead path) = ⊥
 IsRefusedTree sources (CannotWrite path) = ⊥
@@ -49,11 +49,11 @@ IsRefusedTree sources (Query fault) = ⊥
 IsRefusedTree sources Device = ⊥
 IsRefusedTree sources Memory = ⊥
 
--- it is this network
+-- the second network is the first
 abbrev pub IsThis : Network → Network → Type 0
 IsThis net other = other ≡ net
 
--- nothing is refused
+-- no input is rejected
 abbrev pub IsNeverRefused : RunFault → Type 0
 IsNeverRefused fault = ⊥
 
@@ -79,9 +79,10 @@ is_yes (NotKept m) = false
 is_yes WrongValue = false
 is_yes (NotPinned from to) = false
 
--- Below a network is that of the input, a text or a tree, with its prices.
+-- Below, IsOf net states that net is the network of the input, a text or a tree, with its prices.
 
--- the report is one on the input's network, of which this is the verdict's line; at yes what it says is a cheapest cut, or that there is none
+-- the line is that of the verdict on the report for the input's network; if it is yes, the report states a cheapest cut, or rightly that
+-- none exists
 pub record IsChecked (IsOf : Network → Type 0) (report line : List ℕ) (agrees : Bool) : Type 0 where
   pub net : Network
   pub reads : IsOf net
@@ -93,19 +94,20 @@ pub record IsChecked (IsOf : Network → Type 0) (report line : List ℕ) (agree
   pub agrees_is : agrees ≡ is_yes verdict
   pub cheapest : agrees ≡ true → IsCheapestSaidWithPins net entry.from entry.to entry.said
 
--- the sink has the whole line of the check
+-- the sink took the whole line of the check
 abbrev pub PutsCheck : (Network → Type 0) → List ℕ → Option (List ℕ) → Option (List ℕ) → Bool → Type 0
 PutsCheck IsOf report old new agrees = (line : List ℕ) × IsChecked IsOf report line agrees × Appends old new line
 
--- the sink has a front of the line of the check
+-- the sink took a prefix of the line of the check
 abbrev pub PutsFront : (Network → Type 0) → List ℕ → Option (List ℕ) → Option (List ℕ) → Type 0
 PutsFront IsOf report old new = (line : List ℕ) × (agrees : Bool) × IsChecked IsOf report line agrees × AppendsFront old new line
 
--- the report was refused with this fault, and the input was not
+-- the input is accepted, and the report is rejected with this fault
 abbrev pub IsRefusedReport : (Network → Type 0) → List ℕ → ReportFault → Type 0
 IsRefusedReport IsOf report fault = (net : Network) × IsOf net × IsReportOutcome net report (Err fault)
 
--- a run of the engine: refused input leaves the sink as it was, with the fault that the input has
+-- a run of the engine: rejected input or a rejected report leaves the sink unchanged; Device or Memory leave it with at most a prefix of
+-- the line
 abbrev pub IsCheckRun : (Network → Type 0) → (RunFault → Type 0) → List ℕ → Option (List ℕ) → Option (List ℕ) → Result Bool RunFault → Type 0
 IsCheckRun IsOf IsRefused report old new (Ok agrees) = PutsCheck IsOf report old new agrees
 IsCheckRun IsOf IsRefused report old new (Err (CannotRead path)) = ⊥

@@ -1,4 +1,4 @@
--- How the places that a job writes are written.
+-- The style in which a job writes locations.
 use Rattle.std.specs.Prelude.{[], if◌then◌else◌}
 use Rattle.std.specs.String.{string_bytes}
 use Rattle.oscip_job.specs.declared.job.Job.{Job}
@@ -6,11 +6,11 @@ use Rattle.oscip_job.specs.declared.job.Job.TheVariants.{Tree, Network, Ask, Ind
 use Rattle.oscip_job.specs.declared.job.SourceTree.{SourceTree}
 use Rattle.text_escape.specs.Places.{Style, editor_style, plain_style}
 
--- the style of a tree's places
+-- the style of locations in the files of a tree: for editors with its folder, or plain
 abbrev pub style_of_tree : SourceTree → Style
 style_of_tree tree = if tree.for_editor then editor_style (string_bytes tree.folder) else plain_style
 
--- the style of a job's places: that of its tree; of an index no path has a folder before it
+-- the style of a job's locations: that of its tree, that of editors without a folder if it queries an index for an editor, otherwise plain
 abbrev pub style_of_job : Job → Style
 style_of_job (Tree tree question) = style_of_tree tree
 style_of_job (Network network question) = plain_style

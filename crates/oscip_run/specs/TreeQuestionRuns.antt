@@ -1,4 +1,4 @@
--- What a run of a question to the modules of a tree reads and writes. Answers are the answers of the reader.
+-- What a run of a question about the modules of a tree reads and writes. Answers holds for the readings that the reader may return.
 use Rattle.std.specs.Prelude.{◌≡◌, ◌⊎◌, ℕ, Bool, true, List, Option, Result, IfOk}
 use Rattle.std.specs.String.{string_bytes}
 use Rattle.oscip_job.specs.declared.job.TreeQuestion.{TreeQuestion}
@@ -17,17 +17,17 @@ use Rattle.oscip_tree.specs.Trees.{IsNetOfTree}
 use Rattle.oscip_tree.specs.declared.source.Source.{Source}
 use Rattle.text_escape.specs.Places.{Style}
 
--- the run, which has no `no`
+-- the run never returns false
 abbrev pub NeverSaysNo : Result Bool RunFault → Type 0
 NeverSaysNo result = IfOk result (λ agrees. agrees ≡ true)
 
--- the file of the rules is refused; or it isn't, and the rules in it are checked
+-- the file of the rules can't be read, or its rules are checked
 abbrev pub IsRulesFileRun : (Reading → Type 0) → Style → List Source → List ℕ → Option (List ℕ) → Option (List ℕ) → Result Bool RunFault → Type 0
 IsRulesFileRun Answers style sources path old new result =
     IsUnread (λ fault. Answers (Refused path fault)) old new result
     ⊎ ((text : List ℕ) × Answers (FileOf path text) × IsRulesRun (IsRuledTree sources) (IsRefusedTree sources) style text old new result)
 
--- a run for what is asked of these modules, with places in this style
+-- a run of a question about these modules, with locations in this style
 abbrev pub IsTreeQuestionRun : (Reading → Type 0) → Style → List Source → TreeQuestion → Option (List ℕ) → Option (List ℕ) → Result Bool RunFault → Type 0
 IsTreeQuestionRun Answers style sources (OfNet question) old new result = IsTreeNetRun Answers sources question old new result
 IsTreeQuestionRun Answers style sources (Crossings names) old new result =

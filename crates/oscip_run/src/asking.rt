@@ -1,4 +1,4 @@
-//! What a question to an index does with its bytes.
+//! The engine of a question about an index.
 ghost use Rattle.std.specs.Prelude.{◌≡◌};
 ghost use Rattle.byte_sink.specs.Sinks.{failures_by};
 ghost use Rattle.index_store.specs.Faults.{is_device as is_query_device};
@@ -13,7 +13,7 @@ use oscip_job::{AskedSymbol, IndexQuestion, Places};
 use std::alloc::Global;
 use text_escape::PlaceStyle;
 
-/// A position of a question, as the index tells it.
+/// The position as `index_store` takes it.
 fn position_of(at: &oscip_job::Position) -> Position
     ensures { result ≡ position_of at.now }
 {
@@ -23,7 +23,7 @@ fn position_of(at: &oscip_job::Position) -> Position
     }
 }
 
-/// The places that a question asks for, as the index tells them.
+/// The kind of occurrence as `index_store` takes it.
 fn which_of(places: Places) -> Which
     ensures { result ≡ which_of places }
 {
@@ -33,7 +33,7 @@ fn which_of(places: Places) -> Which
     }
 }
 
-/// Puts the places of a symbol: of the one at a position, or of the one of a text.
+/// Writes the locations of occurrences of a symbol, which is given by a position or by its text.
 fn put_places<S: Sink>(
     alloc: Global,
     places: Places,
@@ -72,7 +72,7 @@ fn put_places<S: Sink>(
     }
 }
 
-/// Puts what is asked of an index.
+/// Writes the result of a question about an index.
 fn put_asked<S: Sink>(
     alloc: Global,
     question: &IndexQuestion,
@@ -94,9 +94,11 @@ fn put_asked<S: Sink>(
     }
 }
 
-/// Answers a question from the bytes of its index: writes a line for each place where a symbol is defined, or where it is used and
-/// not defined, the symbol at a position, or a line for each definition, places in this style; and nothing if there is none. The
-/// position of the question counts from 0 in each style. Its errors are `Query`, `Device` and `Memory`.
+/// Answers a question from the bytes of its index, and writes nothing if there is no result.
+/// Writes a line for each location where a symbol is defined, or where it is used and not defined, the symbol at a position, or a line for
+/// each definition.
+/// Locations are written in this style. The position of the question counts from 0 in each style.
+/// Fails with `Query`, `Device` or `Memory`.
 pub fn answer_question<S: Sink>(
     alloc: Global,
     question: &IndexQuestion,
@@ -104,9 +106,10 @@ pub fn answer_question<S: Sink>(
     style: PlaceStyle<'_>,
     sink: &mut S,
 ) -> Result<(), RunFault>
-    // What was read, and the lines that the sink took; after a refusal of the input it took nothing.
+    // The query of the question runs with its own symbol or position. After `Device` or `Memory` the sink has at most a prefix of the
+    // lines, after another error none.
     ensures run { IsAskedRun (style_of style.entry) index.now question.now (S.taken sink.old) (S.taken sink.new) result }
-    // Device is answered where the sink counted a failure, and nowhere else.
+    // The sink counts a failure if and only if the result is `Device`.
     ensures failures { S.failures sink.new ≡ failures_by is_device result (S.failures sink.old) }
 {
     put_asked(alloc, question, index, style, sink)?;

@@ -1,4 +1,4 @@
-//! What the command that tells where a module uses another does with the files of a tree, over any sink.
+//! The engine of `crossings`, which prints where a module uses another one, over any sink.
 ghost use Rattle.std.specs.Prelude.{◌≡◌, ℕ, IfOk, List, map};
 ghost use Rattle.byte_sink.specs.Sinks.{failures_by};
 ghost use Rattle.text_escape.specs.Places.{style_of};
@@ -19,7 +19,7 @@ use std::alloc::{AllocError, Global};
 use std::thread::Threads;
 use text_escape::PlaceStyle;
 
-/// A place in the file of this path.
+/// A location in the file of this path.
 fn place_in_file<'a>(path: &'a str, span: &Span) -> Place<'a>
     ensures { plain_place result ≡ place_in_file path.now span.now }
 {
@@ -36,7 +36,7 @@ fn place_in_file<'a>(path: &'a str, span: &Span) -> Place<'a>
     }
 }
 
-/// The places in the file of this path, in their order.
+/// The locations in the file of this path, in the same order.
 fn places_at<'a>(alloc: Global, path: &'a str, spans: &[Span]) -> Result<Vec<Place<'a>>, AllocError>
     ensures { IfOk result (λ places. map plain_place places.items ≡ map (place_in_file path.now) spans.now) }
 {
@@ -47,7 +47,7 @@ fn places_at<'a>(alloc: Global, path: &'a str, spans: &[Span]) -> Result<Vec<Pla
     Ok(places)
 }
 
-/// Writes the lines of the places in the file of this path, in this style.
+/// Writes the lines of the locations in the file of this path, in this style.
 fn put_places<S: Sink>(
     alloc: Global,
     style: PlaceStyle<'_>,
@@ -73,11 +73,12 @@ fn no_such_module(alloc: Global, name: &str) -> RunFault
     }
 }
 
-/// Reads the files of a tree and writes a line for each place where the module of the first name uses that of the second, as
-/// `PATH:LINE:COL-LINE:COL` in this style: from the first byte of the alias to after the name that follows the dot, columns in bytes,
-/// in the order of the file. Control characters of a path are written out. There are as many as the import
-/// weighs, and none where there is no import. Refuses with `Tree` where the tree is refused, then with `Solve` for the first name
-/// that no module has, where the first has to be that of a module of the tree, and with `Device` or `Memory`.
+/// Reads the files of a tree, and writes a line `PATH:LINE:COL-LINE:COL` for each qualified name by which module `from` uses module `to`.
+/// A location begins at the first byte of the alias and ends after the name that follows the dot; columns count bytes.
+/// The lines are in this style and in the order of the file, with the control characters of the path escaped. There are as many as the
+/// import weighs, none without an import.
+/// Fails with `Tree` if the tree is rejected, then with `Solve` for the first unknown name, and with `Device` or `Memory`. The name `from`
+/// has to be that of a module with a file.
 pub fn crossings_tree<R: Threads + Sync, S: Sink>(
     rt: &R,
     alloc: Global,
@@ -87,11 +88,12 @@ pub fn crossings_tree<R: Threads + Sync, S: Sink>(
     style: PlaceStyle<'_>,
     sink: &mut S,
 ) -> Result<(), RunFault>
-    // The files stand in the order of their paths.
+    // The files are sorted by path, each path once.
     requires { ArePathsInOrder sources.now }
-    // What was read, and the lines that the sink took; after a refusal of the input it took nothing.
+    // With `Ok` the sink took exactly the lines of these locations. After `Device` or `Memory` it has at most a prefix of them, after
+    // another error none.
     ensures run { IsCrossingsRun (style_of style.entry) sources.now from.now to.now (S.taken sink.old) (S.taken sink.new) result }
-    // Device is answered where the sink counted a failure, and nowhere else.
+    // The sink counts a failure if and only if the result is `Device`.
     ensures failures { S.failures sink.new ≡ failures_by is_device result (S.failures sink.old) }
 {
     match uses_across(rt, alloc, sources, from, to, READERS)? {

@@ -1,4 +1,4 @@
-//! What the commands that draw do with the bytes of their files, over any sink.
+//! The engines of `dot` and `dot-net`, which draw a report, over any sink.
 ghost use Rattle.std.specs.Prelude.{◌≡◌, ◌<◌, length, option_copied};
 ghost use Rattle.byte_sink.specs.Sinks.{failures_after, failures_by};
 ghost use Rattle.cut_dot.specs.Drawing.{IsDrawingOf};
@@ -22,7 +22,7 @@ use oscip_tree::Source;
 use std::alloc::Global;
 use std::thread::Threads;
 
-/// Puts the picture of what a report says: the one by flow, or the one of all imports between its two modules.
+/// Writes the picture of a report: by flow, or of all imports between its two modules.
 fn put_picture<S: Sink>(
     alloc: Global,
     net: &Net,
@@ -44,7 +44,7 @@ fn put_picture<S: Sink>(
     }
 }
 
-/// Reads a report on a network, and puts the picture of what it says.
+/// Reads a report on a network, and writes its picture.
 fn dot_in<S: Sink>(
     alloc: Global,
     net: &Net,
@@ -60,10 +60,11 @@ fn dot_in<S: Sink>(
     Ok(())
 }
 
-/// Reads a network, its prices where they are given, and then a report on it, and puts the picture of what the report says of its two modules, as a graph in
-/// DOT: by flow, if that is asked for, only the imports that the report removes or gives flow, or those of the path that a `blocked` line
-/// names, and the modules at their ends. See `draw` and `draw_flow` of `cut_dot`. What the report says isn't checked.
-/// Refuses with `Net`, `Price`, `Report`, `Device` or `Memory`.
+/// Reads a network, its prices if they are given, and then a report on it. Writes the picture of the report as a graph in DOT, without
+/// verifying the report.
+/// By flow, the picture has only the imports that the report removes or gives flow, or those of its blocked path, and the modules at their
+/// ends. See `draw` and `draw_flow` of `cut_dot`.
+/// Fails with `Net`, `Price`, `Report`, `Device` or `Memory`.
 pub fn dot_net_bytes<S: Sink>(
     alloc: Global,
     network: &[u8],
@@ -72,17 +73,19 @@ pub fn dot_net_bytes<S: Sink>(
     by_flow: bool,
     sink: &mut S,
 ) -> Result<(), RunFault>
-    // What was read, and the picture that the sink took; after a refusal of the input it took nothing.
+    // With `Ok` the sink took exactly the requested picture. After `Device` or `Memory` it has at most a prefix of it, after another error
+    // none.
     ensures run { IsDotRun (IsAskedPicture by_flow) (IsNetOfPricedText network.now (option_copied prices.entry)) (IsRefusedPricedText network.now (option_copied prices.entry)) report.now (S.taken sink.old) (S.taken sink.new) result }
-    // Device is answered where the sink counted a failure, and nowhere else.
+    // The sink counts a failure if and only if the result is `Device`.
     ensures failures { S.failures sink.new ≡ failures_by is_device result (S.failures sink.old) }
 {
     let net = net_of_text(alloc, network, prices)?;
     dot_in(alloc, &net, report, by_flow, sink)
 }
 
-/// Reads the files of a tree, its prices where they are given, and then a report on it, and puts the picture of what the report says, as `dot_net_bytes` does.
-/// Refuses with `Tree`, `Price`, `Report`, `Device` or `Memory`.
+/// Reads the files of a tree, its prices if they are given, and then a report on its network. Writes the picture of the report, as
+/// `dot_net_bytes` does.
+/// Fails with `Tree`, `Price`, `Report`, `Device` or `Memory`.
 pub fn dot_tree<R: Threads + Sync, S: Sink>(
     rt: &R,
     alloc: Global,
@@ -92,11 +95,12 @@ pub fn dot_tree<R: Threads + Sync, S: Sink>(
     by_flow: bool,
     sink: &mut S,
 ) -> Result<(), RunFault>
-    // The files stand in the order of their paths.
+    // The files are sorted by path, each path once.
     requires { ArePathsInOrder sources.now }
-    // What was read, and the picture that the sink took; after a refusal of the input it took nothing.
+    // With `Ok` the sink took exactly the requested picture. After `Device` or `Memory` it has at most a prefix of it, after another error
+    // none.
     ensures run { IsDotRun (IsAskedPicture by_flow) (IsNetOfPricedTree sources.now (option_copied prices.entry)) (IsRefusedPricedTree sources.now (option_copied prices.entry)) report.now (S.taken sink.old) (S.taken sink.new) result }
-    // Device is answered where the sink counted a failure, and nowhere else.
+    // The sink counts a failure if and only if the result is `Device`.
     ensures failures { S.failures sink.new ≡ failures_by is_device result (S.failures sink.old) }
 {
     let net = net_of_tree(rt, alloc, sources, READERS, prices)?;

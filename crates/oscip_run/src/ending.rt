@@ -1,4 +1,4 @@
-//! How the program ends: what it writes to its streams, and its status.
+//! The end of the program: what it writes to standard output and standard error, and its status.
 ghost use Rattle.std.specs.Prelude.{◌≡◌, IfOk};
 ghost use Rattle.std.specs.Process.{exit_status};
 ghost use Rattle.std.specs.String.{string_bytes};
@@ -15,8 +15,9 @@ use std::alloc::{AllocError, Global};
 use std::process::ExitCode;
 use text_escape::PlaceStyle;
 
-/// The status that a run ends with: 0 where it answers, 5 where a check says no, and else that of its fault.
+/// The exit status of a run: 0 if it returns true, 5 if it returns false, for example for a `no`, and otherwise the status of its fault.
 pub fn status_of_run(ended: &Result<bool, RunFault>) -> u8
+    // The status of the result, exactly.
     ensures { result ≡ run_status ended.now }
 {
     match ended {
@@ -26,8 +27,9 @@ pub fn status_of_run(ended: &Result<bool, RunFault>) -> u8
     }
 }
 
-/// The status that words end with that give no job: 2 for a refused command line, 0 for help, 4 for memory.
+/// The exit status of a command line that gives no job: 2 if it is invalid, 0 for help, 4 if memory ran out.
 pub fn status_of_words(fault: &JobFault) -> u8
+    // The status of the fault, exactly.
     ensures { result ≡ words_status fault.now }
 {
     match fault {
@@ -37,12 +39,14 @@ pub fn status_of_words(fault: &JobFault) -> u8
     }
 }
 
-/// The line that reports how a run ended: that of `fault_line`, or an empty text if the run has no fault. Fails if memory runs out.
+/// The line that reports the fault of a run, as `fault_line` makes it, or an empty text if the run has no fault. Fails if an allocation
+/// fails.
 pub fn line_of_run(
     alloc: Global,
     style: PlaceStyle<'_>,
     ended: &Result<bool, RunFault>,
 ) -> Result<String, AllocError>
+    // The line of the fault in this style, or an empty text.
     ensures { IfOk result (λ text. string_bytes text ≡ run_line (style_of style.entry) ended.now) }
 {
     match ended {
@@ -51,7 +55,7 @@ pub fn line_of_run(
     }
 }
 
-/// Writes the line of a fault to standard error. Returns false if memory for the line ran out, and then nothing is written.
+/// Writes the line of a fault to standard error. Returns false if memory for the line ran out; nothing is written then.
 fn report_fault<E: Sink>(
     alloc: Global,
     fault: &RunFault,
@@ -67,7 +71,7 @@ fn report_fault<E: Sink>(
     true
 }
 
-/// Writes the line of a left-out file's fault, as `report_fault` does.
+/// Writes the line of a left-out file's fault to standard error. Returns false if memory for the line ran out.
 fn report_left_out<E: Sink>(
     alloc: Global,
     fault: TreeFault,
@@ -80,7 +84,7 @@ fn report_left_out<E: Sink>(
     report_fault(alloc, &fault, style, stderr)
 }
 
-/// Writes the lines of these faults to standard error. Returns false if memory for one ran out; the others are still written.
+/// Writes the lines of these faults to standard error. Returns false if memory for a line ran out; the other lines are still written.
 fn report_faults<E: Sink>(
     alloc: Global,
     faults: Vec<TreeFault>,
@@ -96,7 +100,7 @@ fn report_faults<E: Sink>(
     all
 }
 
-/// Writes the line of a run's fault to standard error, if it has one other than `Memory` and memory doesn't run out for the line.
+/// Writes the line of a run's fault to standard error, unless the fault is `Memory` or memory for the line runs out.
 fn report_end<E: Sink>(
     alloc: Global,
     ended: &Result<bool, RunFault>,
@@ -113,8 +117,9 @@ fn report_end<E: Sink>(
     }
 }
 
-/// Reports the faults of the files that a run on a tree left out: after the run on the others, so that none of the lines gets into a file
-/// that was opened in place of a closed standard error. Returns the result of that run, or false if it answered and files were left out.
+/// Reports the faults of the files that a run on a tree left out.
+/// It does so after the run on the other files: no line gets into a file that was opened in place of a closed standard error.
+/// Returns the result of that run, or false if it succeeded and files were left out.
 /// If memory for a line runs out, a fault of that run is still reported, and the result is `Memory`.
 pub fn end_of_tree<E: Sink>(
     alloc: Global,
@@ -122,7 +127,8 @@ pub fn end_of_tree<E: Sink>(
     style: PlaceStyle<'_>,
     stderr: &mut Stream<E>,
 ) -> Result<bool, RunFault>
-    // The lines that are written, and the result.
+    // The lines of the faults are written in the order of the files. The result is that of the run, false if files were left out, or
+    // `Memory` if memory for a line ran out.
     ensures { EndsTree E.taken (style_of style.entry) run.faults.items run.ended stderr.old stderr.new result }
 {
     let TreeRun { faults, ended } = run;
@@ -134,7 +140,7 @@ pub fn end_of_tree<E: Sink>(
     Err(RunFault::Memory)
 }
 
-/// Reports a fault by its line on standard error. Returns its status, which a failure of standard error doesn't change.
+/// Writes the line of a fault to standard error. Returns the status of the fault, also if standard error fails.
 fn end_by_fault<E: Sink>(fault: &RunFault, line: &str, stderr: &mut Stream<E>) -> u8
     ensures { (style : Style) → line.now ≡ fault_line style fault.now → EndsByFault E.taken style fault.now stderr.old stderr.new result }
 {
@@ -142,21 +148,22 @@ fn end_by_fault<E: Sink>(fault: &RunFault, line: &str, stderr: &mut Stream<E>) -
     status_of(fault)
 }
 
-/// Reports on standard error that memory ran out, without an allocation. Returns the status.
+/// Writes the line of `Memory` to standard error, without an allocation. Returns its status.
 fn end_by_memory<E: Sink>(stderr: &mut Stream<E>) -> u8
     ensures { (style : Style) → EndsByFault E.taken style Memory stderr.old stderr.new result }
 {
     end_by_fault(&RunFault::Memory, "oscip: Memory\n", stderr)
 }
 
-/// Reports the fault of a run, if it has one, by the line of `line_of_run`, in any style, on standard error. Returns the status: that of
-/// `status_of_run`, or 4 if memory ran out for the line of a fault.
+/// Reports the fault of a run, if it has one, on standard error. The line is the result of `line_of_run`, in any style.
+/// Returns the status of `status_of_run`, or 4 if memory for the line of a fault ran out.
 pub fn end_of<E: Sink>(
     ended: &Result<bool, RunFault>,
     line: Result<String, AllocError>,
     stderr: &mut Stream<E>,
 ) -> ExitCode
-    // The status, and the line that is written with it, in the style in which the line was made.
+    // Without a fault nothing is written. A fault ends the run with its line and its status, or with those of `Memory` if its line couldn't
+    // be made.
     ensures { (style : Style) → IfOk line (λ text. string_bytes text ≡ run_line style ended.now) → EndsRun E.taken style ended.now line stderr.old stderr.new (exit_status result) }
 {
     match ended {
@@ -168,14 +175,15 @@ pub fn end_of<E: Sink>(
     }
 }
 
-/// Reports on standard error why there is no job, or writes the help that was asked for to standard output. Returns the status: that of
-/// `status_of_words`, or if not all of the help was written, that of `Device`, whose line is then written.
+/// Writes the error of a command line to standard error, or the requested help to standard output.
+/// Returns the status of `status_of_words`. If not all of the help was written, reports `Device` and returns its status.
 pub fn end_without_job<O: Sink, E: Sink>(
     fault: &JobFault,
     stdout: &mut Stream<O>,
     stderr: &mut Stream<E>,
 ) -> ExitCode
-    // The status, and the text that is written with it.
+    // The text is written to the stream of its kind, and the status is that of the fault, or of `Device` if only a prefix of the help is
+    // written.
     ensures { EndsWords O.taken E.taken fault.now (stdout.old, stdout.new) (stderr.old, stderr.new) (exit_status result) }
 {
     match fault {

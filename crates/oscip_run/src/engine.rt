@@ -1,4 +1,4 @@
-//! What each command does with the bytes of its files, over any sink.
+//! The engines of `cut`, `check`, `cut-net` and `check-net`, over any sink.
 ghost use Rattle.std.specs.Prelude.{◌≡◌, ◌++◌, ◌≤◌, All, IfOk, IsSome, codes, option_copied};
 ghost use Rattle.std.specs.String.{string_bytes};
 ghost use Rattle.cut_dot.specs.Pictures.{flow_said};
@@ -25,10 +25,10 @@ use std::alloc::{AllocError, Global};
 use std::sync::Wait;
 use std::thread::Threads;
 
-/// How many threads at most read the files of a tree for a command that asks for no number of workers.
+/// The number of threads, at most, that read the files of a tree for a command without `--workers`.
 pub const READERS: u32 = 4;
 
-/// The name of a module, and no text where the network has no such module.
+/// The name of a module, or an empty text if the network has no module of this number.
 fn name_or_none(net: &Net, node: u32) -> &str
     ensures { result.now ≡ name_of net.now node }
 {
@@ -39,7 +39,7 @@ fn name_or_none(net: &Net, node: u32) -> &str
     }
 }
 
-/// The line of a verdict on an import.
+/// The line of a verdict about an import.
 fn import_line(
     alloc: Global,
     net: &Net,
@@ -78,7 +78,7 @@ fn is_yes(verdict: Verdict) -> bool
     matches!(verdict, Verdict::Yes)
 }
 
-/// Reads a report on a network, puts the line of the verdict, and answers whether it is yes.
+/// Reads a report on a network, writes the line of the verdict, and returns whether the verdict is `yes`.
 fn check_in<S: Sink>(
     alloc: Global,
     net: &Net,
@@ -95,10 +95,10 @@ fn check_in<S: Sink>(
     Ok(is_yes(verdict))
 }
 
-/// Reads a network, its prices where they are given, and then a report on it, puts the line of the verdict, and answers whether
-/// it is yes. At yes no set of imports that cuts the report's two modules apart weighs less than the report's, none of its
-/// imports pinned; or the report's modules are a chain of pins between the two, and no set without a pin cuts them apart.
-/// Refuses with `Net`, `Price`, `Report`, `Device` or `Memory`.
+/// Reads a network, its prices if they are given, and then a report on it. Writes the line of the verdict, and returns whether it is `yes`.
+/// If it is, the report's imports are a cheapest cut between its two modules, among the sets without pinned imports.
+/// If the report is blocked instead, its modules are a path of pinned imports, and no such set is a cut.
+/// Fails with `Net`, `Price`, `Report`, `Device` or `Memory`.
 pub fn check_net_bytes<S: Sink>(
     alloc: Global,
     network: &[u8],
@@ -106,18 +106,19 @@ pub fn check_net_bytes<S: Sink>(
     prices: Option<&[u8]>,
     sink: &mut S,
 ) -> Result<bool, RunFault>
-    // What was read, what the verdict is, and what the sink took; after a refusal of the input it took nothing.
+    // With `Ok` the sink took exactly the line of the verdict on the report. After `Device` or `Memory` it has at most a prefix of the
+    // line, after another error none.
     ensures run { IsCheckRun (IsNetOfPricedText network.now (option_copied prices.entry)) (IsRefusedPricedText network.now (option_copied prices.entry)) report.now (S.taken sink.old) (S.taken sink.new) result }
-    // Device is answered where the sink counted a failure, and nowhere else.
+    // The sink counts a failure if and only if the result is `Device`.
     ensures failures { S.failures sink.new ≡ failures_by is_device result (S.failures sink.old) }
 {
     let net = net_of_text(alloc, network, prices)?;
     check_in(alloc, &net, report, sink)
 }
 
-/// Reads the files of a tree, its prices where they are given, and then a report on it, puts the line of the verdict, and answers
-/// whether it is yes. At yes it is so as `check_net_bytes` says.
-/// Refuses with `Tree`, `Price`, `Report`, `Device` or `Memory`.
+/// Reads the files of a tree, its prices if they are given, and then a report on its network. Writes the line of the verdict, and returns
+/// whether it is `yes`, which promises what it does for `check_net_bytes`.
+/// Fails with `Tree`, `Price`, `Report`, `Device` or `Memory`.
 pub fn check_tree<R: Threads + Sync, S: Sink>(
     rt: &R,
     alloc: Global,
@@ -126,18 +127,19 @@ pub fn check_tree<R: Threads + Sync, S: Sink>(
     prices: Option<&[u8]>,
     sink: &mut S,
 ) -> Result<bool, RunFault>
-    // The files stand in the order of their paths.
+    // The files are sorted by path, each path once.
     requires { ArePathsInOrder sources.now }
-    // What was read, what the verdict is, and what the sink took; after a refusal of the input it took nothing.
+    // With `Ok` the sink took exactly the line of the verdict on the report. After `Device` or `Memory` it has at most a prefix of the
+    // line, after another error none.
     ensures run { IsCheckRun (IsNetOfPricedTree sources.now (option_copied prices.entry)) (IsRefusedPricedTree sources.now (option_copied prices.entry)) report.now (S.taken sink.old) (S.taken sink.new) result }
-    // Device is answered where the sink counted a failure, and nowhere else.
+    // The sink counts a failure if and only if the result is `Device`.
     ensures failures { S.failures sink.new ≡ failures_by is_device result (S.failures sink.old) }
 {
     let net = net_of_tree(rt, alloc, sources, READERS, prices)?;
     check_in(alloc, &net, report, sink)
 }
 
-/// The number of the module of this name, which the network has.
+/// The number of the module of this name.
 fn module_of(net: &Net, name: &str) -> u32
     requires { IsSome (index_of net.now name.now) }
     ensures { Some result ≡ index_of net.now name.now }
@@ -145,7 +147,7 @@ fn module_of(net: &Net, name: &str) -> u32
     net.index_of(name).unwrap()
 }
 
-/// The greatest amount of the lines, and 0 where there are none. Each amount fits 64 bits, as this one does.
+/// The largest amount of the lines, 0 without lines. It shows the prover that each amount fits 64 bits.
 fn most_of(lines: &[Priced]) -> u64
     ensures { All (λ line. line.amount ≤ result) lines.now }
 {
@@ -158,7 +160,7 @@ fn most_of(lines: &[Priced]) -> u64
     most
 }
 
-/// The flow of an answer, and none where no cut can be made.
+/// The flow of an answer, which is empty if no cut exists.
 fn flow_of(answer: &Answer) -> &[Priced]
     ensures { result.now ≡ flow_said answer.now }
 {
@@ -168,7 +170,7 @@ fn flow_of(answer: &Answer) -> &[Priced]
     }
 }
 
-/// Puts the report of what is answered to two names.
+/// Writes the report of the answer for the modules of two names.
 fn put_answer<S: Sink>(
     alloc: Global,
     net: &Net,
@@ -189,7 +191,7 @@ fn put_answer<S: Sink>(
     Ok(())
 }
 
-/// Puts the report of a cheapest cut of a network between the modules of two names, or of the chain of pins that no cut parts.
+/// Writes the report of a cheapest cut of a network between the modules of two names, or of a path of pinned imports if no cut exists.
 fn cut_in<R: Threads + Wait + Sync, G: Gate + Sync, S: Sink>(
     rt: &R,
     alloc: Global,
@@ -208,25 +210,25 @@ fn cut_in<R: Threads + Wait + Sync, G: Gate + Sync, S: Sink>(
     put_answer(alloc, net, a, b, &answer, sink)
 }
 
-/// Reads a network and its prices, where they are given, and puts the report of a cheapest cut between the modules of two names:
-/// the imports to be removed so that the first no longer reaches the second, their weight, and a flow of that value. So many
-/// workers search for it, 1 to 64, each a thread, and wait for one another; the gate is called between a worker's look and its
-/// act.
+/// Reads a network and its prices, if they are given, and writes the report of a cheapest cut between the modules named `a` and `b`.
+/// The report has the imports to remove so that `a` no longer reaches `b`, their weight, and a flow of that value.
+/// From 1 to 64 threads, the workers, search for the cut and wait for one another. Each calls `gate` between the two critical sections of a
+/// step.
 ///
 /// For every accepted tree, two named modules and every interleaving of the workers' pushes and relabels: once no other
 /// module holds excess, removing the printed imports leaves no import chain from the first module to the second, their
 /// weight is the printed one, and every set of imports whose removal leaves none weighs at least as much; the printed flow
 /// has that value.
 ///
-/// Here the lines of a network stand in place of the tree. Clause `run` carries it: at Ok the sink has a text that
-/// `IsCutText` says this of, for every number of workers and every gate, whatever the workers did in between.
+/// Here the input is a network instead of a tree. Clause `run` states the theorem: with `Ok` the sink has a text for which `IsCutText`
+/// holds, for every number of workers, every gate and every interleaving.
 ///
-/// Where prices are given, a weight is the price of an import that has one, and a set of imports is one of imports that may be
-/// removed: none of them is pinned. Where a chain of pins leads from the first module to the second, no such set is a cut, and the
-/// report has that chain, of those with the fewest imports the one of the least names.
+/// If prices are given, they replace the weights of their imports, and only sets without pinned imports count.
+/// If a path of pinned imports leads from `a` to `b`, no such set is a cut. The report then has the shortest such path, of several the
+/// lexicographically smallest.
 ///
-/// Refuses with `Net` where the network is refused, then with `Price` where the prices are, then with `Solve` for the first name
-/// that no module has or where both are one module's, and with `Device` or `Memory`.
+/// Fails with `Net` if the network is rejected, and then with `Price` if the prices are.
+/// Then fails with `Solve` for the first unknown name, or if both names are the same; and with `Device` or `Memory`.
 pub fn cut_net_bytes<R: Threads + Wait + Sync, G: Gate + Sync, S: Sink>(
     rt: &R,
     alloc: Global,
@@ -238,29 +240,33 @@ pub fn cut_net_bytes<R: Threads + Wait + Sync, G: Gate + Sync, S: Sink>(
     prices: Option<&[u8]>,
     sink: &mut S,
 ) -> Result<(), RunFault>
+    // The number of workers is 1 to 64.
     requires workers { MayWork workers }
-    // What was read, and the report that the sink took; after a refusal of the input it took nothing.
+    // With `Ok` the sink took the report of a cheapest cut, or of a path of pinned imports. After `Device` or `Memory` it has at most a
+    // prefix of such a report, after another error none.
     ensures run { IsCutRun (IsNetOfPricedText network.now (option_copied prices.entry)) (IsRefusedPricedText network.now (option_copied prices.entry)) a.now b.now (S.taken sink.old) (S.taken sink.new) result }
-    // Device is answered where the sink counted a failure, and nowhere else.
+    // The sink counts a failure if and only if the result is `Device`.
     ensures failures { S.failures sink.new ≡ failures_by is_device result (S.failures sink.old) }
 {
     let network = net_of_text(alloc, network, prices)?;
     cut_in(rt, alloc, &network, a, b, workers, gate, sink)
 }
 
-/// Reads the files of a tree and its prices, where they are given, and puts the report of a cheapest cut between the modules of
-/// two names, as `cut_net_bytes` does for a network: each import weighs as much as the qualified uses that cross it.
+/// Reads the files of a tree and its prices, if they are given, and writes the report of a cheapest cut between the modules named `a` and
+/// `b`.
+/// The weight of an import is the number of qualified names that use it.
 ///
 /// For every accepted tree, two named modules and every interleaving of the workers' pushes and relabels: once no other
 /// module holds excess, removing the printed imports leaves no import chain from the first module to the second, their
 /// weight is the printed one, and every set of imports whose removal leaves none weighs at least as much; the printed flow
 /// has that value.
 ///
-/// Clause `run` carries it: at Ok the sink has a text that `IsCutText` says this of, for every number of workers and every
-/// gate, whatever the workers did in between. Prices and pins are taken as `cut_net_bytes` takes them.
+/// Clause `run` states the theorem: with `Ok` the sink has a text for which `IsCutText` holds, for every number of workers, every gate and
+/// every interleaving.
+/// Prices and pinned imports have the effect that `cut_net_bytes` describes.
 ///
-/// Refuses with `Tree` where the tree is refused, then with `Price` where the prices are, then with `Solve` for the first name
-/// that no module has or where both are one module's, and with `Device` or `Memory`.
+/// Fails with `Tree` if the tree is rejected, and then with `Price` if the prices are.
+/// Then fails with `Solve` for the first unknown name, or if both names are the same; and with `Device` or `Memory`.
 pub fn cut_tree<R: Threads + Wait + Sync, G: Gate + Sync, S: Sink>(
     rt: &R,
     alloc: Global,
@@ -272,12 +278,14 @@ pub fn cut_tree<R: Threads + Wait + Sync, G: Gate + Sync, S: Sink>(
     prices: Option<&[u8]>,
     sink: &mut S,
 ) -> Result<(), RunFault>
-    // The files stand in the order of their paths.
+    // The files are sorted by path, each path once.
     requires in_order { ArePathsInOrder sources.now }
+    // The number of workers is 1 to 64.
     requires workers { MayWork workers }
-    // What was read, and the report that the sink took; after a refusal of the input it took nothing.
+    // With `Ok` the sink took the report of a cheapest cut, or of a path of pinned imports. After `Device` or `Memory` it has at most a
+    // prefix of such a report, after another error none.
     ensures run { IsCutRun (IsNetOfPricedTree sources.now (option_copied prices.entry)) (IsRefusedPricedTree sources.now (option_copied prices.entry)) a.now b.now (S.taken sink.old) (S.taken sink.new) result }
-    // Device is answered where the sink counted a failure, and nowhere else.
+    // The sink counts a failure if and only if the result is `Device`.
     ensures failures { S.failures sink.new ≡ failures_by is_device result (S.failures sink.old) }
 {
     let network = net_of_tree(rt, alloc, sources, workers, prices)?;

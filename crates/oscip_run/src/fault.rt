@@ -1,4 +1,4 @@
-//! Why a run ends without an answer, the line that tells of it, and the status that it ends with.
+//! The faults of runs, the lines that report them, and their exit statuses.
 ghost use Rattle.std.specs.Prelude.{◌≡◌, ◌++◌, IfOk, codes};
 ghost use Rattle.std.specs.String.{string_bytes};
 ghost use Rattle.oscip_run.specs.Faults.{fault_text, net_status, net_fault_text, price_fault_text, price_status, report_status, report_fault_text, rules_fault_text, rules_status, solve_fault_text, solve_status, status_number, tree_status};
@@ -17,41 +17,42 @@ use text_escape::laws::no_control;
 use text_escape::{PlaceStyle, escaped};
 use thiserror::Error;
 
-/// Why a run ends without an answer. As `From` makes them, `Tree`, `Net`, `Price`, `Rules`, `Report`,
-/// `Solve` and `Query` hold neither want of memory nor a failed device.
+/// Why a run fails. The conversions from faults of other crates map a failed allocation to `Memory` and a failed device to `Device`.
+/// So no other variant that they make holds such a fault.
 #[derive(Debug, Drop, Error)]
 pub enum RunFault {
-    /// A file or a folder can't be read: it isn't there, is no regular file, has more than 2^30 bytes or a name that isn't UTF-8, or lies too deep.
+    /// A file or a folder can't be read. For example it doesn't exist, isn't a regular file, has more than 2^30 bytes or a name that isn't
+    /// UTF-8, or is too deep in a tree.
     #[error("cannot read {path}")]
     CannotRead { path: String },
     /// A file can't be written.
     #[error("cannot write {path}")]
     CannotWrite { path: String },
-    /// The tree is refused.
+    /// The tree is rejected.
     #[error(transparent)]
     Tree(TreeFault),
-    /// The network is refused.
+    /// The network is rejected.
     #[error(transparent)]
     Net(NetFault),
-    /// The prices are refused.
+    /// The prices are rejected.
     #[error(transparent)]
     Price(PriceFault),
-    /// The rules are refused.
+    /// The rules are rejected.
     #[error(transparent)]
     Rules(RulesFault),
-    /// The report is refused.
+    /// The report is rejected.
     #[error(transparent)]
     Report(ReportFault),
-    /// The names of a question are refused.
+    /// The names in a question are rejected.
     #[error(transparent)]
     Solve(SolveFault),
-    /// The index is refused, or it has no document of the path.
+    /// The index is rejected, or it has no document of the path.
     #[error(transparent)]
     Query(QueryFault),
     /// The sink failed.
     #[error("cannot write")]
     Device,
-    /// A growth of memory was refused.
+    /// An allocation failed.
     #[error("memory ran out")]
     Memory,
 }
@@ -358,8 +359,9 @@ fn tree_status(fault: &TreeFault) -> u8
     if wants_memory(fault) { 4 } else { 1 }
 }
 
-/// The status that a fault ends the program with: 1 for refused input, 3 for a file or a device, 4 for memory.
+/// The exit status of a fault: 1 for rejected input, 3 for a file or device that failed, 4 for memory.
 pub fn status_of(fault: &RunFault) -> u8
+    // The status of the fault, exactly.
     ensures { result ≡ status_number fault.now }
 {
     match fault {

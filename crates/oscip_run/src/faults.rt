@@ -1,4 +1,4 @@
-//! What the command that tells all faults of a tree does with its files, over any sink.
+//! The engine of `faults`, which lists the faults of a tree's files, over any sink.
 ghost use Rattle.std.specs.Prelude.{◌≡◌, ◌++◌, IfErr, IfOk, OnOk};
 ghost use Rattle.std.specs.String.{string_bytes};
 ghost use Rattle.byte_sink.specs.Sinks.{failures_after, failures_by, AppendsFront, Puts};
@@ -18,7 +18,7 @@ use std::thread::Threads;
 use text_escape::{PlaceStyle, escaped};
 use text_pieces::put_enough;
 
-/// Adds the line of a fault to the text.
+/// Appends the line of a fault to the text.
 fn push_line(
     alloc: Global,
     style: PlaceStyle<'_>,
@@ -32,7 +32,7 @@ fn push_line(
     writeln!(text, "{shown}")
 }
 
-/// Gathers the line of a fault, of which pieces are put.
+/// Appends the line of a fault to the text, and writes the text if it is long.
 fn gather_line<S: Sink>(
     alloc: Global,
     style: PlaceStyle<'_>,
@@ -50,7 +50,7 @@ fn gather_line<S: Sink>(
     put_enough(text, sink)
 }
 
-/// Puts the lines of faults, in their order, piece by piece. At a refusal a front of them is taken.
+/// Writes the lines of faults, in their order. After an error the sink has a prefix of the lines.
 fn put_lines<S: Sink>(
     alloc: Global,
     style: PlaceStyle<'_>,
@@ -67,9 +67,10 @@ fn put_lines<S: Sink>(
     put_all(sink, text.as_bytes())
 }
 
-/// Reads the files of a tree and writes a line for each file that has a fault of its own, in the order of the files: what `fault_line`
-/// writes of it in this style after the program's name. If no file has one, writes that of the imports, and if the tree is accepted,
-/// `yes`. Returns whether it is accepted. Its errors are `Device` and `Memory`.
+/// Reads the files of a tree, and writes a line for each file that has a fault of its own, in the order of the files.
+/// If no file has one, writes the line of the tree's fault, for example of a cycle of imports; if the tree is accepted, writes `yes`.
+/// Returns whether it is.
+/// A line is what `fault_line` makes of the fault in this style, without the program's name. Fails with `Device` or `Memory`.
 pub fn faults_tree<R: Threads + Sync, S: Sink>(
     rt: &R,
     alloc: Global,
@@ -77,11 +78,12 @@ pub fn faults_tree<R: Threads + Sync, S: Sink>(
     style: PlaceStyle<'_>,
     sink: &mut S,
 ) -> Result<bool, RunFault>
-    // The files stand in the order of their paths.
+    // The files are sorted by path, each path once.
     requires { ArePathsInOrder sources.now }
-    // All that the tree is refused for, and whether it is for nothing.
+    // With `Ok` the sink took exactly these lines, and the result is whether the tree is accepted. After an error it has at most a prefix
+    // of them.
     ensures run { IsFaultsRun (style_of style.entry) sources.now (S.taken sink.old) (S.taken sink.new) result }
-    // Device is answered where the sink counted a failure, and nowhere else.
+    // The sink counts a failure if and only if the result is `Device`.
     ensures failures { S.failures sink.new ≡ failures_by is_device result (S.failures sink.old) }
 {
     let faults = faults_of(rt, alloc, sources, READERS)?;

@@ -1,4 +1,4 @@
-//! The reading of files, and the fault of what can't be read.
+//! Reading files, and the fault of a path that can't be read.
 ghost use Rattle.std.specs.Prelude.{◌≤◌, IfErr, IfOk, length};
 ghost use Rattle.oscip_run.specs.Faults.{IsReadFault};
 ghost use Rattle.oscip_run.specs.Files.{IsFile};
@@ -9,15 +9,15 @@ use std::io::{ErrorKind, Read};
 use std::rt::Files;
 use std::{fs, io};
 
-/// The most bytes that a network, a report, a prices file or an index may have.
+/// The largest number of bytes of a network, a report, a prices file, a rules file or an index.
 const FILE_LIMIT: u64 = 1 << 30;
 
 /// Why a file or a folder isn't read.
 #[derive(Drop)]
 pub(crate) enum ReadFault {
-    /// This path can't be read.
+    /// The file or folder of this path can't be read.
     CannotRead { path: String },
-    /// A growth of memory was refused.
+    /// An allocation failed.
     Memory,
 }
 
@@ -54,7 +54,7 @@ pub(crate) fn cannot_read(alloc: Global, path: &str) -> ReadFault {
     }
 }
 
-/// The fault of a path that the system answered with an error.
+/// The fault of a path for which the system returned an error.
 pub(crate) fn file_fault(alloc: Global, path: &str, error: &io::Error) -> ReadFault {
     if error.kind() == ErrorKind::OutOfMemory {
         ReadFault::Memory
@@ -63,7 +63,7 @@ pub(crate) fn file_fault(alloc: Global, path: &str, error: &io::Error) -> ReadFa
     }
 }
 
-/// The bytes of a file, but no more than so many.
+/// The first bytes of a file, at most `most`.
 pub(crate) fn read_front<R: Files + AllocGlobal>(
     rt: &R,
     path: &str,
@@ -76,14 +76,14 @@ pub(crate) fn read_front<R: Files + AllocGlobal>(
     };
     let mut bytes = Vec::new(rt.alloc());
     match file.take(most).read_to_end(&mut bytes) {
-        // std says no bound of what is taken
+        // the contract of read_to_end doesn't bound the number of bytes
         Ok(_) if bytes.len() as u64 <= most => Ok(bytes),
         Ok(_) => Err(cannot_read(rt.alloc(), path)),
         Err(error) => Err(file_fault(rt.alloc(), path, &error)),
     }
 }
 
-/// Whether the system says that the file at this path has more bytes.
+/// Whether the system reports that the file at this path has more than `most` bytes.
 fn is_longer<R: Files>(rt: &R, path: &str, most: u64) -> bool {
     match fs::metadata(rt, path) {
         Ok(metadata) => metadata.len() > most,
@@ -91,7 +91,7 @@ fn is_longer<R: Files>(rt: &R, path: &str, most: u64) -> bool {
     }
 }
 
-/// The bytes of a file that has no more than the limit.
+/// The bytes of a file, if they are within the limit.
 fn read_whole<R: Files + AllocGlobal>(rt: &R, path: &str) -> Result<Vec<u8>, ReadFault>
     ensures { IfOk result (λ bytes. IsFile bytes.items) }
 {
@@ -106,10 +106,12 @@ fn read_whole<R: Files + AllocGlobal>(rt: &R, path: &str) -> Result<Vec<u8>, Rea
     }
 }
 
-/// The bytes of a network, a report, a prices file or an index, of which at most one beyond the limit of 2^30 is read. Refuses with
-/// `CannotRead`, also above the limit, or `Memory`.
+/// The bytes of the file at this path. Reads at most one byte beyond the limit of 2^30 bytes.
+/// Fails with `CannotRead`, also for a longer file, or with `Memory`.
 pub fn read_file<R: Files + AllocGlobal>(rt: &R, path: &str) -> Result<Vec<u8>, RunFault>
+    // With `Ok` there are at most 2^30 bytes.
     ensures most { IfOk result (λ bytes. IsFile bytes.items) }
+    // The error is `CannotRead` or `Memory`.
     ensures fault { IfErr result IsReadFault }
 {
     Ok(read_whole(rt, path)?)

@@ -1,4 +1,4 @@
-//! The files of the modules below a folder.
+//! The walk below a folder, which reads the files of its modules.
 ghost use Rattle.std.specs.Prelude.{◌≡◌, ◌≤◌, ℕ, IfErr, IfOk, List, map};
 ghost use Rattle.std.specs.String.{string_bytes};
 ghost use Rattle.cut_net.specs.Network.{texts};
@@ -19,36 +19,36 @@ use std::fs::ReadDir;
 use std::io::ErrorKind;
 use std::rt::Files;
 
-/// The most folders that a folder may lie in, below the one that is walked.
+/// The deepest level at which a folder is read. The folder that is walked has level 0.
 const LEVELS: u32 = 32;
 
-/// The most names that a walk lists, each once for every path that leads to it.
+/// The largest number of names that a walk lists. A name counts once for each path that leads to it.
 const NAMES: u64 = 1 << 20;
 
-/// The most bytes that a module may have.
+/// The largest number of bytes of a module.
 const MODULE_LIMIT: u64 = 1 << 24;
 
-/// A name that the walk came to.
+/// A path that the walk has yet to visit.
 #[derive(Drop)]
 struct PendingPath {
-    /// Its path below the folder that is walked, which is empty for that folder.
+    /// The path below the folder that is walked, empty for that folder.
     path: String,
-    /// How many levels it lies below that folder.
+    /// The number of levels below that folder.
     level: u32,
 }
 
-/// A walk below a folder.
+/// The state of a walk below a folder.
 #[derive(Drop)]
 struct Walk {
-    /// The paths that it has yet to visit, the next one last.
+    /// The paths to visit, the next one last.
     pending: Vec<PendingPath>,
-    /// The paths of the modules that it found.
+    /// The paths of the modules found.
     files: Vec<String>,
-    /// How many more names it may list.
+    /// How many more names the walk may list.
     left: u64,
 }
 
-/// The path of a name in a folder, with a `/` between them where the folder's path doesn't end in one.
+/// The path of a name in a folder, with a `/` between them unless the folder's path ends in one or is empty.
 fn joined(alloc: Global, folder: &str, name: &str) -> Result<String, AllocError> {
     if folder.is_empty() || folder.ends_with('/') {
         format!(in alloc; "{folder}{name}")
@@ -61,7 +61,7 @@ fn is_module(path: &str) -> bool {
     path.ends_with(".Mod") || path.ends_with(".mod")
 }
 
-/// Whether the path is too long for the system, which then doesn't look at a link there either.
+/// Whether the path is too long for the system. Then the system doesn't report a link at the path either.
 fn is_too_long<R: Files>(rt: &R, path: &str) -> bool {
     match fs::symlink_metadata(rt, path) {
         Ok(_) => false,
@@ -69,8 +69,9 @@ fn is_too_long<R: Files>(rt: &R, path: &str) -> bool {
     }
 }
 
-/// Whether the system reports a folder at the path. If it reports nothing, as of a link to nothing, a name that is no module is passed
-/// over, and a module is refused when it is read. A path that is too long is refused, since a folder there may be readable.
+/// Whether the system reports a folder at the path. If it reports nothing, as for a dangling link, another name is skipped, and a module is
+/// rejected when it is read.
+/// Fails for a path that is too long, since a folder there may be readable.
 fn is_folder<R: Files + AllocGlobal>(rt: &R, path: &str) -> Result<bool, ReadFault> {
     match fs::metadata(rt, path) {
         Ok(metadata) => Ok(metadata.is_dir()),
@@ -86,7 +87,7 @@ fn add_name(alloc: Global, names: &mut Vec<String>, name: &str) -> Result<(), Al
     Ok(())
 }
 
-/// The names that are listed of the folder at this path, or none where more are left than may be listed.
+/// The names that the listing of the folder at this path returns, or none if there are more than `left`.
 fn names_of<R: Files + AllocGlobal + Clone + Drop>(
     alloc: Global,
     listing: ReadDir<R>,
@@ -104,7 +105,7 @@ fn names_of<R: Files + AllocGlobal + Clone + Drop>(
     Ok(Some(names))
 }
 
-/// The names in the folder at this path, in no order, or none where there are more than may be listed.
+/// The names in the folder at this path, in any order, or none if there are more than `left`.
 fn names_in<R: Files + AllocGlobal + Clone + Drop>(
     rt: &R,
     path: &str,
@@ -116,8 +117,9 @@ fn names_in<R: Files + AllocGlobal + Clone + Drop>(
     }
 }
 
-/// The names in the folder at this path, in descending order. They are counted as they are listed, so that none is held beyond the most
-/// that a walk lists; that is told of the folder that is walked.
+/// The names in the folder at this path, in descending order. The walk counts them as it lists them, so that it never holds more than its
+/// limit.
+/// Fails with `CannotRead` for `folder`, which is walked, if there are more than `left`.
 fn listed<R: Files + AllocGlobal + Clone + Drop>(
     rt: &R,
     folder: &str,
@@ -132,7 +134,7 @@ fn listed<R: Files + AllocGlobal + Clone + Drop>(
     Ok(names)
 }
 
-/// Puts the names of a folder among the places that are looked at next.
+/// Adds the names in a folder to the paths to visit.
 fn add_names(
     alloc: Global,
     folder: &PendingPath,
@@ -149,7 +151,7 @@ fn add_names(
     Ok(())
 }
 
-/// Has the names of a folder, which lies at this path, looked at next.
+/// Lists the folder at the path `opened`, and adds its names to the paths to visit.
 fn enter<R: Files + AllocGlobal + Clone + Drop>(
     rt: &R,
     folder: &str,
@@ -167,8 +169,7 @@ fn enter<R: Files + AllocGlobal + Clone + Drop>(
     Ok(())
 }
 
-/// Visits a path that the walk came to: the names of a folder are visited next, and a module is among the files. An excluded path isn't
-/// opened.
+/// Visits a path of the walk: lists a folder, and adds a module to the files. An excluded path isn't opened.
 fn visit<R: Files + AllocGlobal + Clone + Drop>(
     rt: &R,
     folder: &str,
@@ -191,7 +192,7 @@ fn visit<R: Files + AllocGlobal + Clone + Drop>(
     Ok(())
 }
 
-/// Looks at all places that are left, and at those that come of them; there are no more of them than names may be listed.
+/// Visits all pending paths, and those that they add. Their number is at most that of the names that a walk lists, which bounds the loop.
 fn finish<R: Files + AllocGlobal + Clone + Drop>(
     rt: &R,
     folder: &str,
@@ -209,7 +210,7 @@ fn finish<R: Files + AllocGlobal + Clone + Drop>(
     Err(cannot_read(rt.alloc(), folder))
 }
 
-/// The paths of the modules below a folder.
+/// The paths of the modules below a folder, in the order of the walk.
 fn paths_below<R: Files + AllocGlobal + Clone + Drop>(
     rt: &R,
     folder: &str,
@@ -231,7 +232,7 @@ fn paths_below<R: Files + AllocGlobal + Clone + Drop>(
     Ok(walk.files)
 }
 
-/// The paths of the modules below a folder, sorted, but for those that a pattern excludes.
+/// The paths of the modules below a folder that no pattern excludes, sorted.
 fn sorted_paths_below<R: Files + AllocGlobal + Clone + Drop>(
     rt: &R,
     folder: &str,
@@ -245,7 +246,7 @@ fn sorted_paths_below<R: Files + AllocGlobal + Clone + Drop>(
     Ok(paths)
 }
 
-/// The bytes of the regular file at this path, of which at most one beyond the limit of a module is read.
+/// The bytes of the regular file at this path, at most one byte beyond the limit of a module.
 fn read_module<R: Files + AllocGlobal>(rt: &R, path: &str) -> Result<Vec<u8>, ReadFault>
     ensures { IfOk result (λ bytes. IsFrontOfModule bytes.items) }
 {
@@ -285,7 +286,7 @@ fn read_all<R: Files + AllocGlobal>(
     Ok(sources)
 }
 
-/// The files below a folder, in the order of their paths.
+/// The files of the modules below a folder that no pattern excludes, sorted by path.
 fn sources_below<R: Files + AllocGlobal + Clone + Drop>(
     rt: &R,
     folder: &str,
@@ -297,7 +298,7 @@ fn sources_below<R: Files + AllocGlobal + Clone + Drop>(
 {
     let paths = sorted_paths_below(rt, folder, excluded)?;
     let sources = read_all(rt, folder, paths)?;
-    // They are, but where one name stood twice among those of a folder.
+    // The paths are sorted, and they differ unless the system lists a name in a folder twice.
     if in_order(sources.as_slice()) {
         Ok(sources)
     } else {
@@ -305,23 +306,25 @@ fn sources_below<R: Files + AllocGlobal + Clone + Drop>(
     }
 }
 
-/// The files below a folder whose names end in `.Mod` or `.mod`, in the order of their paths. Links are followed, and
-/// a folder is walked whatever its name. A name that is no module, and of which the system doesn't report what it is, is passed
-/// over. All names are walked first, and then the files are read by path, each to one byte beyond the limit of a module.
-/// Refuses with `CannotRead` a folder or file that can't be read, a folder below more than 32 others, a name that isn't UTF-8, by its
-/// folder, a path that is too long for the system, a module that is no regular file, and more than 1,048,576 names, counted along
-/// links, by the folder that is walked; and with `Memory`. What one of the patterns excludes is passed over without being opened or
-/// listed.
+/// Reads the files below a folder whose names end in `.Mod` or `.mod` and that no pattern excludes, sorted by path.
+/// Follows links, and walks a folder whatever its name is. Skips any other name, also if the system doesn't report what it denotes.
+/// Lists all names first, and then reads the files by path, each up to one byte beyond the limit of a module.
+/// An excluded path is neither opened nor listed.
+/// Fails with `Memory`, or with `CannotRead` and a path that can't be read. It may be too long for the system, or a module that isn't a
+/// regular file. It may be a folder more than 32 levels below `folder`, or with a name that isn't UTF-8.
+/// It is `folder` itself if there are more than 1,048,576 names, counted along links, or if a name is listed twice.
 pub fn sources_of<R: Files + AllocGlobal + Clone + Drop>(
     rt: &R,
     folder: &str,
     excluded: &[String],
 ) -> Result<Vec<Source>, RunFault>
+    // The files are sorted by path, each path once.
     ensures order { IfOk result (λ sources. ArePathsInOrder sources.items) }
-    // Of each file one byte beyond a module's limit is taken at most.
+    // Of each file at most one byte beyond the limit of a module is read.
     ensures most { IfOk result (λ sources. AreFronts sources.items) }
-    // None of the patterns matches a file's path or a folder on it.
+    // No pattern matches the path of a file or of a folder on it.
     ensures included { IfOk result (λ sources. AreIncluded (texts excluded.now) sources.items) }
+    // The error is `CannotRead` or `Memory`.
     ensures fault { IfErr result IsReadFault }
 {
     Ok(sources_below(rt, folder, excluded)?)

@@ -1,4 +1,4 @@
-//! What the commands that tell the imports of an input do with the bytes of its files, over any sink.
+//! The engines of `net`, `why` and `why-net`, which print the imports of an input, over any sink.
 ghost use Rattle.std.specs.Prelude.{◌≡◌, ◌≢◌, [], Err, IfErr, IfOk, Some};
 ghost use Rattle.byte_sink.specs.Sinks.{failures_by};
 ghost use Rattle.cut_net.specs.Network.{index_of};
@@ -21,7 +21,7 @@ use oscip_tree::{Source, net_of};
 use std::alloc::Global;
 use std::thread::Threads;
 
-/// Puts the text of a network.
+/// Writes a network as text.
 fn put_net<S: Sink>(alloc: Global, net: &Net, sink: &mut S) -> Result<(), RunFault>
     requires { net.now.pins ≡ [] }
     ensures run { IsNetTextRun (IsThis net.now) IsNeverRefused (S.taken sink.old) (S.taken sink.new) result }
@@ -33,29 +33,31 @@ fn put_net<S: Sink>(alloc: Global, net: &Net, sink: &mut S) -> Result<(), RunFau
     Ok(())
 }
 
-/// Reads the files of a tree and puts its network as a text: a line `module M` for each module, in the order of their names, also
-/// for those that only are imported, and then a line `import M N w` for each import, in the order of both names, with as many
-/// qualified uses as cross it. `Net::read` reads it as exactly that network.
-/// Refuses with `Tree`, `Device` or `Memory`.
+/// Reads the files of a tree, and writes its network as text.
+/// It has a line `module M` for each module, sorted by name, external ones included. A line `import M N w` for each import follows, sorted
+/// by both names.
+/// The weight `w` is the number of qualified names that use the import. `Net::read` reads the text as exactly that network.
+/// Fails with `Tree`, `Device` or `Memory`.
 pub fn net_tree<R: Threads + Sync, S: Sink>(
     rt: &R,
     alloc: Global,
     sources: &[Source],
     sink: &mut S,
 ) -> Result<(), RunFault>
-    // The files stand in the order of their paths.
+    // The files are sorted by path, each path once.
     requires { ArePathsInOrder sources.now }
-    // What was read, and the text that the sink took; after a refusal of the input it took nothing.
+    // With `Ok` the sink took exactly the text of the tree's network. After `Device` or `Memory` it has at most a prefix of it, after
+    // `Tree` none.
     ensures run { IsNetTextRun (IsNetOfTree sources.now) (IsRefusedTree sources.now) (S.taken sink.old) (S.taken sink.new) result }
-    // Device is answered where the sink counted a failure, and nowhere else.
+    // The sink counts a failure if and only if the result is `Device`.
     ensures failures { S.failures sink.new ≡ failures_by is_device result (S.failures sink.old) }
 {
     let net = net_of(rt, alloc, sources, READERS)?;
     put_net(alloc, &net, sink)
 }
 
-/// The modules of two names, which are two. Refuses with `NoSuchModule` for the first name that no module has, with `SameModule`
-/// where both are one module's, and with `Memory`.
+/// The numbers of the modules of two names, which differ. Fails with `NoSuchModule` for the first unknown name, with `SameModule` if both
+/// names are the same, and with `Memory`.
 fn modules_of(alloc: Global, net: &Net, a: &str, b: &str) -> Result<(u32, u32), SolveFault>
     ensures found { IfOk result (λ found. (index_of net.now a.now ≡ Some found.0) × (index_of net.now b.now ≡ Some found.1) × (found.0 ≢ found.1)) }
     ensures refused { IfErr result (λ fault. UnlessMemory fault (λ refusal. IsSolveOutcome net.now a.now b.now (Err refusal))) }
@@ -68,7 +70,7 @@ fn modules_of(alloc: Global, net: &Net, a: &str, b: &str) -> Result<(u32, u32), 
     Ok((from, to))
 }
 
-/// Writes the lines of the shortest path of imports of a network between the modules of two names. Returns whether there is a path.
+/// Writes the lines of the shortest path of imports between the modules of two names. Returns whether there is a path.
 fn why_in<S: Sink>(
     alloc: Global,
     net: &Net,
@@ -90,10 +92,11 @@ fn why_in<S: Sink>(
     Ok(true)
 }
 
-/// Reads a network, and writes why the module of the first name reaches that of the second: a line `import M N w` for each import of
-/// the shortest path (of several the first by names), from the first module on. Imports of weight 0 count as well. Returns whether there
-/// is a path; without one nothing is written.
-/// Fails with `Net` if the network is rejected, then with `Solve` for the first unknown name or if both are one module's, and with
+/// Reads a network, and writes the shortest path of imports from the module named `a` to the one named `b`, of several the
+/// lexicographically smallest.
+/// It has a line `import M N w` for each import, from `a` on. Imports of weight 0 count. Returns whether there is a path; without one
+/// nothing is written.
+/// Fails with `Net` if the network is rejected, then with `Solve` for the first unknown name or if both names are the same, and with
 /// `Device` or `Memory`.
 pub fn why_net_bytes<S: Sink>(
     alloc: Global,
@@ -102,17 +105,19 @@ pub fn why_net_bytes<S: Sink>(
     b: &str,
     sink: &mut S,
 ) -> Result<bool, RunFault>
-    // What was read, the lines that the sink took, and whether there is a path; after an error of the input the sink took nothing.
+    // With `Ok` the sink took exactly the lines of the path, and the result is whether there is one. After `Device` or `Memory` it has at
+    // most a prefix of the lines, after another error none.
     ensures run { IsWhyRun (IsNetOfText network.now) (IsRefusedText network.now) a.now b.now (S.taken sink.old) (S.taken sink.new) result }
-    // Device is answered where the sink counted a failure, and nowhere else.
+    // The sink counts a failure if and only if the result is `Device`.
     ensures failures { S.failures sink.new ≡ failures_by is_device result (S.failures sink.old) }
 {
     let net = Net::read(alloc, network)?;
     why_in(alloc, &net, a, b, sink)
 }
 
-/// Reads the files of a tree, and writes why a module of it reaches another one, as `why_net_bytes` does.
-/// Fails with `Tree` if the tree is rejected, then with `Solve` for the first unknown name or if both are one module's, and with `Device`
+/// Reads the files of a tree, and writes the shortest path of imports from the module named `a` to the one named `b`, as `why_net_bytes`
+/// does.
+/// Fails with `Tree` if the tree is rejected, then with `Solve` for the first unknown name or if both names are the same, and with `Device`
 /// or `Memory`.
 pub fn why_tree<R: Threads + Sync, S: Sink>(
     rt: &R,
@@ -122,11 +127,12 @@ pub fn why_tree<R: Threads + Sync, S: Sink>(
     b: &str,
     sink: &mut S,
 ) -> Result<bool, RunFault>
-    // The files are sorted by path.
+    // The files are sorted by path, each path once.
     requires { ArePathsInOrder sources.now }
-    // What was read, the lines that the sink took, and whether there is a path; after an error of the input the sink took nothing.
+    // With `Ok` the sink took exactly the lines of the path, and the result is whether there is one. After `Device` or `Memory` it has at
+    // most a prefix of the lines, after another error none.
     ensures run { IsWhyRun (IsNetOfTree sources.now) (IsRefusedTree sources.now) a.now b.now (S.taken sink.old) (S.taken sink.new) result }
-    // Device is answered where the sink counted a failure, and nowhere else.
+    // The sink counts a failure if and only if the result is `Device`.
     ensures failures { S.failures sink.new ≡ failures_by is_device result (S.failures sink.old) }
 {
     let net = net_of(rt, alloc, sources, READERS)?;

@@ -1,6 +1,9 @@
-//! Runs of jobs: the files and folders that a job names, from any reader; the engines that cut, check, draw, list and answer questions, over any sink; and how a run ends.
-//! Depends on `oscip_job`, `oscip_tree`, `index_store` and the `cut_` crates, on `text_pieces` for long answers and on `thiserror` for its faults.
-//! Its contract: an engine writes exactly what the definitions say of its inputs; the inputs of a run are what the reader gave.
+//! Runs of jobs: reads the files that a job names through any `Reader`, runs its engine into any `Sink`, and ends with a status.
+//! Depends on `oscip_job` for jobs, `oscip_tree` for trees, `index_store` for queries and the `cut_` crates for networks, cuts, rules and
+//! pictures.
+//! It also depends on `text_pieces` for long outputs and on `thiserror` for its errors.
+//! The main calls are `run_tree`, `run_net` and `run_question`, and the engine `cut_tree`, whose clause `run` is the headline theorem.
+//! They promise that the sink takes exactly what the definitions state about the files that the reader returned.
 #![tactic(auto)]
 
 mod asking;

@@ -1,4 +1,4 @@
-//! What the commands that list modules do with the bytes of files, over any sink.
+//! The engines of `reach`, `reach-net` and `modules`, which list modules, over any sink.
 ghost use Rattle.std.specs.Prelude.{◌≡◌, ◌↔◌, ◌++◌, ◌<◌, All, AllPairs, Contains, IfErr, IfOk, OnOk, length, map, option_copied, option_map, slice_index_or, ℕ, None};
 ghost use Rattle.std.specs.String.{string_bytes};
 ghost use Rattle.byte_sink.specs.Sinks.{failures_after, failures_by, AppendsFront, Puts};
@@ -32,7 +32,7 @@ struct ListedModule<'a> {
     path: Option<&'a str>,
 }
 
-/// Appends a blank and the path, if there is one, to the text.
+/// Appends a space and the path to the text, if there is a path.
 fn push_path(
     alloc: Global,
     style: PlaceStyle<'_>,
@@ -81,7 +81,7 @@ fn gather_line<S: Sink>(
     put_enough(text, sink)
 }
 
-/// Writes the lines of modules, in their order. After an error the sink has taken a prefix of them.
+/// Writes the lines of modules, in their order. After an error the sink has a prefix of the lines.
 fn write_lines<S: Sink>(
     alloc: Global,
     style: PlaceStyle<'_>,
@@ -115,7 +115,7 @@ fn named_modules<'a>(
     Ok(listed)
 }
 
-/// The modules that are reached from one in a direction by one or more imports, in ascending order.
+/// The numbers of the modules that are reached from module `start` in this direction by one or more imports, sorted.
 fn reach_of(
     alloc: Global,
     net: &Net,
@@ -133,7 +133,7 @@ fn reach_of(
     }
 }
 
-/// Writes the names of the modules of a network that are reached from the module of this name in a direction.
+/// Writes the names of the modules that are reached from the module of this name in this direction.
 fn reach_in<S: Sink>(
     alloc: Global,
     net: &Net,
@@ -151,8 +151,9 @@ fn reach_in<S: Sink>(
     Ok(())
 }
 
-/// Reads a network, and writes the modules that the module of this name reaches by one or more imports, or those that reach it: a name a line,
-/// sorted. Imports of weight 0 count. A module doesn't reach itself, since a network has no cycle.
+/// Reads a network, and writes the names of the modules that module `name` reaches by one or more imports, or that reach it: one per line,
+/// sorted.
+/// Imports of weight 0 count. A module doesn't reach itself, since a network has no cycle.
 /// Fails with `Net` if the network is rejected, then with `Solve` if no module has the name, and with `Device` or `Memory`.
 pub fn reach_net_bytes<S: Sink>(
     alloc: Global,
@@ -161,17 +162,18 @@ pub fn reach_net_bytes<S: Sink>(
     direction: Direction,
     sink: &mut S,
 ) -> Result<(), RunFault>
-    // What was read, and the names that the sink took, exactly those to which, or from which, a path leads; after an error of the input the sink
-    // took nothing.
+    // With `Ok` the sink took exactly the names of these modules. After `Device` or `Memory` it has at most a prefix of the lines, after
+    // another error none.
     ensures run { IsReachRun (IsNetOfText network.now) (IsRefusedText network.now) name.now direction (S.taken sink.old) (S.taken sink.new) result }
-    // Device is returned if the sink counted a failure, and only then.
+    // The sink counts a failure if and only if the result is `Device`.
     ensures failures { S.failures sink.new ≡ failures_by is_device result (S.failures sink.old) }
 {
     let net = Net::read(alloc, network)?;
     reach_in(alloc, &net, name, direction, sink)
 }
 
-/// Reads the files of a tree, and writes the modules that a module of it reaches, or those that reach it, as `reach_net_bytes` does.
+/// Reads the files of a tree, and writes the names of the modules that module `name` reaches by one or more imports, or that reach it: one
+/// per line, sorted.
 /// Fails with `Tree` if the tree is rejected, then with `Solve` if no module has the name, and with `Device` or `Memory`.
 pub fn reach_tree<R: Threads + Sync, S: Sink>(
     rt: &R,
@@ -181,19 +183,19 @@ pub fn reach_tree<R: Threads + Sync, S: Sink>(
     direction: Direction,
     sink: &mut S,
 ) -> Result<(), RunFault>
-    // The files are sorted by path.
+    // The files are sorted by path, each path once.
     requires { ArePathsInOrder sources.now }
-    // What was read, and the names that the sink took, exactly those to which, or from which, a path leads; after an error of the input the sink
-    // took nothing.
+    // With `Ok` the sink took exactly the names of these modules. After `Device` or `Memory` it has at most a prefix of the lines, after
+    // another error none.
     ensures run { IsReachRun (IsNetOfTree sources.now) (IsRefusedTree sources.now) name.now direction (S.taken sink.old) (S.taken sink.new) result }
-    // Device is returned if the sink counted a failure, and only then.
+    // The sink counts a failure if and only if the result is `Device`.
     ensures failures { S.failures sink.new ≡ failures_by is_device result (S.failures sink.old) }
 {
     let net = net_of(rt, alloc, sources, READERS)?;
     reach_in(alloc, &net, name, direction, sink)
 }
 
-/// For each module the path of its file, if it has one. The files' modules have these numbers.
+/// For each module of the network the path of its file, if it has one. `modules` has the module's number for each file.
 fn paths_by_module<'a>(
     alloc: Global,
     sources: &'a [Source],
@@ -212,7 +214,7 @@ fn paths_by_module<'a>(
     Ok(paths)
 }
 
-/// The modules of a network with these paths.
+/// The modules of a network, each with its path.
 fn located_modules<'a>(
     alloc: Global,
     net: &'a Net,
@@ -231,9 +233,9 @@ fn located_modules<'a>(
     Ok(listed)
 }
 
-/// Reads the files of a tree, and writes its modules, a line each, sorted by name: the name, and after a blank the path of the file that declares
-/// the module, in this style and with its control characters written out. An external module, which is only imported, has a line with its name alone. A tree without
-/// files has no line.
+/// Reads the files of a tree, and writes a line for each of its modules, sorted by name: the name, a space, and the path of its file.
+/// The path is in this style, with its control characters escaped. An external module, which is only imported, has its name alone. A tree
+/// without files has no line.
 /// Fails with `Tree` if the tree is rejected, and with `Device` or `Memory`.
 pub fn modules_tree<R: Threads + Sync, S: Sink>(
     rt: &R,
@@ -242,12 +244,12 @@ pub fn modules_tree<R: Threads + Sync, S: Sink>(
     style: PlaceStyle<'_>,
     sink: &mut S,
 ) -> Result<(), RunFault>
-    // The files are sorted by path.
+    // The files are sorted by path, each path once.
     requires { ArePathsInOrder sources.now }
-    // What was read, and the lines that the sink took: exactly the modules of the tree's network, each with the file that declares it; after an
-    // error of the input the sink took nothing.
+    // With `Ok` the sink took exactly the lines of the modules of the tree's network. After `Device` or `Memory` it has at most a prefix of
+    // them, after `Tree` none.
     ensures run { IsModulesRun (style_of style.entry) sources.now (S.taken sink.old) (S.taken sink.new) result }
-    // Device is returned if the sink counted a failure, and only then.
+    // The sink counts a failure if and only if the result is `Device`.
     ensures failures { S.failures sink.new ≡ failures_by is_device result (S.failures sink.old) }
 {
     let located = located_net_of(rt, alloc, sources, READERS)?;

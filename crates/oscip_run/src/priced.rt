@@ -1,4 +1,4 @@
-//! The network of a run: that of its input, with the prices that are given.
+//! The network of a run: that of its input, with the given prices.
 ghost use Rattle.std.specs.Prelude.{IfErr, IfOk, option_copied};
 ghost use Rattle.oscip_run.specs.PricedInputs.{IsNetOfPricedText, IsNetOfPricedTree, IsPricedInput, IsRefusedOr, IsRefusedPriced, IsRefusedPricedText, IsRefusedPricedTree};
 ghost use Rattle.oscip_run.specs.Runs.{IsNeverRefused, IsThis};
@@ -9,7 +9,7 @@ use oscip_tree::{Source, net_of};
 use std::alloc::Global;
 use std::thread::Threads;
 
-/// The network with its prices, where they are given. Refuses with `Price` or `Memory`.
+/// Applies the prices to the network, if they are given. Fails with `Price` or `Memory`.
 fn with_prices(net: Net, prices: Option<&[u8]>) -> Result<Net, RunFault>
     ensures net { IfOk result (IsPricedInput (IsThis net) (option_copied prices.entry)) }
     ensures fault { IfErr result (IsRefusedOr (IsRefusedPriced (IsThis net) IsNeverRefused (option_copied prices.entry))) }
@@ -20,7 +20,7 @@ fn with_prices(net: Net, prices: Option<&[u8]>) -> Result<Net, RunFault>
     }
 }
 
-/// The network that a text says, with its prices. Refuses with `Net`, then with `Price`, or with `Memory`.
+/// The network that the bytes state, with its prices. Fails with `Net`, then with `Price`, or with `Memory`.
 pub(crate) fn net_of_text(
     alloc: Global,
     network: &[u8],
@@ -33,8 +33,8 @@ pub(crate) fn net_of_text(
     with_prices(net, prices)
 }
 
-/// The network of a tree's files, read by so many threads at most, with its prices. Refuses with `Tree`, then with `Price`, or
-/// with `Memory`.
+/// The network of a tree's files, read by at most `workers` threads, with its prices. Fails with `Tree`, then with `Price`, or with
+/// `Memory`.
 pub(crate) fn net_of_tree<R: Threads + Sync>(
     rt: &R,
     alloc: Global,

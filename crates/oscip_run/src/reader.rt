@@ -1,4 +1,4 @@
-//! Where what a job reads comes from.
+//! The source of the files and folders that a job reads.
 ghost use Rattle.std.specs.Prelude.{IfErr, IfOk};
 ghost use Rattle.cut_net.specs.Network.{texts};
 ghost use Rattle.oscip_run.specs.Faults.{IsReadFault};
@@ -9,26 +9,34 @@ use crate::{RunFault, read_file, sources_of};
 use oscip_tree::Source;
 use std::rt::Files;
 
-/// Gives what stands at a path.
+/// Reads files and folders by their paths.
 pub trait Reader {
-    /// What it answers.
+    /// The readings that the reader may return: the bytes of a file, the modules of a folder, or a fault.
     ghost answers: { Self → Reading → Type 0 };
 
-    /// The bytes of a file. Refuses with `CannotRead` or `Memory`.
+    /// The bytes of the file at this path. Fails with `CannotRead` or `Memory`.
     fn file(&self, path: &str) -> Result<Vec<u8>, RunFault>
+        // With `Ok` the bytes are a reading of the file at this path.
         ensures given { IfOk result (λ bytes. answers self.now (FileOf path.now bytes.items)) }
+        // An error is a reading of this path.
         ensures refused { IfErr result (λ fault. answers self.now (Refused path.now fault)) }
+        // The error is `CannotRead` or `Memory`.
         ensures fault { IfErr result IsReadFault };
 
-    /// The files of the modules below a folder, sorted by path, but for those that a pattern excludes. Fails with `CannotRead` or `Memory`.
+    /// The files of the modules below the folder at this path that no pattern excludes, sorted by path. Fails with `CannotRead` or
+    /// `Memory`.
     fn modules(&self, path: &str, excluded: &[String]) -> Result<Vec<Source>, RunFault>
+        // With `Ok` the files are a reading of the folder at this path with these patterns.
         ensures given { IfOk result (λ sources. answers self.now (FolderOf path.now (texts excluded.now) sources.items)) }
+        // The files are sorted by path, each path once.
         ensures order { IfOk result (λ sources. ArePathsInOrder sources.items) }
+        // An error is a reading of this path.
         ensures refused { IfErr result (λ fault. answers self.now (Refused path.now fault)) }
+        // The error is `CannotRead` or `Memory`.
         ensures fault { IfErr result IsReadFault };
 }
 
-/// The files and the folders of the system. What stands in them no clause says.
+/// The files and folders of the system. No clause states their content.
 #[derive(Drop)]
 pub struct SystemFiles<'a, R>(pub &'a R);
 

@@ -1,4 +1,4 @@
-//! Runs of what jobs ask on the files that they name, over any reader and any sink.
+//! Runs of questions on a network or an index in a file, over any reader and any sink.
 ghost use Rattle.std.specs.Prelude.{◌≡◌, IfErr, IfOk, option_copied};
 ghost use Rattle.byte_sink.specs.Sinks.{failures_by};
 ghost use Rattle.oscip_job.specs.Jobs.{HasNetWorkers};
@@ -16,7 +16,7 @@ use std::sync::Wait;
 use std::thread::Threads;
 use text_escape::PlaceStyle;
 
-/// The path of the question's report, where it has one.
+/// The path of the question's report, if it has one.
 fn report_of(question: &NetQuestion) -> Option<&str>
     ensures { option_copied result ≡ (paths_beside question.now).report }
 {
@@ -27,7 +27,7 @@ fn report_of(question: &NetQuestion) -> Option<&str>
     }
 }
 
-/// The path of the question's prices, where it has any.
+/// The path of the question's prices, if it has any.
 fn prices_of(question: &NetQuestion) -> Option<&str>
     ensures { option_copied result ≡ (paths_beside question.now).prices }
 {
@@ -39,16 +39,16 @@ fn prices_of(question: &NetQuestion) -> Option<&str>
     }
 }
 
-/// What is read beside a network or a tree.
+/// The files that a question reads besides its network or tree.
 #[derive(Drop)]
 pub(crate) struct Beside {
-    /// The bytes of its report, where it has one.
+    /// The bytes of the report, if the question has one.
     pub(crate) report: Option<Vec<u8>>,
-    /// The bytes of its prices, where it has any.
+    /// The bytes of the prices, if the question has any.
     pub(crate) prices: Option<Vec<u8>>,
 }
 
-/// The bytes of a file, where one is named.
+/// The bytes of a file, if a path is given.
 fn read_named<F: Reader>(reader: &F, path: Option<&str>) -> Result<Option<Vec<u8>>, RunFault>
     ensures given { IfOk result (λ given. IsGiven (F.answers reader.now) (option_copied path.entry) (given_bytes given)) }
     ensures refused { IfErr result (IsNotGiven (F.answers reader.now) (option_copied path.entry)) }
@@ -71,7 +71,7 @@ pub(crate) fn read_beside<F: Reader>(reader: &F, question: &NetQuestion) -> Resu
     Ok(Beside { report, prices })
 }
 
-/// The bytes, and none where nothing was given.
+/// The bytes, or no bytes if none were given.
 pub(crate) fn bytes_or_none(given: &Option<Vec<u8>>) -> &[u8]
     ensures { result.now ≡ bytes_or_none (given_bytes given.now) }
 {
@@ -81,8 +81,9 @@ pub(crate) fn bytes_or_none(given: &Option<Vec<u8>>) -> &[u8]
     }
 }
 
-/// Asks a question of the network that the reader gives of this path. All files are read first, in the order of the words, and the
-/// prices last. Refuses with the first fault of the reader, and then as `answer` does.
+/// Answers a question about the network in the file of this path.
+/// Reads the network, then the report, then the prices, all before the engine runs.
+/// Returns false if a check says no or `why` finds no path. Fails with the first fault of the reader, and otherwise as `answer` does.
 pub fn run_net<R: Threads + Wait + Sync, F: Reader, S: Sink>(
     rt: &R,
     alloc: Global,
@@ -91,11 +92,12 @@ pub fn run_net<R: Threads + Wait + Sync, F: Reader, S: Sink>(
     question: &NetQuestion,
     sink: &mut S,
 ) -> Result<bool, RunFault>
+    // A question with a number of workers has 1 to 64 of them.
     requires { HasNetWorkers question.now }
-    // What the reader gave of this path and of the question's, and what its engine puts of that; where something can't be read the
-    // sink took nothing.
+    // `answer` runs on the bytes that the reader returned for this path and for the paths in the question. If a file can't be read, the
+    // sink is unchanged.
     ensures run { IsNetRun (F.answers reader.now) network.now question.now (S.taken sink.old) (S.taken sink.new) result }
-    // Device is answered where the sink counted a failure, and nowhere else.
+    // The sink counts a failure if and only if the result is `Device`.
     ensures failures { S.failures sink.new ≡ failures_by is_device result (S.failures sink.old) }
 {
     let network = reader.file(network)?;
@@ -107,8 +109,9 @@ pub fn run_net<R: Threads + Wait + Sync, F: Reader, S: Sink>(
     )
 }
 
-/// Answers a question to the index that the reader gives of this path, with locations in this style. Nothing of it is a check that says
-/// no. Fails with the fault of the reader, and then as `answer_question` does.
+/// Answers a question about the index in the file of this path, with locations in this style. Returns true, since such a question has no
+/// `no`.
+/// Fails with the fault of the reader, and otherwise as `answer_question` does.
 pub fn run_question<F: Reader, S: Sink>(
     alloc: Global,
     reader: &F,
@@ -117,9 +120,9 @@ pub fn run_question<F: Reader, S: Sink>(
     style: PlaceStyle<'_>,
     sink: &mut S,
 ) -> Result<bool, RunFault>
-    // Of what the reader gave the sink took the lines of the answer; where the file can't be read it took nothing.
+    // `answer_question` runs on the bytes that the reader returned for this path. If the file can't be read, the sink is unchanged.
     ensures run { IsQuestionRun (F.answers reader.now) (style_of style.entry) path.now question.now (S.taken sink.old) (S.taken sink.new) result }
-    // Device is answered where the sink counted a failure, and nowhere else.
+    // The sink counts a failure if and only if the result is `Device`.
     ensures failures { S.failures sink.new ≡ failures_by is_device result (S.failures sink.old) }
 {
     let index = reader.file(path)?;

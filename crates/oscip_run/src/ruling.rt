@@ -1,4 +1,4 @@
-//! What the command that checks the rules of a tree does with its files, over any sink.
+//! The engine of `rules`, which checks the rules of a tree, over any sink.
 ghost use Rattle.std.specs.Prelude.{◌≡◌, ◌<◌, ℕ, IfOk, Some, length, map, slice_get};
 ghost use Rattle.std.specs.String.{string_bytes};
 ghost use Rattle.byte_sink.specs.Sinks.{failures_by};
@@ -22,16 +22,16 @@ use std::alloc::{AllocError, Global};
 use std::thread::Threads;
 use text_escape::PlaceStyle;
 
-/// A tree as rules see it.
+/// A tree, as `cut_rules` takes it.
 #[derive(Clone, Copy)]
 struct RuledTree<'a> {
     net: &'a Net,
     files: &'a [File<'a>],
-    /// For each import of the network.
+    /// The location of each import of the network.
     sites: &'a [Site<'a>],
 }
 
-/// The files of a tree, whose modules have these numbers.
+/// The files of a tree, each with its path and the number of its module, from `modules`.
 fn files_of<'a>(
     alloc: Global,
     sources: &'a [Source],
@@ -51,7 +51,7 @@ fn files_of<'a>(
     Ok(files)
 }
 
-/// Where the imports of a tree are.
+/// The locations of the imports of a tree.
 fn sites_of<'a>(
     alloc: Global,
     sources: &'a [Source],
@@ -88,9 +88,10 @@ fn judge<'a, S: Sink>(
     Ok(write_verdict(alloc, tree.net, &rules, tree.sites, style, sink)?)
 }
 
-/// Reads the files of a tree and then its rules, and writes a line `PATH:LINE:COL: no LINE A .. M N` for each import that breaks a rule, and a line
-/// `stale LINE M N` for each `allow` line whose import the tree doesn't have; or `yes` if there is none, which is the result (`write_verdict`).
-/// Returns `Tree` for a fault of the tree, then `Rules` for one of the rules, and `Device` or `Memory`.
+/// Reads the files of a tree and then its rules, and checks them as `write_verdict` does.
+/// Writes a line `PATH:LINE:COL: no LINE A .. M N` for each import that breaks a rule, and a line `stale LINE M N` for each `allow` line
+/// whose import the tree lacks. If there are none, writes `yes` and returns true.
+/// Fails with `Tree` if the tree is rejected, then with `Rules` if the rules are, and with `Device` or `Memory`.
 pub fn rules_tree<R: Threads + Sync, S: Sink>(
     rt: &R,
     alloc: Global,
@@ -99,11 +100,12 @@ pub fn rules_tree<R: Threads + Sync, S: Sink>(
     style: PlaceStyle<'_>,
     sink: &mut S,
 ) -> Result<bool, RunFault>
-    // The files are sorted by path.
+    // The files are sorted by path, each path once.
     requires { ArePathsInOrder sources.now }
-    // What was read, and the lines that the sink took; after a fault of the input it took nothing.
+    // With `Ok` the sink took exactly these lines or `yes`, and the result is whether it is `yes`. After `Device` or `Memory` it has at
+    // most a prefix of them, after another error none.
     ensures run { IsRulesRun (IsRuledTree sources.now) (IsRefusedTree sources.now) (style_of style.entry) rules.now (S.taken sink.old) (S.taken sink.new) result }
-    // Device is returned if the sink counted a failure, and nowhere else.
+    // The sink counts a failure if and only if the result is `Device`.
     ensures failures { S.failures sink.new ≡ failures_by is_device result (S.failures sink.old) }
 {
     let located = located_net_of(rt, alloc, sources, READERS)?;

@@ -1,4 +1,4 @@
-//! What a question on a network does with the bytes of its files.
+//! The engine of a question about a network, by the kind of the question.
 ghost use Rattle.std.specs.Prelude.{◌≡◌, option_copied};
 ghost use Rattle.byte_sink.specs.Sinks.{failures_by};
 ghost use Rattle.oscip_job.specs.Jobs.{HasNetWorkers};
@@ -19,8 +19,10 @@ use std::alloc::Global;
 use std::sync::Wait;
 use std::thread::Threads;
 
-/// Runs the engine of a question on the bytes of its network and, where the question has them, of its report and its prices. A cut is
-/// searched for by the question's number of workers, with this gate. False is a check that says no, or `why` without a path. Refuses as the engine does.
+/// Runs the engine of a question about the network that `network` states, on the bytes of its report and its prices if the question has
+/// them.
+/// A cut is searched for by the question's number of threads, which call `gate`.
+/// Returns false if a check says no or `why` finds no path. Fails as the engine does.
 pub fn answer<R: Threads + Wait + Sync, G: Gate + Sync, S: Sink>(
     rt: &R,
     alloc: Global,
@@ -31,10 +33,11 @@ pub fn answer<R: Threads + Wait + Sync, G: Gate + Sync, S: Sink>(
     prices: Option<&[u8]>,
     sink: &mut S,
 ) -> Result<bool, RunFault>
+    // A question with a number of workers has 1 to 64 of them.
     requires workers { HasNetWorkers question.now }
-    // What the question's engine reads and puts, with the question's own names.
+    // The engine of the question runs on these bytes, with the question's own names and options; `why` and `reach` ignore the prices.
     ensures run { IsJobRun (IsNetOfPricedText network.now) (IsRefusedPricedText network.now) question.now report.now (option_copied prices.entry) (S.taken sink.old) (S.taken sink.new) result }
-    // Device is answered where the sink counted a failure, and nowhere else.
+    // The sink counts a failure if and only if the result is `Device`.
     ensures failures { S.failures sink.new ≡ failures_by is_device result (S.failures sink.old) }
 {
     match question {
@@ -61,8 +64,9 @@ pub fn answer<R: Threads + Wait + Sync, G: Gate + Sync, S: Sink>(
     }
 }
 
-/// Runs the engine of a question on the files of its tree and, where the question has them, on the bytes of its report and its prices. A
-/// cut is searched for by the question's number of workers, with this gate. False is a check that says no, or `why` without a path. Refuses as the engine does.
+/// Runs the engine of a question about the network of a tree's files, on the bytes of its report and its prices if the question has them.
+/// A cut is searched for by the question's number of threads, which call `gate`.
+/// Returns false if a check says no or `why` finds no path. Fails as the engine does.
 pub fn answer_tree<R: Threads + Wait + Sync, G: Gate + Sync, S: Sink>(
     rt: &R,
     alloc: Global,
@@ -73,11 +77,14 @@ pub fn answer_tree<R: Threads + Wait + Sync, G: Gate + Sync, S: Sink>(
     prices: Option<&[u8]>,
     sink: &mut S,
 ) -> Result<bool, RunFault>
+    // The files are sorted by path, each path once.
     requires in_order { ArePathsInOrder sources.now }
+    // A question with a number of workers has 1 to 64 of them.
     requires workers { HasNetWorkers question.now }
-    // What the question's engine reads and puts, with the question's own names.
+    // The engine of the question runs on these files and bytes, with the question's own names and options; `why` and `reach` ignore the
+    // prices.
     ensures run { IsJobRun (IsNetOfPricedTree sources.now) (IsRefusedPricedTree sources.now) question.now report.now (option_copied prices.entry) (S.taken sink.old) (S.taken sink.new) result }
-    // Device is answered where the sink counted a failure, and nowhere else.
+    // The sink counts a failure if and only if the result is `Device`.
     ensures failures { S.failures sink.new ≡ failures_by is_device result (S.failures sink.old) }
 {
     match question {

@@ -1,12 +1,11 @@
-//! Standard output and standard error, to which the program writes texts at its end.
+//! Standard output and standard error, to which the end of the program writes its texts.
 ghost use Rattle.std.specs.Prelude.{◌≡◌, MatchResult};
 ghost use Rattle.byte_sink.specs.Sinks.{failures_after};
 ghost use Rattle.oscip_run.specs.Streams.{WritesAll, WritesPrefix};
 
 use byte_sink::{Sink, SinkFault, put_all};
 
-/// Standard output or standard error: the sink that takes its texts, and how many texts it failed to take whole. At 2^64 - 1 the
-/// count stays.
+/// Standard output or standard error: its sink, and the number of texts that the sink didn't take whole. The count stops at 2^64 - 1.
 #[derive(Drop)]
 pub struct Stream<S> {
     sink: S,
@@ -14,17 +13,23 @@ pub struct Stream<S> {
 }
 
 impl<S: Sink> Stream<S> {
-    /// A stream that has not failed.
+    /// A stream over this sink, without failures.
     pub fn new(sink: S) -> Self
+        // The stream writes to this sink.
         ensures sink { result.sink ≡ sink }
+        // The stream has counted no failure.
         ensures failures { result.failures ≡ 0 }
     {
         Stream { sink, failures: 0 }
     }
 
-    /// Writes a text. Returns the fault of the sink if it didn't take all of the text; it has taken a prefix, and the failure is counted.
+    /// Writes a text. Fails with the fault of the sink, `Device` or `Memory`, if the sink didn't take the whole text. It then has a prefix
+    /// of the text, and the failure is counted.
     pub fn write(&mut self, text: &str) -> Result<(), SinkFault>
+        // With `Ok` the sink took the whole text, and the count of failures is unchanged; otherwise it took a prefix, and the count is one
+        // more.
         ensures written { MatchResult result (λ _. WritesAll S.taken self.old self.new text.now) (λ _. WritesPrefix S.taken self.old self.new text.now) }
+        // The sink itself counts a failure if and only if the fault is `Device`.
         ensures failures { S.failures self.new.sink ≡ failures_after result (S.failures self.old.sink) }
     {
         let written = put_all(&mut self.sink, text.as_bytes());

@@ -1,4 +1,4 @@
-//! How locations are written for a job.
+//! The style in which a job writes locations.
 ghost use Rattle.std.specs.Prelude.{◌≡◌};
 ghost use Rattle.oscip_run.specs.Styles.{style_of_job, style_of_tree};
 ghost use Rattle.text_escape.specs.Places.{style_of};
@@ -6,8 +6,9 @@ ghost use Rattle.text_escape.specs.Places.{style_of};
 use oscip_job::{Job, SourceTree};
 use text_escape::PlaceStyle;
 
-/// How locations in the files of a tree are written.
+/// The style of locations in the files of a tree.
 pub fn style_of_tree(tree: &SourceTree) -> PlaceStyle<'_>
+    // For editors it is the style of editors with the tree's folder, otherwise the plain style.
     ensures { style_of result ≡ style_of_tree tree.now }
 {
     if tree.for_editor {
@@ -19,8 +20,10 @@ pub fn style_of_tree(tree: &SourceTree) -> PlaceStyle<'_>
     }
 }
 
-/// How the locations that a job writes are written.
+/// The style of the locations that a job writes.
 pub fn style_of_job(job: &Job) -> PlaceStyle<'_>
+    // A job on a tree has the style of the tree. One on an index has the style of editors without a folder if it is for editors; any other
+    // job has the plain style.
     ensures { style_of result ≡ style_of_job job.now }
 {
     match job {

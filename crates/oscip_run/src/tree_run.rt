@@ -33,18 +33,18 @@ use std::sync::Wait;
 use std::thread::Threads;
 use text_escape::PlaceStyle;
 
-/// How a run on the modules of a tree ended.
+/// The outcome of a run on the modules of a tree.
 #[derive(Drop)]
 pub struct TreeRun {
     /// The faults of the files that were left out, in the order of the files.
     pub faults: Vec<TreeFault>,
-    /// The result of the command on the other files; false is a `no`.
+    /// The result of the command on the other files, in which false is `no`.
     pub ended: Result<bool, RunFault>,
 }
 
-/// The modules that the reader gives of a tree. If the tree skips faults, the files that have one of their own are left out, and these
-/// faults are returned as well. The files are checked in at most as many chunks as there are workers. Fails with the fault of the
-/// reader, or with `Memory`.
+/// Reads the files of a tree's modules, and leaves out those with faults of their own if the tree skips faults. Also returns the faults of
+/// the files that it left out.
+/// Checks the files in at most `workers` chunks. Fails with the fault of the reader for the folder, or with `Memory`.
 pub fn tree_files<R: Threads + Sync, F: Reader>(
     rt: &R,
     alloc: Global,
@@ -52,11 +52,12 @@ pub fn tree_files<R: Threads + Sync, F: Reader>(
     tree: &SourceTree,
     workers: u32,
 ) -> Result<PartedFiles, RunFault>
-    // The files of the tree's folder without the excluded ones, and the faults of those that are left out.
+    // The files are those that the reader returned for the folder and its patterns, without the files that were left out; the faults are
+    // those of the latter.
     ensures files { IfOk result (λ parted. AreTreeFiles (F.answers reader.now) tree.now parted.accepted.items parted.faults.items) }
-    // The files are sorted by path.
+    // The files are sorted by path, each path once.
     ensures order { IfOk result (λ parted. ArePathsInOrder parted.accepted.items) }
-    // The reader refused the folder with this fault, or memory ran out.
+    // The error is the reader's fault for the folder, or `Memory`.
     ensures fault { IfErr result (IsTreeUnread (F.answers reader.now) tree.now) }
 {
     let sources = reader.modules(tree.folder.as_str(), tree.excluded.as_slice())?;
@@ -69,7 +70,7 @@ pub fn tree_files<R: Threads + Sync, F: Reader>(
     })
 }
 
-/// Answers a question on the network of these modules. The report is read first, then the prices.
+/// Answers a question about the network of these modules. Reads the report first, then the prices.
 fn ask_net<R: Threads + Wait + Sync, F: Reader, S: Sink>(
     rt: &R,
     alloc: Global,
@@ -91,7 +92,7 @@ fn ask_net<R: Threads + Wait + Sync, F: Reader, S: Sink>(
     )
 }
 
-/// Writes where one of these modules uses another.
+/// Writes the locations where one of these modules uses another.
 fn ask_crossings<R: Threads + Sync, S: Sink>(
     rt: &R,
     alloc: Global,
@@ -143,7 +144,7 @@ fn ask_modules<R: Threads + Sync, S: Sink>(
     Ok(true)
 }
 
-/// Checks these modules against the rules that the reader gives of a path.
+/// Checks these modules against the rules in the file of this path.
 fn ask_rules<R: Threads + Sync, F: Reader, S: Sink>(
     rt: &R,
     alloc: Global,
@@ -161,8 +162,8 @@ fn ask_rules<R: Threads + Sync, F: Reader, S: Sink>(
     rules_tree(rt, alloc, sources, rules.as_slice(), style, sink)
 }
 
-/// Answers a question on these modules, with locations in this style. Other files that the question names are read first. Returns false
-/// for a `no`. Fails with the fault of the reader, and then as the engine of the question does.
+/// Answers a question about these modules, with locations in this style. Reads the other files that the question names first.
+/// Returns false for `no`. Fails with the fault of the reader, and otherwise as the engine of the question does.
 fn ask_tree<R: Threads + Wait + Sync, F: Reader, S: Sink>(
     rt: &R,
     alloc: Global,
@@ -172,12 +173,12 @@ fn ask_tree<R: Threads + Wait + Sync, F: Reader, S: Sink>(
     style: PlaceStyle<'_>,
     sink: &mut S,
 ) -> Result<bool, RunFault>
-    // The files are sorted by path.
+    // The files are sorted by path, each path once.
     requires in_order { ArePathsInOrder sources.now }
     requires workers { HasTreeWorkers question.now }
-    // What the reader gave of the question's paths, and what the engine of the question wrote.
+    // The engine of the question runs on these files, and on what the reader returned for the paths in the question.
     ensures run { IsTreeQuestionRun (F.answers reader.now) (style_of style.entry) sources.now question.now (S.taken sink.old) (S.taken sink.new) result }
-    // Device is returned if the sink counted a failure, and only then.
+    // The sink counts a failure if and only if the result is `Device`.
     ensures failures { S.failures sink.new ≡ failures_by is_device result (S.failures sink.old) }
 {
     match question {
@@ -192,8 +193,9 @@ fn ask_tree<R: Threads + Wait + Sync, F: Reader, S: Sink>(
     }
 }
 
-/// Answers a question on the modules that the reader gives of a tree. Fails with the fault of the reader for the tree's folder, or with
-/// `Memory`, before anything is written.
+/// Answers a question about the modules of a tree.
+/// Fails with the fault of the reader for the tree's folder, or with `Memory`, before anything is written. Any other fault is in the
+/// returned `ended`.
 pub fn run_tree<R: Threads + Wait + Sync, F: Reader, S: Sink>(
     rt: &R,
     alloc: Global,
@@ -202,12 +204,13 @@ pub fn run_tree<R: Threads + Wait + Sync, F: Reader, S: Sink>(
     question: &TreeQuestion,
     sink: &mut S,
 ) -> Result<TreeRun, RunFault>
+    // A question with a number of workers has 1 to 64 of them.
     requires workers { HasTreeWorkers question.now }
-    // Which files the run used, the faults of those that were left out, and what the run on the files did.
+    // The engine of the question runs on the files that `tree_files` returns. With an error there is no run, and the sink is unchanged.
     ensures run { IsTreeQuestionRunOn (F.answers reader.now) tree.now question.now (S.taken sink.old) (S.taken sink.new) result }
-    // That run ended with Device if the sink counted a failure, and only then.
+    // The sink counts a failure if and only if that run ended with `Device`.
     ensures failures { IfOk result (λ run. S.failures sink.new ≡ failures_by is_device run.ended (S.failures sink.old)) }
-    // If there was no run, the sink didn't fail.
+    // Without a run the sink counts no failure.
     ensures failed { IfErr result (λ _. S.failures sink.new ≡ S.failures sink.old) }
 {
     let PartedFiles { accepted, faults } = tree_files(rt, alloc, reader, tree, READERS)?;
