@@ -1,4 +1,4 @@
-//! One worker alone, at a board that nobody else works at.
+//! The work of one thread at a scheduler that no other thread uses.
 ghost use Rattle.std.specs.Prelude.{◌≡◌, ◌<◌, ◌≤◌, ℕ, true, false, length, map, slice_set, IfNone, IfOk, IfSome, OnOk, Some};
 ghost use Rattle.std.specs.Arc.{arc_value};
 ghost use Rattle.work_board.specs.Graphs.{row_at, IsAcyclic};
@@ -11,7 +11,7 @@ use std::marker::Brand;
 use std::sync::Arc;
 use work_board::{Board, BoardFault, Claim, Graph, NamedTree, WorkEntry};
 
-/// Claims the next module, and takes the parts for it; none where all are delivered.
+/// Claims the next module, and returns it with the shared parts for its entry; none if all modules are delivered.
 fn claimed<T: NamedTree, E: WorkEntry>(
     board: &mut Board<'_, T, E>,
 ) -> Result<Option<(u32, Vec<Arc<E::Shared>>)>, AllocError>
@@ -37,7 +37,7 @@ fn claimed<T: NamedTree, E: WorkEntry>(
     }
 }
 
-/// Puts the entry of a claimed module on the board.
+/// Delivers the entry of a claimed module.
 fn put<T: NamedTree, E: WorkEntry>(board: &mut Board<'_, T, E>, number: u32, entry: E)
     requires claimed { is_claimed board.old number ≡ true }
     requires none { has_entry board.old.entries number ≡ false }
@@ -50,7 +50,7 @@ fn put<T: NamedTree, E: WorkEntry>(board: &mut Board<'_, T, E>, number: u32, ent
     }
 }
 
-/// Makes and delivers the entry of the next module; false where all are there.
+/// Makes and delivers the entry of the next module. Returns false if all are delivered.
 fn step<T: NamedTree, W: Work>(
     board: &mut Board<'_, T, W::Entry>,
     work: &W,
@@ -74,7 +74,7 @@ fn step<T: NamedTree, W: Work>(
     }
 }
 
-/// Makes and delivers the entries that aren't there.
+/// Makes and delivers all missing entries.
 fn deliver_rest<T: NamedTree, W: Work>(
     board: &mut Board<'_, T, W::Entry>,
     work: &W,
@@ -92,7 +92,7 @@ fn deliver_rest<T: NamedTree, W: Work>(
     }
 }
 
-/// The entries of a board at which each module has one.
+/// The entries of a scheduler at which each module has one.
 fn whole<E: Drop>(alloc: Global, gathered: Vec<Option<E>>) -> Result<Vec<E>, AllocError>
     requires { (n : ℕ) → n < length gathered.items → has_entry gathered.items n ≡ true }
     ensures { IfOk result (λ entries. map Some entries.items ≡ gathered.items) }
@@ -107,8 +107,8 @@ fn whole<E: Drop>(alloc: Global, gathered: Vec<Option<E>>) -> Result<Vec<E>, All
     Ok(entries)
 }
 
-/// The entries by number, of a board that its workers have left: one worker alone makes those that are missing, claimed
-/// ones too. So an entry is missing only where memory is refused, here or to a worker that abandoned its module.
+/// The entries by module number, after all workers have ended. The calling thread makes the missing ones, also of claimed modules.
+/// So an entry is missing only if an allocation failed, here or in a worker that abandoned its module.
 pub(crate) fn finish<T: NamedTree, W: Work>(
     alloc: Global,
     mut board: Board<'_, T, W::Entry>,
@@ -127,7 +127,7 @@ pub(crate) fn finish<T: NamedTree, W: Work>(
     whole(alloc, board.gather())
 }
 
-/// The entries of a graph's modules by number, in a tree that the type names.
+/// The entries of a graph's modules by number, for the tree that the type names.
 fn alone_in<T: NamedTree, W: Work>(
     alloc: Global,
     graph: &Graph,
@@ -142,16 +142,17 @@ fn alone_in<T: NamedTree, W: Work>(
     finish::<T, W>(alloc, board, work)
 }
 
-/// The entries of a graph's modules by number, made by the calling thread alone. AllocError is answered where memory is
-/// refused.
+/// The entries of a graph's modules by number, made by the calling thread alone. Fails if an allocation fails.
 pub fn entries_alone<W: Work>(
     alloc: Global,
     graph: &Graph,
     work: &W,
 ) -> Result<Vec<W::Entry>, AllocError>
-    // No chain of imports comes back.
+    // No module reaches itself by imports.
     requires acyclic { IsAcyclic graph.now.imports }
+    // The work is for the modules of this graph.
     requires work { W.graph work.now ≡ graph.now }
+    // There is an entry for each module, that of the module.
     ensures { IfOk result (λ entries. AreEntries W.Entry.is_of graph.now entries.items) }
 {
     alone_in::<Brand, W>(alloc, graph, work)

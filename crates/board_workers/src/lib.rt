@@ -1,6 +1,6 @@
-//! Workers at one board: each claims a module, makes its entry and delivers it, until all are there.
-//! Stands on `work_board`, and on std for threads and the lock.
-//! Its contract: for every number of workers and every gate the entries are each module's entry, by number.
+//! Threads that work at one scheduler: each claims a module, makes its entry and delivers it, until all are delivered.
+//! Depends on `work_board`, and on std for threads and the lock.
+//! The main call is `entries`: for every number of workers, every gate and every schedule, the result has the entry of each module, by number.
 #![tactic(auto)]
 
 mod alone;

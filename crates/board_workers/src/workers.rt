@@ -1,4 +1,4 @@
-//! Workers in threads of their own, at a board behind a lock.
+//! Workers in threads, at a scheduler guarded by a lock.
 ghost use Rattle.std.specs.Prelude.{◌≡◌, map, IfErr, IfNone, IfOk, IfSome};
 ghost use Rattle.std.specs.Arc.{arc_value};
 ghost use Rattle.std.specs.Sync.Mutex.{mutex_guard_value};
@@ -15,17 +15,17 @@ use std::thread;
 use std::thread::Threads;
 use work_board::{Board, BoardFault, Claim, Graph, NamedTree, WorkEntry};
 
-/// A board behind a lock.
+/// A scheduler guarded by a lock.
 type Locked<'g, T, E> = Mutex<Board<'g, T, E>>;
 
-/// A board whose lock is held.
+/// A scheduler whose lock is held.
 type Held<'l, 'g, T, E> = MutexGuard<'l, Board<'g, T, E>>;
 
 /// No module is ready.
 struct Later;
 
-/// Claims a module and takes the parts for it; none where the board is over. Where memory is refused, the module is abandoned,
-/// and so it is over.
+/// Claims a module, and returns it with the shared parts for its entry; none if the work is over. If an allocation fails, the module is
+/// abandoned, so the work is over.
 fn take<T: NamedTree, E: WorkEntry>(
     board: &mut Board<'_, T, E>,
 ) -> Result<Option<(u32, Vec<Arc<E::Shared>>)>, Later>
@@ -50,8 +50,8 @@ fn take<T: NamedTree, E: WorkEntry>(
     }
 }
 
-/// Waits until there is a module to make an entry of. Where the board is over there is none, and the lock is still held. Claim
-/// and wait are in one holding of the lock.
+/// Waits for a module to work on. If the work is over, returns the lock, which is still held. The claim and the wait are in one critical
+/// section, so that no notification is missed.
 fn next<'l, 'g, T: NamedTree, E: WorkEntry, R: Wait>(
     rt: &R,
     locked: &'l Locked<'g, T, E>,
@@ -71,7 +71,7 @@ fn next<'l, 'g, T: NamedTree, E: WorkEntry, R: Wait>(
     unreachable!()
 }
 
-/// Delivers an entry. Where memory was refused the module is abandoned; an entry that is refused is given up.
+/// Delivers an entry, or abandons the module if an allocation failed. Drops an entry that isn't accepted.
 fn hand_in<T: NamedTree, E: WorkEntry>(
     board: &mut Board<'_, T, E>,
     number: u32,
@@ -85,8 +85,8 @@ fn hand_in<T: NamedTree, E: WorkEntry>(
     }
 }
 
-/// Goes on as the worker of this number. It leaves nowhere but at a board that is over, whose lock it hands out: all is delivered,
-/// or memory was refused to a module, which is abandoned.
+/// Runs the worker of this number. It returns only when the work is over, with the lock: all modules are delivered, or one was abandoned
+/// since an allocation failed.
 fn worker<'l, 'g, T: NamedTree, W: Work, G: BoardGate, R: Wait>(
     rt: &R,
     locked: &'l Locked<'g, T, W::Entry>,
@@ -116,7 +116,7 @@ fn worker<'l, 'g, T: NamedTree, W: Work, G: BoardGate, R: Wait>(
     unreachable!()
 }
 
-/// Starts the other workers, each in a thread, and goes on as worker 0. A thread that can't be started is left out.
+/// Starts the other workers, each in a thread, and runs worker 0. Goes on without a thread that can't be started.
 fn in_threads<
     T: NamedTree + Send + Sync,
     W: Work + Sync,
@@ -148,7 +148,7 @@ where
     );
 }
 
-/// The entries of a graph's modules by number, in a tree that the type names.
+/// The entries of a graph's modules by number, for the tree that the type names.
 fn in_tree<
     T: NamedTree + Send + Sync,
     W: Work + Sync,
@@ -175,10 +175,10 @@ where
     finish(alloc, locked.into_inner(), work)
 }
 
-/// The entries of a graph's modules by number, made by the calling thread and at most `workers - 1` others, that call the gate
-/// between a claim and its delivery. Whatever turns they take, each is the entry of its module, and one that they leave out
-/// is made at the end. A thread that can't be started is left out; with one worker none is started. AllocError is answered
-/// where memory is refused. It may wait for the lock and for its threads.
+/// The entries of a graph's modules by number, made by the calling thread and at most `workers - 1` others.
+/// Each worker calls `gate` between a claim and its delivery. The result is the same for every schedule: the calling thread makes the
+/// entries that are missing at the end. It goes on without threads that can't be started, and starts none for one worker.
+/// Fails if an allocation fails. It may wait for the lock and for its threads.
 pub fn entries<W: Work + Sync, G: BoardGate + Sync, R: Threads + Wait + Sync>(
     rt: &R,
     alloc: Global,
@@ -190,9 +190,11 @@ pub fn entries<W: Work + Sync, G: BoardGate + Sync, R: Threads + Wait + Sync>(
 where
     W::Entry: Send + Sync,
     <W::Entry as WorkEntry>::Shared: Send + Sync,
-    // No chain of imports comes back.
+    // No module reaches itself by imports.
     requires acyclic { IsAcyclic graph.now.imports }
+    // The work is for the modules of this graph.
     requires work { W.graph work.now ≡ graph.now }
+    // For every number of workers, every gate and every schedule there is an entry for each module, that of the module.
     ensures { IfOk result (λ entries. AreEntries W.Entry.is_of graph.now entries.items) }
 {
     in_tree::<Brand, W, G, R>(rt, alloc, graph, workers, work, gate)

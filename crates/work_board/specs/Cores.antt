@@ -1,4 +1,4 @@
--- The core of a board: the entries by number, the claimed modules, and a mark that one was abandoned; and its cases.
+-- The core of the scheduler: the entries by module number, the claimed modules, and whether one was abandoned.
 use Rattle.std.specs.Prelude.{◌≡◌, ℕ, ◌<◌, ◌≤◌, ◌⊎◌, ◌||◌, ◌&&◌, not, List, [], ◌∷◌, ◌↔◌, replicate, length, map, slice_index_or, slice_set, Bool, true, false, Option, None, Some, is_none, is_some, count_by, Result, Ok, Err}
 use Rattle.work_board.specs.declared.claim.Claim.{Claim}
 use Rattle.work_board.specs.declared.claim.Claim.TheVariants.{Finished, Module, Later}
@@ -23,28 +23,28 @@ module _ {E : Type 0} where
   abbrev pub is_claimed : Core E → ℕ → Bool
   is_claimed c n = slice_index_or c.claimed n false
 
-  -- all is delivered, or a module was abandoned
+  -- the work is over: all modules are delivered, or one was abandoned
   abbrev pub IsOver : Core E → Type 0
   IsOver c = (c.abandoned ≡ true) ⊎ ((n : ℕ) → n < length c.entries → has_entry c.entries n ≡ true)
 
-  -- no worker holds a module: each that is claimed is delivered
+  -- no worker holds a module: each claimed module is delivered
   abbrev pub IsIdle : Core E → Type 0
   IsIdle c = (n : ℕ) → is_claimed c n ≡ true → has_entry c.entries n ≡ true
 
-  -- nobody claimed the module, and its imports are delivered
+  -- the module isn't claimed, and all its imports are delivered
   pub record IsReady (imports : List (List ℕ)) (c : Core E) (n : ℕ) : Type 0 where
     pub within : n < length c.entries
     pub unclaimed : is_claimed c n ≡ false
     pub imported : (w : ℕ) → RowLeads imports n w → has_entry c.entries w ≡ true
 
-  -- the cases of a claim
+  -- the three results of `claim`, with the core before and after
   abbrev pub IsClaim : List (List ℕ) → Core E → Claim → Core E → Type 0
   IsClaim imports c Finished d = IsOver c × (d ≡ c)
   IsClaim imports c (Module n) d =
       (IsOver c → ⊥) × IsReady imports c n × ((m : ℕ) → IsReady imports c m → n ≤ m) × (d ≡ record c { claimed = slice_set c.claimed n true })
   IsClaim imports c Later d = (IsOver c → ⊥) × ((m : ℕ) → IsReady imports c m → ⊥) × (d ≡ c)
 
-  -- why a delivery is refused, in the order of testing, or that it isn't
+  -- why a delivery fails, in the order of testing; none if it succeeds
   abbrev pub IsRefusal : List (List ℕ) → List ℕ → Core E → ℕ → Option BoardFault → Type 0
   IsRefusal names name c n None = (is_claimed c n ≡ true) × (has_entry c.entries n ≡ false) × (name ≡ row_at names n)
   IsRefusal names name c n (Some NotClaimed) = is_claimed c n ≡ false
@@ -52,20 +52,20 @@ module _ {E : Type 0} where
   IsRefusal names name c n (Some WrongModule) = (is_claimed c n ≡ true) × (has_entry c.entries n ≡ false) × (name ≡ row_at names n → ⊥)
   IsRefusal names name c n (Some Memory) = ⊥
 
-  -- the cases of a delivery: the entry is put in, or handed back
+  -- the results of `deliver`: the entry is stored, or returned with an error
   abbrev pub IsDelivery : List (List ℕ) → List ℕ → E → ℕ → Core E → Result (Unit {0}) (BoardFault × E) → Core E → Type 0
   IsDelivery names name e n c (Ok _) d = IsRefusal names name c n None × (d ≡ record c { entries = slice_set c.entries n (Some e) })
   IsDelivery names name e n c (Err r) d = IsRefusal names name c n (Some r.0) × (r.1 ≡ e) × (d ≡ c)
 
-  -- an abandoned module is claimed and not delivered
+  -- whether the work is abandoned after `abandon`: the module must be claimed and not delivered
   abbrev pub abandoned_after : Core E → ℕ → Bool
   abandoned_after c n = c.abandoned || (is_claimed c n && not (has_entry c.entries n))
 
-  -- claimed is what is delivered
+  -- the core in which a module is claimed exactly if it is delivered
   abbrev pub taken_back : Core E → Core E
   taken_back c = record c { claimed = map is_some c.entries }
 
-  -- how many modules aren't delivered
+  -- the number of modules that aren't delivered
   abbrev pub missing : Core E → ℕ
   missing c = count_by is_none c.entries
 
@@ -73,17 +73,17 @@ module _ {E : Type 0} where
   abbrev pub AreOf : (List ℕ → E → Type 0) → List (List ℕ) → List (Option E) → Type 0
   AreOf is_of names entries = (n : ℕ) (e : E) → entry_at entries n ≡ Some e → is_of (row_at names n) e
 
--- the shared part of an entry with a mark, if it is there
+-- the shared part of an entry whose flag is set, if there is an entry
 abbrev pub share_of : {E X : Type 0} → (E → X) → Bool → Option E → List X
 share_of f true (Some e) = f e ∷ []
 share_of f true None = []
 share_of f false entry = []
 
--- that of the module of this number
+-- the shared part of the entry of a module whose flag is set
 abbrev pub share_at : {E X : Type 0} → (E → X) → List Bool → List (Option E) → ℕ → List X
 share_at f marks entries v = share_of f (slice_index_or marks v false) (entry_at entries v)
 
--- the parts are those of all that n reaches, ascending by name, and all of these are delivered
+-- the parts are those of exactly the modules that n reaches, sorted by name, and all of these modules are delivered
 pub record AreShares {E X : Type 0} (f : E → X) (g : Modules) (c : Core E) (n : ℕ) (parts : List X) : Type 0 where
   pub order : List ℕ
   pub by_name : IsNameOrder g.names order
@@ -92,6 +92,6 @@ pub record AreShares {E X : Type 0} (f : E → X) (g : Modules) (c : Core E) (n 
   pub there : (v : ℕ) → Reaches g.imports n v → has_entry c.entries v ≡ true
   pub parts_are : parts ≡ flat_map (share_at f marks c.entries) order
 
--- a new board of so many modules
+-- the core of a new scheduler for this number of modules
 abbrev pub new_core : {E : Type 0} → ℕ → Core E
 new_core count = record { entries = replicate count None; claimed = replicate count false; abandoned = false }

@@ -1,4 +1,4 @@
--- Graphs of modules: what each imports, by numbers, and chains of imports.
+-- Graphs of modules: what each imports, by numbers, and paths of imports.
 use Rattle.std.specs.Prelude.{◌≡◌, ℕ, ◌<◌, ◌≤◌, ◌==◌, List, [], ◌∷◌, length, map, slice_index_or, count_by, All, Contains, IsPermutation, Vec}
 use Rattle.std.specs.Cmp.Lexicographic.{slice_cmp}
 use Rattle.std.specs.List.{range_with_len}
@@ -18,27 +18,27 @@ lists rows = map (λ r. r.items) rows
 abbrev pub row_at : {X : Type 0} → List (List X) → ℕ → List X
 row_at rows n = slice_index_or rows n []
 
--- how often n stands in the row
+-- how often n occurs in the list
 abbrev pub times_in : ℕ → List ℕ → ℕ
 times_in n row = count_by (λ x. x == n) row
 
--- as many rows as names, at most 4,096, each of at most 65,536 imports, and each import is a module
+-- as many lists as names, at most 4,096, each of at most 65,536 imports, and each import is a module
 pub record IsGraph (g : Modules) : Type 0 where
   pub size : length g.imports ≡ length g.names
   pub few : length g.names ≤ 4096
   pub short : (m : ℕ) → length (row_at g.imports m) ≤ 65536
   pub within : (m : ℕ) → All (λ w. w < length g.names) (row_at g.imports m)
 
--- the numbers of all names, each once, by ascending name
+-- the numbers of all names, each once, sorted by name
 pub record IsNameOrder (names : List (List ℕ)) (order : List ℕ) : Type 0 where
   pub all : IsPermutation (range_with_len 0 (length names)) order
   pub ascend : IsSortedBy (λ v w. is_lt (slice_cmp nat_cmp (row_at names v) (row_at names w))) order
 
--- each row is of at most 65,536 numbers below the count
+-- each list has at most 65,536 numbers, all less than the count
 abbrev pub AreRows : List (List ℕ) → ℕ → Type 0
 AreRows rows count = (m : ℕ) → (length (row_at rows m) ≤ 65536) × All (λ w. w < count) (row_at rows m)
 
--- the row of n has m as often as the row of m has n
+-- the reversed graph: m occurs in the list of n as often as n in the list of m
 abbrev pub AreTurned : List (List ℕ) → List (List ℕ) → Type 0
 AreTurned imports importers = (m n : ℕ) → times_in m (row_at importers n) ≡ times_in n (row_at imports m)
 
@@ -46,7 +46,7 @@ AreTurned imports importers = (m n : ℕ) → times_in m (row_at importers n) �
 abbrev pub RowLeads : List (List ℕ) → ℕ → ℕ → Type 0
 RowLeads imports m n = Contains (row_at imports m) n
 
--- each imports the next: the first, those of the list, and then the end
+-- a path from m to b: each module imports the next, from m over those of the list to b
 abbrev pub IsChain : List (List ℕ) → ℕ → List ℕ → ℕ → Type 0
 IsChain imports m [] b = RowLeads imports m b
 IsChain imports m (n ∷ more) b = RowLeads imports m n × IsChain imports n more b

@@ -1,4 +1,4 @@
--- What every board keeps.
+-- The invariant of a scheduler.
 use Rattle.std.specs.Prelude.{◌≡◌, ℕ, ◌<◌, ◌↔◌, zero, suc, List, [], length, slice_index, slice_index_or, cond, ◌+◌, ◌∷◌, Bool, true, false, Option}
 use Rattle.work_board.specs.declared.state.State.{State}
 use Rattle.work_board.specs.declared.state.State.TheVariants.{Waiting, Free, Claimed, Delivered}
@@ -11,33 +11,33 @@ use Rattle.work_board.specs.Marks.{marked}
 abbrev pub state_at : List State → ℕ → State
 state_at states n = slice_index_or states n Waiting
 
--- claimed, perhaps delivered too
+-- the module is claimed or delivered
 abbrev pub taken : State → Bool
 taken Waiting = false
 taken Free = false
 taken Claimed = true
 taken Delivered = true
 
--- the state once its worker is gone
+-- the state after `take_back`
 abbrev pub let_go : State → State
 let_go Waiting = Waiting
 let_go Free = Free
 let_go Claimed = Free
 let_go Delivered = Delivered
 
--- what a state says of the count of open imports and of the entry
+-- what a state means: how many imports aren't delivered, and whether there is an entry
 abbrev pub IsStateOf : State → ℕ → Bool → Type 0
 IsStateOf Waiting count there = (0 < count) × (there ≡ false)
 IsStateOf Free count there = (count ≡ 0) × (there ≡ false)
 IsStateOf Claimed count there = (count ≡ 0) × (there ≡ false)
 IsStateOf Delivered count there = (count ≡ 0) × (there ≡ true)
 
--- how many imports of a row aren't delivered
+-- the number of imports of a list that aren't delivered
 abbrev pub open_of : {E : Type 0} → List (Option E) → List ℕ → ℕ
 open_of entries [] = 0
 open_of entries (w ∷ row) = cond (has_entry entries w) 0 1 + open_of entries row
 
--- the least free module; or none, and all are delivered or not
+-- what `look` finds: the first free module, or none, and whether all modules are delivered
 abbrev pub IsLook : List State → Claim → Type 0
 IsLook states Finished = (k : ℕ) → k < length states → state_at states k ≡ Delivered
 IsLook states (Module n) = (n < length states) × (state_at states n ≡ Free) × ((k : ℕ) → k < n → state_at states k ≡ Free → ⊥)
@@ -56,7 +56,7 @@ module _ {E : Type 0} (is_of : List ℕ → E → Type 0) (g : Modules) where
     pub own : AreOf is_of g.names entries
     pub marks : (m v : ℕ) → m < length g.names → v < length g.names → taken (state_at states m) ≡ true → (marked (row_at reached m) v ≡ true) ↔ Reaches g.imports m v
 
--- what a release leaves of a state, by the count that is left
+-- the state after an import was delivered, by the number of imports that are left
 abbrev pub freed : State → ℕ → State
 freed Waiting zero = Free
 freed Waiting (suc n) = Waiting
@@ -64,7 +64,7 @@ freed Free n = Free
 freed Claimed n = Claimed
 freed Delivered n = Delivered
 
--- the count of a module with open imports, and of one without
+-- the number of undelivered imports fits the state
 abbrev pub IsFit : State → ℕ → Type 0
 IsFit Waiting count = 0 < count
 IsFit Free count = count ≡ 0

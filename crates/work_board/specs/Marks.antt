@@ -1,10 +1,10 @@
--- Rows of marks for what each module reaches.
+-- Flags of the modules that each module reaches.
 use Rattle.std.specs.Prelude.{◌≡◌, ℕ, ◌⊎◌, List, slice_index_or, Bool, true, false, Contains}
 use Rattle.work_board.specs.Graphs.{row_at}
 
 abbrev pub marked : List Bool → ℕ → Bool
 marked marks v = slice_index_or marks v false
 
--- the row has v, or one whose row of marks has it
+-- v is a module of the list, or is reached by one of them
 abbrev pub IsReachedBy : List (List Bool) → List ℕ → ℕ → Type 0
 IsReachedBy reached row v = (w : ℕ) × Contains row w × ((w ≡ v) ⊎ (marked (row_at reached w) v ≡ true))

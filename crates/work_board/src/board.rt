@@ -1,4 +1,4 @@
-//! The board: what is claimed, what is delivered, and what each claimed module reaches.
+//! The scheduler: which modules are claimed and delivered, and what each claimed module reaches.
 ghost use Rattle.std.specs.Prelude.{◌≡◌, ◌<◌, ◌≤◌, ◌+◌, ◌⊎◌, ℕ, true, false, length, map, replicate, All, IfOk, IfErr, OnOk, ◌++◌, slice_index, slice_set, None, Some};
 ghost use Rattle.std.specs.Arc.{arc_value};
 ghost use Rattle.std.specs.List.{flat_map};
@@ -14,20 +14,20 @@ use std::alloc::{AllocError, Global};
 use std::marker::{Model, PhantomData};
 use std::sync::Arc;
 
-/// The work on the modules of a graph, for a lock: workers claim modules by number, make their entries and deliver them. A
-/// module is ready once all that it imports is delivered. Memory is taken by `new` and `interfaces` alone. The type names
-/// the graph.
+/// The work on the modules of a graph, to be held by a lock. Workers claim modules by number, make their entries and deliver them.
+/// A module is ready once the entries of all modules that it imports are delivered. Only `new` and `interfaces` allocate memory.
+/// The type parameter `T` names the graph.
 #[derive(Drop)]
 pub struct Board<'g, T: NamedTree, E: WorkEntry> {
     graph: &'g Graph,
-    /// Per module its entry.
+    /// For each module its entry.
     entries: Vec<Option<E>>,
     states: Vec<State>,
-    /// Per module how many of its imports aren't delivered.
+    /// For each module how many of its imports aren't delivered.
     waiting: Vec<u32>,
-    /// Per module that is claimed or delivered what it reaches. The other rows say nothing.
+    /// For each claimed or delivered module a flag for each module that it reaches. The flags of other modules mean nothing.
     reached: Vec<Vec<bool>>,
-    /// Room for a row that is made.
+    /// Memory for the flags of the next claimed module, so that `claim` need not allocate.
     spare: Vec<bool>,
     abandoned: bool,
     of: PhantomData<T>,
@@ -60,7 +60,7 @@ fn are_all_delivered(states: &[State]) -> bool
     true
 }
 
-/// The least free module; with none, whether all are delivered.
+/// The free module with the smallest number. Without a free module, whether all are delivered.
 fn look(states: &[State]) -> Claim
     requires { length states.now ≤ 4096 }
     ensures { IsLook states.now result }
@@ -77,7 +77,7 @@ fn look(states: &[State]) -> Claim
     }
 }
 
-/// The state of a module; waiting past the end.
+/// The state of a module; `Waiting` if there is no such module.
 fn state_of(states: &[State], place: usize) -> State
     ensures value { result ≡ state_at states.now place }
     ensures within { (result ≡ State.Waiting → ⊥) → place < length states.now }
@@ -89,7 +89,7 @@ fn state_of(states: &[State], place: usize) -> State
     }
 }
 
-/// One import less is open for each of these modules. Those with none left are free.
+/// Counts one import less for each of these modules, one of whose imports was delivered. A module without open imports becomes free.
 fn release(waiting: &mut [u32], states: &mut [State], importers: &[u32])
     requires size { length states.old ≡ length waiting.old }
     requires within { All (λ m. m < length waiting.old) importers.now }
@@ -117,7 +117,7 @@ fn no_entries<E: WorkEntry>(alloc: Global, count: usize) -> Result<Vec<Option<E>
     Ok(entries)
 }
 
-/// Per module how many imports it has.
+/// For each module how many imports it has.
 fn counts_of(alloc: Global, graph: &Graph) -> Result<Vec<u32>, AllocError>
     ensures size { IfOk result (λ counts. length counts.items ≡ length graph.now.names) }
     ensures counts { IfOk result (λ counts. (m : ℕ) → m < length graph.now.names → slice_index counts.items m ≡ length (row_at graph.now.imports m)) }
@@ -131,7 +131,7 @@ fn counts_of(alloc: Global, graph: &Graph) -> Result<Vec<u32>, AllocError>
     Ok(counts)
 }
 
-/// The state of a module of which so many imports aren't delivered.
+/// The initial state of a module that has this number of imports.
 fn state_for(count: u32) -> State
     ensures { result ≡ freed State.Waiting count }
 {
@@ -142,7 +142,7 @@ fn state_for(count: u32) -> State
     }
 }
 
-/// A module without imports is free.
+/// The initial states: a module without imports is free.
 fn states_of(alloc: Global, counts: &[u32]) -> Result<Vec<State>, AllocError>
     ensures { IfOk result (λ states. states.items ≡ map (freed State.Waiting) counts.now) }
 {
@@ -153,7 +153,7 @@ fn states_of(alloc: Global, counts: &[u32]) -> Result<Vec<State>, AllocError>
     Ok(states)
 }
 
-/// Lets each module go that is claimed and not delivered.
+/// Frees each module that is claimed and not delivered.
 fn let_all_go(states: &mut [State])
     ensures { states.new ≡ map let_go states.old }
 {
@@ -164,7 +164,7 @@ fn let_all_go(states: &mut [State])
     }
 }
 
-/// Adds the shared part of an entry that is there.
+/// Appends the shared part of the entry, if there is one.
 fn add_share<E: WorkEntry>(
     parts: &mut Vec<Arc<E::Shared>>,
     entry: &Option<E>,
@@ -180,7 +180,7 @@ fn add_share<E: WorkEntry>(
     }
 }
 
-/// The shared parts of those of these modules that have a mark.
+/// The shared parts of those modules of `order` whose flag is set.
 fn marked_shares<E: WorkEntry>(
     alloc: Global,
     marks: &[bool],
@@ -201,7 +201,7 @@ fn marked_shares<E: WorkEntry>(
     Ok(parts)
 }
 
-/// The same. Where there is no mark, the modules aren't gone through.
+/// The shared parts of those modules of `order` whose flag is set. If no flag is set, it doesn't visit the modules one by one.
 fn shares<E: WorkEntry>(
     alloc: Global,
     marks: &[bool],
@@ -218,7 +218,7 @@ fn shares<E: WorkEntry>(
     marked_shares(alloc, marks, entries, order)
 }
 
-/// The row of marks at this place.
+/// The flags of the module with this number.
 fn marks_at(rows: &[Vec<bool>], place: usize) -> &[bool]
     requires { place < length rows.now }
     ensures { result.now ≡ row_at (lists rows.now) place }
@@ -226,7 +226,7 @@ fn marks_at(rows: &[Vec<bool>], place: usize) -> &[bool]
     rows[place].as_slice()
 }
 
-/// Whether a module is claimed, perhaps delivered too.
+/// Whether a module is claimed or delivered.
 fn is_taken(states: &[State], place: usize) -> bool
     ensures { result ≡ taken (state_at states.now place) }
 {
@@ -239,9 +239,11 @@ fn is_taken(states: &[State], place: usize) -> bool
 }
 
 impl<'g, T: NamedTree, E: WorkEntry> Board<'g, T, E> {
-    /// A board of a graph, with room for all that it will hold.
+    /// A scheduler for the modules of a graph, with memory for all flags and states.
     pub fn new(alloc: Global, graph: &'g Graph) -> Result<Board<'g, T, E>, AllocError>
+        // The graph is the one that the type names.
         requires { graph.now ≡ T.graph }
+        // No module is claimed, delivered or abandoned.
         ensures { IfOk result (λ board. board ≡ new_core (length T.graph.names)) }
     {
         graph.keeps();
@@ -263,32 +265,40 @@ impl<'g, T: NamedTree, E: WorkEntry> Board<'g, T, E> {
         })
     }
 
-    /// What every board keeps: each entry is the entry of its module, what is delivered was claimed, and all that a claimed
-    /// module reaches is delivered. Where no chain of imports comes back work goes on: if no worker holds a module and none
-    /// is ready, it is over.
+    /// The invariant of a scheduler.
     pub fn keeps(&self)
+        // There is an entry, or its place, for each module of the graph.
         ensures size { length self.now.entries ≡ length T.graph.names }
+        // Each entry is the entry of its module, by name.
         ensures own { AreOf E.is_of T.graph.names self.now.entries }
+        // A delivered module is claimed.
         ensures claimed { (n : ℕ) → has_entry self.now.entries n ≡ true → is_claimed self.now n ≡ true }
+        // All modules that a claimed module reaches are delivered.
         ensures reached { (n v : ℕ) → is_claimed self.now n ≡ true → Reaches T.graph.imports n v → has_entry self.now.entries v ≡ true }
+        // There is a flag for each module of the graph, whether it is claimed.
         ensures marks { length self.now.claimed ≡ length T.graph.names }
+        // If the graph is acyclic, no worker holds a module and no module is ready, then the work is over.
         ensures goes_on { IsAcyclic T.graph.imports → IsIdle self.now → ((n : ℕ) → IsReady T.graph.imports self.now n → ⊥) → IsOver self.now }
     {
         self.graph.keeps();
     }
 
-    /// Whether memory was refused to a claimed module.
+    /// Whether a claimed module was abandoned, since an allocation failed.
     pub fn is_abandoned(&self) -> bool
+        // It is the flag of `abandon`.
         ensures { result ≡ self.now.abandoned }
     {
         self.abandoned
     }
 
-    /// The shared parts of all that a claimed module reaches, ascending by name. Refuses with `NotClaimed` a module that
-    /// nobody claimed, and with `Memory`.
+    /// The shared parts of the entries of all modules that a claimed module reaches, sorted by name.
+    /// Fails with `NotClaimed` for a module that isn't claimed, and with `Memory`.
     pub fn interfaces(&self, number: u32) -> Result<Vec<Arc<E::Shared>>, BoardFault>
+        // They are the shared parts of exactly the modules that the module reaches, sorted by name.
         ensures shares { IfOk result (λ parts. AreShares E.shared_of T.graph self.now number (map arc_value parts.items)) }
+        // The module is claimed.
         ensures claimed { IfOk result (λ parts. is_claimed self.now number ≡ true) }
+        // The error is `NotClaimed` for a module that isn't claimed, or else `Memory`.
         ensures refused { IfErr result (λ fault. ((fault ≡ BoardFault.NotClaimed) × (is_claimed self.now number ≡ false)) ⊎ (fault ≡ BoardFault.Memory)) }
     {
         if !is_taken(self.states.as_slice(), number as usize) {
@@ -304,8 +314,9 @@ impl<'g, T: NamedTree, E: WorkEntry> Board<'g, T, E> {
         )?)
     }
 
-    /// What a worker is to do next. The least ready module is claimed, unless all are delivered or one was abandoned.
+    /// Claims the ready module with the smallest number, unless the work is over: all modules are delivered, or one was abandoned.
     pub fn claim(&mut self) -> Claim
+        // The result is `Finished` if the work is over, the claimed module, or `Later` if no module is ready.
         ensures { IsClaim T.graph.imports self.old result self.new }
     {
         if self.abandoned {
@@ -319,7 +330,7 @@ impl<'g, T: NamedTree, E: WorkEntry> Board<'g, T, E> {
         claim
     }
 
-    /// Claims a ready module, and marks what it reaches.
+    /// Claims a ready module, and sets the flags of the modules that it reaches.
     fn hold(&mut self, number: u32)
         requires { IsReady T.graph.imports self.old number }
         ensures { self.new ≡ record self.old { claimed = slice_set self.old.claimed number true } }
@@ -335,7 +346,7 @@ impl<'g, T: NamedTree, E: WorkEntry> Board<'g, T, E> {
         self.states[place] = State::Claimed;
     }
 
-    /// Why this delivery is refused.
+    /// Why this entry can't be delivered; none if it can.
     fn refusal(&self, number: u32, entry: &E) -> Option<BoardFault>
         ensures told { IsRefusal T.graph.names (E.name_of entry.now) self.now number result }
         ensures kept { E.is_of (E.name_of entry.now) entry.now }
@@ -356,7 +367,7 @@ impl<'g, T: NamedTree, E: WorkEntry> Board<'g, T, E> {
         }
     }
 
-    /// Puts in the entry of a claimed module.
+    /// Stores the entry of a claimed module, and counts it as delivered for the modules that import it.
     fn put(&mut self, number: u32, entry: E)
         requires within { number < length T.graph.names }
         requires claimed { is_claimed self.old number ≡ true }
@@ -375,9 +386,10 @@ impl<'g, T: NamedTree, E: WorkEntry> Board<'g, T, E> {
         );
     }
 
-    /// Takes the entry of a claimed module, or hands it back and changes nothing. Refuses with `NotClaimed`, then with
-    /// `Twice` a module that is delivered, then with `WrongModule` the entry of a module of another name.
+    /// Delivers the entry of a claimed module. Otherwise returns the entry, and changes nothing.
+    /// Fails with `NotClaimed`, then with `Twice` for a delivered module, then with `WrongModule` for an entry of a module of another name.
     pub fn deliver(&mut self, number: u32, entry: E) -> Result<(), (BoardFault, E)>
+        // The entry is stored, or returned with the first of these errors while nothing changes.
         ensures { IsDelivery T.graph.names (E.name_of entry) entry number self.old result self.new }
     {
         match self.refusal(number, &entry) {
@@ -389,9 +401,10 @@ impl<'g, T: NamedTree, E: WorkEntry> Board<'g, T, E> {
         }
     }
 
-    /// Says that memory was refused to a claimed module, which stays claimed. For one that nobody claimed, or that is
-    /// delivered, it changes nothing.
+    /// Records that an allocation failed for a claimed module, which stays claimed. Changes nothing for a module that isn't claimed or that is
+    /// delivered.
     pub fn abandon(&mut self, number: u32)
+        // The work counts as abandoned if the module was claimed and not delivered, or if it counted so before.
         ensures { self.new ≡ record self.old { abandoned = abandoned_after self.old number } }
     {
         if let Some(State::Claimed) = self.states.get(number as usize) {
@@ -399,18 +412,23 @@ impl<'g, T: NamedTree, E: WorkEntry> Board<'g, T, E> {
         }
     }
 
-    /// Lets each module go that is claimed and not delivered: whoever claimed it is gone.
+    /// Frees each module that is claimed and not delivered, since its worker has ended.
     pub fn take_back(&mut self)
+        // No worker holds a module.
         ensures idle { IsIdle self.new }
+        // A module is claimed exactly if it is delivered, and nothing else changes.
         ensures back { self.new ≡ taken_back self.old }
     {
         let_all_go(self.states.as_mut_slice());
     }
 
-    /// The entries by number; none where a module isn't delivered.
+    /// The entries by module number, none for a module that isn't delivered.
     pub fn gather(self) -> Vec<Option<E>>
+        // They are the entries of the scheduler.
         ensures entries { result.items ≡ self.entry.entries }
+        // There is one place for each module of the graph.
         ensures size { length result.items ≡ length T.graph.names }
+        // Each entry is the entry of its module, by name.
         ensures own { AreOf E.is_of T.graph.names result.items }
     {
         let Board {

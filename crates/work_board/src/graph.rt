@@ -1,4 +1,4 @@
-//! A graph of modules by rows of imports, with the rows of those that import a module, and the order of their names.
+//! Graphs of modules: names, imports, importers, and the order of the names.
 ghost use Rattle.std.specs.Prelude.{◌≡◌, ◌↔◌, ◌<◌, ◌≤◌, ◌+◌, ◌==◌, ℕ, cond, IsTrue, length, map, take, All, IfOk, OnOk, OnErr, slice_set, vec_len, [], ◌∷◌, ◌++◌, Vec};
 ghost use Rattle.std.specs.List.{range_with_len};
 ghost use Rattle.std.specs.String.{string_bytes};
@@ -7,20 +7,20 @@ ghost use Rattle.work_board.specs.Graphs.{lists, row_at, times_in, AreRows, AreT
 use std::alloc::{AllocError, Global};
 use std::marker::Model;
 
-/// The most modules of a graph.
+/// The largest number of modules of a graph.
 const MOST_MODULES: usize = 4096;
 
-/// The most imports of a module, repeats counted.
+/// The largest number of imports of a module, repeated ones counted.
 const MOST_IMPORTS: usize = 65536;
 
-/// The modules of a tree by number, with their names, what each imports, and what imports each: at most 4,096 modules, and
-/// at most 65,536 imports of each. Imports may repeat.
+/// The modules of a tree by number: their names, what each imports, and what imports each. A graph has at most 4,096 modules, each with at
+/// most 65,536 imports, which may repeat.
 #[derive(Drop)]
 pub struct Graph {
     names: Vec<String>,
     imports: Vec<Vec<u32>>,
     importers: Vec<Vec<u32>>,
-    /// The modules by name.
+    /// The numbers of all modules, sorted by name.
     order: Vec<u32>,
 }
 
@@ -52,7 +52,7 @@ fn empty_rows(alloc: Global, count: usize) -> Result<Vec<Vec<u32>>, AllocError>
     Ok(rows)
 }
 
-/// Adds a number to the row at this place.
+/// Appends a number to the list at this index.
 fn push_at(rows: &mut Vec<Vec<u32>>, place: usize, by: u32) -> Result<(), AllocError>
     requires { place < vec_len rows.old }
     ensures size { OnOk result (length (lists rows.new.items) ≡ length (lists rows.old.items)) }
@@ -62,7 +62,7 @@ fn push_at(rows: &mut Vec<Vec<u32>>, place: usize, by: u32) -> Result<(), AllocE
     Ok(())
 }
 
-/// Adds a module to the rows of those that it imports.
+/// Appends the module `by` to the importers of each module of `row`.
 fn add_importer(rows: &mut Vec<Vec<u32>>, row: &[u32], by: u32) -> Result<(), AllocError>
     requires { All (λ w. w < length (lists rows.old.items)) row.now }
     ensures size { OnOk result (length (lists rows.new.items) ≡ length (lists rows.old.items)) }
@@ -76,7 +76,7 @@ fn add_importer(rows: &mut Vec<Vec<u32>>, row: &[u32], by: u32) -> Result<(), Al
     Ok(())
 }
 
-/// Per module those that import it.
+/// For each module the modules that import it.
 fn turned(alloc: Global, imports: &[Vec<u32>]) -> Result<Vec<Vec<u32>>, AllocError>
     requires few { length imports.now ≤ 4096 }
     requires within { (m : ℕ) → All (λ w. w < length imports.now) (row_at (lists imports.now) m) }
@@ -91,7 +91,7 @@ fn turned(alloc: Global, imports: &[Vec<u32>]) -> Result<Vec<Vec<u32>>, AllocErr
     Ok(rows)
 }
 
-/// The row at this place.
+/// The list at this index.
 fn row(rows: &[Vec<u32>], place: usize) -> &[u32]
     requires { place < length rows.now }
     ensures { result.now ≡ row_at (lists rows.now) place }
@@ -99,14 +99,14 @@ fn row(rows: &[Vec<u32>], place: usize) -> &[u32]
     rows[place].as_slice()
 }
 
-/// Whether each number of the row is below the count.
+/// Whether each number of the list is less than the count.
 fn all_below(row: &[u32], count: usize) -> bool
     ensures { IsTrue result ↔ All (λ w. w < count) row.now }
 {
     row.iter().all(|number| (*number as usize) < count)
 }
 
-/// Whether the rows are no longer than those of a graph of this many modules, and lead to its modules.
+/// Whether each list has at most `MOST_IMPORTS` numbers, all of them less than the count.
 fn are_rows(rows: &[Vec<u32>], count: usize) -> bool
     ensures { IsTrue result ↔ AreRows (lists rows.now) count }
 {
@@ -118,7 +118,7 @@ fn are_rows(rows: &[Vec<u32>], count: usize) -> bool
     true
 }
 
-/// The name of a module; none past the last.
+/// The name of a module, empty if there is no such module.
 fn name_of(names: &[String], number: u32) -> &str
     ensures { result.now ≡ row_at (map string_bytes names.now) number }
 {
@@ -128,14 +128,14 @@ fn name_of(names: &[String], number: u32) -> &str
     }
 }
 
-/// The first numbers.
+/// The numbers from 0 up to the count, which is excluded.
 fn numbers(alloc: Global, count: u32) -> Result<Vec<u32>, AllocError>
     ensures { IfOk result (λ v. v.items ≡ range_with_len 0 count) }
 {
     (0..count).collect(alloc)
 }
 
-/// The numbers of the names, by name. Where these stand so, one pass sees it.
+/// The numbers of the names, sorted by name. Sorting takes one pass if the names are sorted.
 fn order_of(alloc: Global, names: &[String]) -> Result<Vec<u32>, AllocError>
     requires { length names.now ≤ 4096 }
     ensures { IfOk result (λ order. IsNameOrder (map string_bytes names.now) order.items) }
@@ -146,21 +146,24 @@ fn order_of(alloc: Global, names: &[String]) -> Result<Vec<u32>, AllocError>
 }
 
 impl Graph {
-    /// Whether a graph has these names, and imports by the numbers of the names: the test of what `new` asks for.
+    /// Whether `new` accepts these names and imports.
     pub fn is_graph(names: &[String], imports: &[Vec<u32>]) -> bool
+        // There are as many lists as names, at most 4,096, each of at most 65,536 numbers of modules.
         ensures { IsTrue result ↔ IsGraph (record { names = map string_bytes names.now; imports = lists imports.now }) }
     {
         let count = names.len();
         count <= MOST_MODULES && imports.len() == count && are_rows(imports, count)
     }
 
-    /// The graph of these names and imports.
+    /// The graph of these names and imports, both by module number. Fails if an allocation fails.
     pub fn new(
         alloc: Global,
         names: Vec<String>,
         imports: Vec<Vec<u32>>,
     ) -> Result<Graph, AllocError>
+        // `is_graph` is true of them.
         requires { IsGraph (record { names = map string_bytes names.items; imports = lists imports.items }) }
+        // The graph has exactly these names and imports.
         ensures { IfOk result (λ graph. graph ≡ record { names = map string_bytes names.items; imports = lists imports.items }) }
     {
         let importers = turned(alloc, imports.as_slice())?;
@@ -173,15 +176,17 @@ impl Graph {
         })
     }
 
-    /// What every graph keeps.
+    /// The invariant of a graph.
     pub fn keeps(&self)
+        // `is_graph` is true of its names and imports.
         ensures { IsGraph self.now }
     {
         let _ = &self.names;
     }
 
-    /// How many modules there are.
+    /// The number of modules.
     pub fn modules(&self) -> u32
+        // It is the number of names.
         ensures { result ≡ length self.now.names }
     {
         self.names.len() as u32
@@ -189,30 +194,37 @@ impl Graph {
 
     /// The name of a module.
     pub fn name(&self, number: u32) -> &str
+        // The graph has a module of this number.
         requires { number < length self.now.names }
+        // It is the module's name.
         ensures { result.now ≡ row_at self.now.names number }
     {
         self.names[number as usize].as_str()
     }
 
-    /// The modules that this one imports.
+    /// The numbers of the modules that a module imports.
     pub fn imports_of(&self, number: u32) -> &[u32]
+        // The graph has a module of this number.
         requires { number < length self.now.names }
+        // They are the module's imports, repeated ones included.
         ensures { result.now ≡ row_at self.now.imports number }
     {
         self.imports[number as usize].as_slice()
     }
 
-    /// The modules that import this one.
+    /// The numbers of the modules that import a module.
     pub fn importers_of(&self, number: u32) -> &[u32]
+        // The graph has a module of this number.
         requires { number < length self.now.names }
+        // A module occurs as often as it imports this one.
         ensures turned { (m : ℕ) → times_in m result.now ≡ times_in number (row_at self.now.imports m) }
+        // All are modules of the graph.
         ensures within { All (λ m. m < length self.now.names) result.now }
     {
         row(self.importers.as_slice(), number as usize)
     }
 
-    /// The numbers of all modules, by name.
+    /// The numbers of all modules, sorted by name.
     pub(crate) fn by_name(&self) -> &[u32]
         ensures { IsNameOrder self.now.names result.now }
     {

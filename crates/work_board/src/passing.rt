@@ -1,14 +1,14 @@
-//! What is passed at once: blocks of modules in which none is free, as most are in a large tree, and rows without a mark.
+//! Fast scans: over blocks of modules without a free one, which are most in a large tree, and over flags none of which is set.
 ghost use Rattle.std.specs.Prelude.{◌≡◌, ◌<◌, ◌≤◌, ◌↔◌, ℕ, false, length, IsTrue};
 ghost use Rattle.work_board.specs.Marks.{marked};
 ghost use Rattle.work_board.specs.Keeping.{state_at};
 
 use crate::state::State;
 
-/// How many places are looked at together. A loop over a block has no exit before its end, so that many places are taken at once.
+/// The number of modules of a block. A loop over a block always runs to its end, so that the compiler can vectorize it.
 pub(crate) const BLOCK: usize = 64;
 
-/// Whether one of these places has a mark. The loop has no exit before its end, so that many places are taken at once.
+/// Whether a flag with an index in `from..to` is set. The loop always runs to its end, so that the compiler can vectorize it.
 pub(crate) fn any_marked(marks: &[bool], from: usize, to: usize) -> bool
     requires { to ≤ length marks.now }
     ensures { result ≡ false → (v : ℕ) → from ≤ v → v < to → marked marks.now v ≡ false }
@@ -20,7 +20,7 @@ pub(crate) fn any_marked(marks: &[bool], from: usize, to: usize) -> bool
     found
 }
 
-/// Whether a module is free.
+/// Whether the state is `Free`.
 fn is_free(state: State) -> bool
     ensures { IsTrue result ↔ (state ≡ State.Free) }
 {
@@ -30,7 +30,7 @@ fn is_free(state: State) -> bool
     }
 }
 
-/// Whether one of these modules is free.
+/// Whether a module with a number in `from..to` is free.
 fn any_free(states: &[State], from: usize, to: usize) -> bool
     requires { to ≤ length states.now }
     ensures { result ≡ false → (k : ℕ) → from ≤ k → k < to → state_at states.now k ≡ State.Free → ⊥ }
@@ -42,7 +42,7 @@ fn any_free(states: &[State], from: usize, to: usize) -> bool
     found
 }
 
-/// The place behind the blocks at the front in which no module is free.
+/// The number of the first module after the leading blocks without a free module.
 fn behind_blocks(states: &[State]) -> usize
     ensures within { result ≤ length states.now }
     ensures passed { (k : ℕ) → k < result → state_at states.now k ≡ State.Free → ⊥ }
@@ -54,7 +54,7 @@ fn behind_blocks(states: &[State]) -> usize
     place
 }
 
-/// The least free module; where none is, how many modules there are.
+/// The number of the first free module, or the number of modules if none is free.
 pub(crate) fn first_free(states: &[State]) -> usize
     ensures within { result ≤ length states.now }
     ensures passed { (k : ℕ) → k < result → state_at states.now k ≡ State.Free → ⊥ }

@@ -1,14 +1,14 @@
-//! How far a module is.
+//! The state of a module.
 
-/// How far a module is.
+/// The state of a module in the scheduler.
 #[derive(Clone, Copy)]
 pub enum State {
-    /// An import isn't delivered.
+    /// An import of the module isn't delivered.
     Waiting,
-    /// All imports are delivered, and nobody claimed it.
+    /// All imports are delivered, and the module isn't claimed.
     Free,
-    /// It is claimed and not delivered.
+    /// The module is claimed and not delivered.
     Claimed,
-    /// Its entry is there.
+    /// The entry of the module is delivered.
     Delivered,
 }
