@@ -1,17 +1,17 @@
--- The imports that a search may use, as arcs. A test stands at the place of each import: whether the search may use it.
+-- The imports that a search may use, as arcs. For each import there is a flag, whether the search may use it.
 use Rattle.std.specs.Prelude.{◌≡◌, ℕ, ◌<◌, true, false, Bool, if◌then◌else◌, List, length, slice_index_or}
 use Rattle.cut_net.specs.declared.priced.Priced.{Priced}
 use Rattle.cut_residual.specs.declared.arc.Arc.{Arc}
 use Rattle.cut_residual.specs.Graphs.{no_arc}
 
--- the import stands at a place where the search may use it
+-- the search may use the import
 abbrev pub IsAllowed : List Priced → List Bool → Priced → Type 0
 IsAllowed imports allowed i = (k : ℕ) × (k < length imports) × (slice_index_or imports k i ≡ i) × (slice_index_or allowed k false ≡ true)
 
 abbrev pub any : Priced
 any = record { from = 0; to = 0; amount = 0 }
 
--- an arc without flow, over which something can go where the import may be used
+-- an arc without flow, with capacity exactly if the search may use the import
 abbrev pub arc_for : Priced → Bool → Arc
 arc_for i allowed = record { from = i.from; to = i.to; capacity = if allowed then 1 else 0; flow = 0 }
 

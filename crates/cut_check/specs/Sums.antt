@@ -1,4 +1,4 @@
--- Amounts by the places of the imports: what is said of them, and what they sum to.
+-- Amounts of imports by the imports' numbers, and their sums.
 use Rattle.std.specs.Prelude.{◌≡◌, ℕ, ◌≤◌, ◌<◌, false, List, Option, Some, None, unwrap_or, is_some, IfSome, Bool, length, slice_get, slice_index, slice_index_or}
 use Rattle.cut_net.specs.declared.priced.Priced.{Priced}
 use Rattle.cut_net.specs.Network.{Network}
@@ -12,12 +12,12 @@ use Rattle.cut_check.specs.Verdicts.{AreConserved, AreUnder, HasValue, IsFirstOf
 abbrev pub AreAmounts : List Priced → (Priced → ℕ) → List (Option ℕ) → Type 0
 AreAmounts imports flow amounts = (k : ℕ) (d : Priced) → k < length imports → unwrap_or (slice_index_or amounts k None) 0 ≡ flow (slice_index_or imports k d)
 
--- none of the first amounts is above the weight of its import, unless that is pinned
+-- none of the first amounts is above the weight of its import, unless the import is pinned
 abbrev pub AreWithin : Network → List (Option ℕ) → ℕ → Type 0
 AreWithin net amounts count = (k : ℕ) (d : Priced) → k < count → is_pinned net (slice_index_or net.imports k d) ≡ false →
     unwrap_or (slice_index_or amounts k None) 0 ≤ (slice_index_or net.imports k d).amount
 
--- the first import without a pin with an amount above its weight
+-- the first unpinned import with an amount above its weight
 pub record IsFirstAbove (net : Network) (amounts : List (Option ℕ)) (i : Priced) : Type 0 where
   pub place : ℕ
   pub at_place : slice_get net.imports place ≡ Some i
@@ -25,12 +25,12 @@ pub record IsFirstAbove (net : Network) (amounts : List (Option ℕ)) (i : Price
   pub above : i.amount < unwrap_or (slice_index_or amounts place None) 0
   pub before : AreWithin net amounts place
 
--- what enters each module and what leaves it
+-- the inflow and the outflow of each module
 pub record AreSums (imports : List Priced) (flow : Priced → ℕ) (modules : ℕ) (into out : List ℕ) : Type 0 where
   pub into_is : (m : ℕ) → m < modules → slice_index into m ≡ entering imports flow m
   pub out_is : (m : ℕ) → m < modules → slice_index out m ≡ leaving imports flow m
 
--- the amounts stand at the imports of the set
+-- exactly the imports of the set have amounts
 abbrev pub AreMarks : List Priced → (Priced → Bool) → List (Option ℕ) → Type 0
 AreMarks imports x amounts = (k : ℕ) (d : Priced) → k < length imports → is_some (slice_index_or amounts k None) ≡ x (slice_index_or imports k d)
 

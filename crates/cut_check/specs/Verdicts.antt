@@ -1,4 +1,4 @@
--- What a checker says of a cut with a flow, or of a chain of pins: yes, or the first cause that holds. Each cause is defined by what it denies.
+-- The verdict on a cut with a flow, or on a path of pinned imports: yes, or the first cause that holds. Each cause is defined by what it denies.
 use Rattle.std.specs.Prelude.{◌≡◌, ◌≢◌, ◌⊎◌, ℕ, ◌+◌, ◌-◌, ◌<◌, false, List, Some, length, slice_get, slice_index, take, Contains}
 use Rattle.cut_net.specs.declared.priced.Priced.{Priced}
 use Rattle.cut_net.specs.Network.{Network}
@@ -9,7 +9,7 @@ use Rattle.cut_net.specs.Pins.{is_pinned, AreWeightsWithPins, ByPin, IsPinChain,
 use Rattle.cut_check.specs.declared.verdict.Verdict.{Verdict}
 use Rattle.cut_check.specs.declared.verdict.Verdict.TheVariants.{Yes, NoSuchImport, StillChain, WrongWeight, OverWeight, NotKept, WrongValue, NotPinned}
 
--- the lines before this place are in order, and with the line there they aren't: it has these ends
+-- the lines before this index are in order, and together with the line at the index, which has these ends, they aren't
 pub record IsFirstStray (net : Network) (lines : List Priced) (from to : ℕ) : Type 0 where
   pub place : ℕ
   pub line : Priced
@@ -18,25 +18,25 @@ pub record IsFirstStray (net : Network) (lines : List Priced) (from to : ℕ) : 
   pub before : AreImportsInOrder net (take place lines)
   pub stray : AreImportsInOrder net (take (place + 1) lines) → ⊥
 
--- the first stray line of both lists, that of the printed imports before that of the flow
+-- the first line of both lists that is out of order or no import, the reported imports before the flow
 abbrev pub IsStray : Network → List Priced → List Priced → ℕ → ℕ → Type 0
 IsStray net printed flow from to = IsFirstStray net printed from to ⊎ (AreImportsInOrder net printed × IsFirstStray net flow from to)
 
--- no line is stray
+-- all lines are imports of the network, in order
 pub record AreRead (net : Network) (printed flow : List Priced) : Type 0 where
   pub printed_in_order : AreImportsInOrder net printed
   pub flow_in_order : AreImportsInOrder net flow
 
--- a chain avoids the printed imports
+-- a path avoids the reported imports
 abbrev pub HasChainLeft : Network → ℕ → ℕ → List Priced → Type 0
 HasChainLeft net a b printed = Chain net.imports (Outside (removed_by printed)) a b
 
--- no line is stray, and no chain avoids the printed imports
+-- all lines are imports of the network, in order, and no path avoids the reported imports
 pub record HasCut (net : Network) (a b : ℕ) (printed flow : List Priced) : Type 0 where
   pub read : AreRead net printed flow
   pub no_chain : HasChainLeft net a b printed → ⊥
 
--- the first import without a pin whose flow is above its weight has these ends
+-- the first unpinned import whose flow is above its weight has these ends
 pub record IsFirstOver (net : Network) (flow : Priced → ℕ) (from to : ℕ) : Type 0 where
   pub place : ℕ
   pub import : Priced
@@ -46,28 +46,28 @@ pub record IsFirstOver (net : Network) (flow : Priced → ℕ) (from to : ℕ) :
   pub over : import.amount < flow import
   pub before : (i : Priced) → Contains (take place net.imports) i → is_pinned net i ≡ false → i.amount < flow i → ⊥
 
--- no flow is above its import's weight, unless that is pinned
+-- no flow is above its import's weight, unless the import is pinned
 abbrev pub AreUnder : Network → (Priced → ℕ) → Type 0
 AreUnder net flow = (i : Priced) → Contains net.imports i → is_pinned net i ≡ false → i.amount < flow i → ⊥
 
--- the module isn't a or b, and what enters it is not what leaves it
+-- the module isn't a or b, and its inflow isn't its outflow
 abbrev pub IsOff : Network → ℕ → ℕ → (Priced → ℕ) → ℕ → Type 0
 IsOff net a b flow m = (m ≢ a) × (m ≢ b) × (entering net.imports flow m ≢ leaving net.imports flow m)
 
--- the least such module
+-- the module with the smallest number, other than a and b, whose inflow isn't its outflow
 pub record IsFirstOff (net : Network) (a b : ℕ) (flow : Priced → ℕ) (m : ℕ) : Type 0 where
   pub off : IsOff net a b flow m
   pub least : (n : ℕ) → n < m → IsOff net a b flow n → ⊥
 
--- there is no such module
+-- the inflow of each module but a and b is its outflow
 abbrev pub AreConserved : Network → ℕ → ℕ → (Priced → ℕ) → Type 0
 AreConserved net a b flow = (m : ℕ) → IsOff net a b flow m → ⊥
 
--- what leaves a, less what enters it, is this value
+-- the outflow of a, less its inflow, is this value
 abbrev pub HasValue : Network → ℕ → (Priced → ℕ) → ℕ → Type 0
 HasValue net a flow value = entering net.imports flow a + value ≡ leaving net.imports flow a
 
--- the verdict on a cut: the first cause that holds, with what the earlier ones deny
+-- the verdict on a cut: the first cause that holds, if the earlier ones don't
 abbrev pub IsCutVerdict : Network → ℕ → ℕ → List Priced → ℕ → List Priced → Verdict → Type 0
 IsCutVerdict net a b printed total flow Yes = IsRightWithPins net a b printed total flow
 IsCutVerdict net a b printed total flow (NoSuchImport from to) = IsStray net printed flow from to
@@ -85,11 +85,11 @@ IsCutVerdict net a b printed total flow (NotPinned from to) = ⊥
 abbrev pub AreChainEnds : ℕ → ℕ → List ℕ → Type 0
 AreChainEnds a b chain = (0 < length chain) × (slice_index chain 0 ≡ a) × (slice_index chain (length chain - 1) ≡ b)
 
--- the module at this place imports the next one by a pinned import
+-- the module at this index imports the next one by a pinned import
 abbrev pub IsPinnedAt : Network → List ℕ → ℕ → Type 0
 IsPinnedAt net chain place = Imports net.imports (ByPin net) (slice_index chain place) (slice_index chain (place + 1))
 
--- these are the first two modules next to each other that no pinned import joins
+-- these are the first two consecutive modules without a pinned import from the one to the other
 pub record IsFirstUnpinned (net : Network) (chain : List ℕ) (from to : ℕ) : Type 0 where
   pub place : ℕ
   pub within : place + 1 < length chain
@@ -97,7 +97,7 @@ pub record IsFirstUnpinned (net : Network) (chain : List ℕ) (from to : ℕ) : 
   pub unpinned : IsPinnedAt net chain place → ⊥
   pub before : (j : ℕ) → j < place → IsPinnedAt net chain j
 
--- the verdict on a chain of pins: its ends are looked at first
+-- the verdict on a path of pinned imports, whose ends are compared first
 abbrev pub IsChainVerdict : Network → ℕ → ℕ → List ℕ → Verdict → Type 0
 IsChainVerdict net a b chain Yes = IsPinChain net a b chain
 IsChainVerdict net a b chain (NoSuchImport from to) = ⊥
@@ -108,7 +108,7 @@ IsChainVerdict net a b chain (NotKept m) = ⊥
 IsChainVerdict net a b chain WrongValue = ⊥
 IsChainVerdict net a b chain (NotPinned from to) = AreChainEnds a b chain × IsFirstUnpinned net chain from to
 
--- the verdict on what is said of two modules
+-- the verdict on an answer about two modules
 abbrev pub IsVerdict : Network → ℕ → ℕ → Said → Verdict → Type 0
 IsVerdict net a b (CutOf total printed flow) verdict = IsCutVerdict net a b printed total flow verdict
 IsVerdict net a b (BlockedBy chain) verdict = IsChainVerdict net a b chain verdict

@@ -1,4 +1,4 @@
-//! Imports as arcs.
+//! Conversion of imports to arcs.
 ghost use Rattle.std.specs.Prelude.{◌≡◌, ◌<◌, IfOk, length};
 ghost use Rattle.cut_check.specs.Reaching.{AreArcs, arc_for};
 
@@ -17,7 +17,7 @@ fn arc_for(i: Priced, allowed: bool) -> Arc
     }
 }
 
-/// An arc for each import, over which something can go where the import may be used.
+/// For each import an arc, with capacity exactly if the search may use the import.
 pub(crate) fn arcs_of(
     alloc: Global,
     imports: &[Priced],

@@ -1,4 +1,4 @@
-//! The check as a whole.
+//! The checker.
 ghost use Rattle.std.specs.Prelude.{◌≡◌, ◌<◌, ◌↔◌, IsTrue, IfOk, length};
 ghost use Rattle.cut_net.specs.Cuts.{Chain};
 ghost use Rattle.cut_net.specs.Answers.{said_by, said_by_cut};
@@ -17,7 +17,7 @@ use cut_net::{Answer, Cut, Net};
 use cut_residual::marks;
 use std::alloc::{AllocError, Global};
 
-/// Whether a chain leads from the one module to the other by imports that may be used.
+/// Whether a path leads from the one module to the other by imports that the search may use.
 fn has_chain(
     alloc: Global,
     net: &Net,
@@ -69,8 +69,8 @@ fn check_cut(alloc: Global, net: &Net, from: u32, to: u32, cut: &Cut) -> Result<
     check_flow(alloc, net, &flow.amounts, from, to, cut.weight)
 }
 
-/// What is wrong with an answer of two modules of a network, or that nothing is.
-/// Fails where memory is refused.
+/// The verdict on an answer for two modules of a network, which may have any lines, amounts and modules.
+/// Fails if an allocation fails.
 pub fn check(
     alloc: Global,
     net: &Net,
@@ -78,11 +78,13 @@ pub fn check(
     to: u32,
     answer: &Answer,
 ) -> Result<Verdict, AllocError>
+    // `from` is a module.
     requires from { from < length net.now.names }
+    // `to` is a module.
     requires to { to < length net.now.names }
-    // The first cause that holds, or yes.
+    // The verdict is the first cause that holds, or `Yes`.
     ensures exact { IfOk result (IsVerdict net.now from to (said_by answer.now)) }
-    // After a yes no cut weighs less; or there is none.
+    // After `Yes` no set of unpinned imports that is a cut weighs less; or no such set is a cut.
     ensures cheapest { IfOk result (λ v. v ≡ Verdict.Yes → IsCheapestSaidWithPins net.now from to (said_by answer.now)) }
 {
     no_cut_of_pins();

@@ -1,4 +1,4 @@
-//! Flows: their bounds, what enters each module and leaves it, and their value.
+//! Flows: their bounds, the inflow and outflow of each module, and their value.
 ghost use Rattle.std.specs.Prelude.{ℕ, ◌≡◌, ◌≢◌, ◌≤◌, ◌<◌, ◌+◌, ◌^◌, ◌↔◌, IsTrue, IfOk, MatchOption, length, slice_index, slice_set, vec_len};
 ghost use Rattle.cut_net.specs.declared.priced.Priced.{Priced};
 ghost use Rattle.cut_net.specs.WellFormed.{AreBetween};
@@ -9,7 +9,7 @@ use crate::pins::is_pinned;
 use cut_net::{Net, Priced};
 use std::alloc::{AllocError, Global};
 
-/// The first import without a pin with an amount above its weight.
+/// The first unpinned import with an amount above its weight.
 fn first_above(net: &Net, amounts: &[Option<u64>]) -> Option<Priced>
     requires { length amounts.now ≡ length net.now.imports }
     ensures { MatchOption result (AreWithin net.now amounts.now (length net.now.imports)) (λ i. IsFirstAbove net.now amounts.now i) }
@@ -31,14 +31,14 @@ fn add_at(sums: &mut Vec<u128>, place: usize, amount: u64)
     sums[place] += u128::from(amount);
 }
 
-/// What flows into each module, and out of it. With pins that may be more than 64 bits hold.
+/// The inflow and the outflow of each module. With pinned imports they may exceed 64 bits.
 #[derive(Drop)]
 struct Sums {
     into: Vec<u128>,
     out: Vec<u128>,
 }
 
-/// The sums fit, as there are few imports.
+/// Adds all amounts. The sums fit, since there are at most 65,536 imports.
 fn sums_of(
     alloc: Global,
     imports: &[Priced],
@@ -62,7 +62,7 @@ fn sums_of(
 }
 
 impl Sums {
-    /// The least module but these two where what enters is not what leaves.
+    /// The first module, other than the two ends, whose inflow isn't its outflow.
     fn first_off(&self, modules: u32, from: u32, to: u32) -> Option<u32>
         requires into { vec_len self.now.into ≡ modules }
         requires out { vec_len self.now.out ≡ modules }
@@ -79,7 +79,7 @@ impl Sums {
         None
     }
 
-    /// Whether what leaves the module, less what enters it, is this value.
+    /// Whether the outflow of the module, less its inflow, is this value.
     fn has_value(&self, node: u32, value: u64) -> bool
         requires into { node < vec_len self.now.into }
         requires out { node < vec_len self.now.out }
@@ -91,7 +91,7 @@ impl Sums {
     }
 }
 
-/// The verdict on a flow of these amounts, one for each import.
+/// The verdict on a flow with these amounts, one for each import.
 pub(crate) fn check_flow(
     alloc: Global,
     net: &Net,

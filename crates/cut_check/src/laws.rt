@@ -1,4 +1,4 @@
-//! The law of verdicts. The function's body is empty, and its contract is proved.
+//! A law of verdicts, proved as the contract of a function with an empty body.
 ghost use Rattle.std.specs.Prelude.{ℕ, ◌≡◌};
 ghost use Rattle.cut_net.specs.Network.{Network};
 ghost use Rattle.cut_net.specs.Said.{Said};
@@ -6,9 +6,11 @@ ghost use Rattle.cut_net.specs.WellFormed.{IsNetwork};
 ghost use Rattle.cut_check.specs.declared.verdict.Verdict.{Verdict};
 ghost use Rattle.cut_check.specs.Verdicts.{HasVerdict, IsVerdict};
 
-/// Of what a report says of two modules, whatever it is, exactly one verdict holds.
+/// Exactly one verdict holds for an answer about two modules, whatever the answer is.
 pub fn one_verdict()
+    // A verdict holds.
     ensures some { (net : Network) (a b : ℕ) (said : Said) → IsNetwork net → HasVerdict net a b said }
+    // Two verdicts that hold are the same.
     ensures only { (net : Network) (a b : ℕ) (said : Said) (verdict other : Verdict) →
         IsVerdict net a b said verdict → IsVerdict net a b said other → verdict ≡ other }
 {}

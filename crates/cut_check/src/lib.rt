@@ -1,6 +1,7 @@
-//! The checker of reports: whether printed imports are a cheapest cut of a network, by the flow that comes with them, or printed modules a chain of pins.
-//! Stands on `cut_net` and `cut_residual`. It trusts no one who made the cut: lines of any modules, in any order, with any amounts, and any chain.
-//! Its contract: the verdict is the first cause that holds, exactly one verdict holds, and after a yes no cut weighs less, or there is none.
+//! The checker of reports: whether the reported imports are a cheapest cut, by the reported flow, or the reported modules a path of pinned imports.
+//! Depends on `cut_net` for networks and on `cut_residual` for searches; on no solver. It accepts lines of any modules in any order with any
+//! amounts.
+//! The main call is `check`. It promises the first cause that holds, and after `Yes` that no cut is cheaper, or that none exists.
 #![tactic(auto)]
 
 mod arcs;

@@ -1,4 +1,4 @@
-//! Lines, and the imports that they are of.
+//! The lines of a report, matched with the imports of the network.
 ghost use Rattle.std.specs.Prelude.{◌≡◌, ℕ, IfOk, Option, is_some, map, not};
 ghost use Rattle.cut_net.specs.Cuts.{same_ends};
 ghost use Rattle.cut_check.specs.Matched.{AreMatched, IsLineAt};
@@ -22,14 +22,14 @@ fn amount_at(i: Priced, lines: &[Priced], next: usize) -> Option<u64>
     }
 }
 
-/// The amount of the line of each import, and how many lines are in order.
+/// For each import the amount of its line, and the number of lines that are in order.
 #[derive(Drop)]
 pub(crate) struct Matched {
     pub(crate) amounts: Vec<Option<u64>>,
     pub(crate) count: usize,
 }
 
-/// Goes over the imports and the lines together, up to the first line that is stray.
+/// Merges the imports with the lines, up to the first line that isn't an import of the network or isn't after its predecessor.
 pub(crate) fn match_lines(alloc: Global, net: &Net, lines: &[Priced]) -> Result<Matched, AllocError>
     ensures { IfOk result (λ m. AreMatched net.now lines.now m.count m.amounts.items) }
 {
@@ -47,7 +47,7 @@ pub(crate) fn match_lines(alloc: Global, net: &Net, lines: &[Priced]) -> Result<
     Ok(Matched { amounts, count })
 }
 
-/// Which imports have no line.
+/// For each import whether it has no line.
 pub(crate) fn without_line(alloc: Global, amounts: &[Option<u64>]) -> Result<Vec<bool>, AllocError>
     ensures { IfOk result (λ v. v.items ≡ map (λ (amount : Option ℕ). not (is_some amount)) amounts.now) }
 {

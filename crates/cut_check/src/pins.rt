@@ -1,4 +1,4 @@
-//! Pinned imports, and chains of them.
+//! Paths of pinned imports.
 ghost use Rattle.std.specs.Prelude.{ℕ, ◌≡◌, ◌+◌, ◌<◌, ◌↔◌, IsTrue, MatchOption, length};
 ghost use Rattle.cut_net.specs.Pins.{is_pinned};
 ghost use Rattle.cut_check.specs.Verdicts.{AreChainEnds, IsChainVerdict, IsFirstUnpinned, IsPinnedAt};
@@ -6,7 +6,7 @@ ghost use Rattle.cut_check.specs.Verdicts.{AreChainEnds, IsChainVerdict, IsFirst
 use crate::Verdict;
 use cut_net::{Net, Priced, line_of};
 
-/// Whether the import of these ends is pinned.
+/// Whether the import between these modules is pinned.
 pub(crate) fn is_pinned(net: &Net, import: Priced) -> bool
     ensures { result ≡ is_pinned net.now import }
 {
@@ -14,7 +14,7 @@ pub(crate) fn is_pinned(net: &Net, import: Priced) -> bool
     line_of(net.pins(), import).is_some()
 }
 
-/// The first two modules next to each other that no pinned import joins.
+/// The first two consecutive modules without a pinned import from the one to the other.
 fn first_unpinned(net: &Net, chain: &[u32]) -> Option<Priced>
     ensures { MatchOption result
         ((k : ℕ) → k + 1 < length chain.now → IsPinnedAt net.now chain.now k)
@@ -40,7 +40,7 @@ fn are_ends(chain: &[u32], from: u32, to: u32) -> bool
     !chain.is_empty() && chain[0] == from && chain[chain.len() - 1] == to
 }
 
-/// The verdict on a chain of pins between two modules.
+/// The verdict on a path of pinned imports between two modules.
 pub(crate) fn check_chain(net: &Net, from: u32, to: u32, chain: &[u32]) -> Verdict
     ensures { IsChainVerdict net.now from to chain.now result }
 {

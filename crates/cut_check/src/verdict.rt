@@ -1,25 +1,25 @@
-//! What a checker says.
+//! The verdicts of the checker.
 
-/// What is wrong with a cut and its flow, or with a chain of pins, or that nothing is. Modules are by their numbers.
-/// Where several causes hold, it is the first of them in this order, yes last.
+/// The verdict on a cut with its flow, or on a path of pinned imports. Modules are given by their numbers.
+/// If several causes hold, the verdict is the first one in this order; `Yes` is the last.
 #[derive(Clone, Copy, Debug)]
 pub enum Verdict {
-    /// The printed imports are a cut of the printed weight, none of them pinned, and the flow has it as its value.
-    /// Or the modules are a chain of pinned imports from the one end to the other.
+    /// The reported imports are a cut of the reported weight, none of them pinned, and the flow has this value.
+    /// Or the modules are a path of pinned imports from the one end to the other.
     Yes,
-    /// The first line that is no import of the network, or doesn't come after the line before it.
-    /// Lines of printed imports come before lines of flow.
+    /// The first line that isn't an import of the network, or isn't after its predecessor.
+    /// Lines of reported imports come before lines of flow.
     NoSuchImport { from: u32, to: u32 },
-    /// A chain avoids the printed imports. Or the modules of a chain of pins don't begin and end with the two.
+    /// A path avoids the reported imports. Or the path of pinned imports doesn't begin and end with the two modules.
     StillChain,
-    /// A printed import is pinned, or a printed weight isn't the import's, or their sum isn't the printed total.
+    /// A reported import is pinned, a reported weight isn't the import's, or the sum of the weights isn't the reported total.
     WrongWeight,
-    /// The first import without a pin whose flow is above its weight.
+    /// The first unpinned import whose flow is above its weight.
     OverWeight { from: u32, to: u32 },
-    /// The least module but the two ends where what enters is not what leaves.
+    /// The module with the smallest number, other than the two ends, whose inflow isn't its outflow.
     NotKept { module: u32 },
-    /// What leaves the first end, less what enters it, isn't the printed total.
+    /// The outflow of the first end, less its inflow, isn't the reported total.
     WrongValue,
-    /// The first two modules of a chain of pins that are next to each other where no pinned import leads from the one to the other.
+    /// The first two consecutive modules of a path of pinned imports without a pinned import from the one to the other.
     NotPinned { from: u32, to: u32 },
 }

@@ -1,4 +1,4 @@
-//! Printed weights.
+//! The reported weights.
 ghost use Rattle.std.specs.Prelude.{◌≡◌, ◌<◌, ◌^◌, ◌↔◌, Bool, IsTrue, IfSome, length, sum_by};
 ghost use Rattle.cut_net.specs.declared.priced.Priced.{Priced};
 ghost use Rattle.cut_net.specs.Cuts.{weight};
@@ -17,7 +17,7 @@ fn is_weight(amount: Option<u64>, weight: u64) -> bool
     }
 }
 
-/// Whether each amount is its import's weight, and the total their sum.
+/// Whether each amount is its import's weight, and the total is their sum.
 fn add_up(imports: &[Priced], amounts: &[Option<u64>], total: u64) -> bool
     requires amounts { length amounts.now ≡ length imports.now }
     requires fits { sum_by (λ i. i.amount) imports.now < 2 ^ 64 }
@@ -47,7 +47,7 @@ fn are_removable(net: &Net, amounts: &[Option<u64>]) -> bool
     true
 }
 
-/// Whether no import with an amount is pinned, each amount is its import's weight, and the total their sum.
+/// Whether no import with an amount is pinned, each amount is its import's weight, and the total is their sum.
 pub(crate) fn has_weights(net: &Net, amounts: &[Option<u64>], total: u64) -> bool
     requires { length amounts.now ≡ length net.now.imports }
     ensures { (x : Priced → Bool) → AreMarks net.now.imports x amounts.now →

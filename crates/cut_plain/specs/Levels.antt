@@ -1,11 +1,11 @@
--- Paths that are found from their end back, along falling levels, and flows that rise.
+-- Paths in a level graph, built from the sink backwards, and flows that rise.
 use Rattle.std.specs.Prelude.{◌≡◌, ℕ, ◌<◌, not, List, [], ◌∷◌, length, slice_index_or, All}
 use Rattle.cut_residual.specs.declared.arc.Arc.{Arc}
 use Rattle.cut_residual.specs.declared.arc.ResidualArc.{ResidualArc}
 use Rattle.cut_residual.specs.Flows.{RaisesBy}
 use Rattle.cut_residual.specs.Graphs.{Graph, HasArc, head, tail}
 
--- the same arc the other way
+-- the reversed arc
 abbrev pub opposite : ResidualArc → ResidualArc
 opposite s = record { arc = s.arc; forward = not s.forward }
 
@@ -13,12 +13,12 @@ opposite s = record { arc = s.arc; forward = not s.forward }
 abbrev pub Climbs : List Arc → List ℕ → ResidualArc → Type 0
 Climbs arcs levels s = slice_index_or levels (tail arcs s) 0 < slice_index_or levels (head arcs s) 0
 
--- the first step ends at b, and each ends where the one before it begins; the last begins at a
+-- the first step ends at b, each other step ends where the previous one begins, and the last one begins at a
 abbrev pub LeadsBack : List Arc → ℕ → List ResidualArc → ℕ → Type 0
 LeadsBack arcs b [] a = b ≡ a
 LeadsBack arcs b (s ∷ more) a = (head arcs s ≡ b) × LeadsBack arcs (tail arcs s) more a
 
--- the path leads back from the end to where it has come to, by residual arcs to higher levels
+-- the path leads from its first node to the sink by residual arcs to higher levels
 pub record IsDescent (g : Graph) (levels : List ℕ) (end : ℕ) (current : List ℕ) (path : List ResidualArc) (at : ℕ) : Type 0 where
   pub levels_size : length levels ≡ g.nodes
   pub current_size : length current ≡ g.nodes
@@ -28,10 +28,10 @@ pub record IsDescent (g : Graph) (levels : List ℕ) (end : ℕ) (current : List
   pub leads : LeadsBack g.arcs end path at
   pub climbs : All (Climbs g.arcs levels) path
 
--- each flow from a to b becomes one of at least its value
+-- each flow from a to b becomes a flow of at least its value
 abbrev pub RaisesOrKeeps : List Arc → List Arc → ℕ → ℕ → Type 0
 RaisesOrKeeps old new a b = (more : ℕ) × RaisesBy old new a b more
 
--- each flow from a to b becomes one of a higher value
+-- each flow from a to b becomes a flow of a higher value
 abbrev pub Raises : List Arc → List Arc → ℕ → ℕ → Type 0
 Raises old new a b = (more : ℕ) × (0 < more) × RaisesBy old new a b more

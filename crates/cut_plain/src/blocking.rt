@@ -1,5 +1,4 @@
-//! Flow along many paths on which the levels rise, as in the blocking flows of Dinic (1970). The proofs use that the levels rise
-//! along a path, so that no arc is on it twice, and nothing else of them.
+//! Blocking flows in a level graph (Dinic 1970). The proofs use only that levels rise along a path, so that no arc occurs on it twice.
 ghost use Rattle.std.specs.Prelude.{◌≡◌, ◌≢◌, ◌<◌, IsTrue, OnOk, length};
 ghost use Rattle.cut_residual.specs.Flows.{AreSameArcs};
 ghost use Rattle.cut_residual.specs.Graphs.{HasArc};
@@ -8,8 +7,8 @@ ghost use Rattle.cut_plain.specs.Levels.{Climbs, IsDescent, RaisesOrKeeps, oppos
 use cut_residual::{ResidualArc, ResidualGraph};
 use std::alloc::{AllocError, Global};
 
-/// A path to the end, from its last step back to its first so far: the node where it begins, and for each node the place of
-/// its current residual arc among those that leave it. Those before the current one are done with.
+/// A path to the sink, as far as it has been found, from its last step back: its first node, and for each node the index of its current
+/// residual arc. Arcs before the current one can't extend a path.
 #[derive(Drop)]
 struct Descent {
     current: Vec<usize>,
@@ -26,7 +25,7 @@ fn opposite(step: ResidualArc) -> ResidualArc
     }
 }
 
-/// Whether the residual arc leads to a higher level, and something is left of it.
+/// Whether the residual arc leads to a higher level and has residual capacity.
 fn climbs(graph: &ResidualGraph, step: ResidualArc, levels: &[u32]) -> bool
     requires known { HasArc graph.now.arcs step }
     requires levels { length levels.now ≡ graph.now.nodes }
@@ -37,7 +36,7 @@ fn climbs(graph: &ResidualGraph, step: ResidualArc, levels: &[u32]) -> bool
     levels[tail as usize] < levels[head as usize] && graph.residual(step) > 0
 }
 
-/// Augments where the path has come to the start, advances by a step down, or retreats. False where there is no way back.
+/// Augments if the path begins at the source; otherwise extends it by a step, or retreats. Returns false if it can't retreat.
 fn make_move(
     graph: &mut ResidualGraph,
     levels: &[u32],
@@ -85,8 +84,8 @@ fn make_move(
     }
 }
 
-/// Sends flow along paths on which the levels rise, as many as it finds. Where the levels are those of a search from the
-/// start, only steps that are full by then are dead ends.
+/// Augments along paths on which levels rise until none is left. With the levels of a breadth-first search from the source, a path is dropped
+/// only at saturated arcs.
 pub(crate) fn blocking_flow(
     alloc: Global,
     graph: &mut ResidualGraph,

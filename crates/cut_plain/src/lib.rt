@@ -1,6 +1,6 @@
-//! The plain solver: cheapest cuts by augmenting paths, in one thread. The peer that tests compare the solver with.
-//! Stands on `cut_net`, on `cut_residual`, and on `cut_solve` for its faults, its outcomes and the cut of a greatest flow.
-//! Its contract: that of `cut_solve`.
+//! A reference solver for tests: cheapest cuts by Dinic's algorithm (1970), in one thread.
+//! Depends on `cut_net`, on `cut_residual` for searches, and on `cut_solve` for outcomes, errors and the cut of a maximum flow.
+//! The main call is `plain`. Its contract is that of `solve` in `cut_solve`.
 #![tactic(auto)]
 
 mod blocking;

@@ -1,5 +1,4 @@
-//! A greatest flow: first along paths on which the order of the nodes rises, then in phases, each with a search for an
-//! augmenting path and flow along paths on which its levels rise.
+//! A maximum flow: first along paths in a topological order, then in phases, each with a breadth-first search and a blocking flow.
 ghost use Rattle.std.specs.Prelude.{ℕ, ◌≡◌, ◌≢◌, ◌<◌, true, false, IfOk, OnOk, vec_len};
 ghost use Rattle.cut_residual.specs.Flows.{AreSameArcs, IsBalanced};
 ghost use Rattle.cut_residual.specs.Graphs.{is_seen, AreClosed, AreReached};
@@ -10,7 +9,7 @@ use crate::blocking::blocking_flow;
 use cut_residual::{ResidualGraph, Searched, order_of, path_to, places_of, search};
 use std::alloc::{AllocError, Global};
 
-/// Raises the flow, where the search has come to the end.
+/// Raises the flow if the search has reached the sink.
 fn raise(
     alloc: Global,
     graph: &mut ResidualGraph,
@@ -33,7 +32,7 @@ fn raise(
     Ok(())
 }
 
-/// Raises the flow until no augmenting path leads to the end, and answers the last search.
+/// Raises the flow until no augmenting path is left, and returns the last search.
 pub(crate) fn maximum_flow(
     alloc: Global,
     graph: &mut ResidualGraph,

@@ -1,4 +1,4 @@
-//! The plain solver: augmenting paths in phases, as Dinic (1970) has them, in one thread.
+//! The reference solver: Dinic's algorithm (1970) in one thread.
 ghost use Rattle.std.specs.Prelude.{◌≡◌, ◌≢◌, ◌<◌, Err, IfOk, length};
 ghost use Rattle.cut_net.specs.Answers.{said_by, said_by_cut};
 ghost use Rattle.cut_net.specs.Lines.{IsAnswer, IsCheapestSaid};
@@ -26,19 +26,19 @@ fn solve(alloc: Global, net: &Net, from: u32, to: u32) -> Result<Cut, AllocError
     minimum_cut(alloc, net, &near.seen, flow, from, to)
 }
 
-/// A cheapest cut between the modules of two names: the printed imports with their weights, the sum of these in qualified
-/// references, and a flow of that value. Both lists are in order of the imports' numbers, each import once, and no flow is 0.
-/// An import is printed where it leaves the modules that are in every side of least weight, and the module that it leads
-/// to has a chain to `to` by none of those. None of them is pinned: where a chain of pins leads from the one to the other, no cut parts
-/// them, and the one with the fewest imports, and then the least names, is answered in place of a cut.
-/// The names are looked up first, `from` before `to`. Refuses with `NoSuchModule` for the first that no module has, with
-/// `SameModule` where both are one module's, and with `Memory`.
+/// A cheapest cut between the modules of two names: the reported imports with their weights, the sum of the weights in qualified
+/// references, and a flow of that value. Imports are in the order of their numbers, each once, and no flow is 0.
+/// An import is reported if it leaves the minimal source side and the imported module reaches `to` outside of it. None is pinned.
+/// If a path of pinned imports leads from the one module to the other, no cut exists. Then the result is that path: the shortest one, of
+/// several the lexicographically smallest.
+/// Fails with `NoSuchModule` for the first unknown name, `from` before `to`, with `SameModule` if both are the same module's, and with
+/// `Memory`.
 pub fn plain(alloc: Global, net: &Net, from: &str, to: &str) -> Result<Answer, SolveFault>
-    // It is a cheapest cut with a flow that proves it, or a chain of pins, which no cut parts, or what is wrong with the names.
+    // The result is a cheapest cut with a flow that proves it, a path of pinned imports, or the error in the names.
     ensures exact { Tells said_by result (IsSolveOutcome net.now from.now to.now) }
-    // What is wrong with the names is answered unless memory runs out.
+    // An error in the names is returned, unless an allocation fails.
     ensures refused { (refusal : SolveRefusal) → IsSolveOutcome net.now from.now to.now (Err refusal) → Tells said_by result (λ o. o ≡ Err refusal) }
-    // Each import of a cut is needed: with all others removed a chain still leads from the one module to the other.
+    // Each import of a cut is needed: if only the others are removed, a path still leads from the one module to the other.
     ensures needed { IfOk result (λ answer. AreNeeded net.now from.now to.now (said_by answer)) }
 {
     net.keeps();

@@ -1,4 +1,4 @@
--- A flow that no other exceeds, by what its residual imports reach (Goldberg and Tarjan 1988, section 2).
+-- A maximum flow, by what the source reaches in its residual graph (Goldberg and Tarjan 1988, section 2).
 use Rattle.std.specs.Prelude.{◌≡◌, ℕ, ◌<◌, Bool, false, List, length, All}
 use Rattle.cut_net.specs.declared.priced.Priced.{Priced}
 use Rattle.cut_net.specs.Network.{Network}
@@ -6,7 +6,7 @@ use Rattle.cut_net.specs.Cuts.{AreThose, IsFlow, Reached}
 use Rattle.cut_net.specs.Lines.{flow_by, AreImportsInOrder}
 use Rattle.cut_residual.specs.Graphs.{is_seen}
 
--- the lines are a flow from a to b, and the marked modules are those that its residual imports reach from a, without b
+-- the lines are a flow from a to b, and the flags are those of the modules that a reaches in the residual graph, which b isn't
 pub record IsMaximumFlow (net : Network) (a b : ℕ) (near : List Bool) (flow : List Priced) : Type 0 where
   pub size : length near ≡ length net.names
   pub reached : AreThose (is_seen near) (Reached net (flow_by flow) a)

@@ -1,4 +1,4 @@
--- Imports as arcs, and which of them are printed.
+-- Imports as arcs, and which imports are reported.
 use Rattle.std.specs.Prelude.{◌&&◌, nat_lt, Bool, if◌then◌else◌, List}
 use Rattle.cut_net.specs.declared.priced.Priced.{Priced}
 use Rattle.cut_net.specs.Cuts.{leaves}
@@ -20,10 +20,10 @@ flow_line r = record { from = r.from; to = r.to; amount = r.flow }
 abbrev pub has_flow : Priced → Bool
 has_flow line = nat_lt 0 line.amount
 
--- the arc that turns an import round, open where the import doesn't leave the near modules
+-- the reversed arc of an import, with capacity exactly if the import doesn't leave the minimal source side
 abbrev pub reversed_of : List Bool → Priced → Arc
 reversed_of near i = record { from = i.to; to = i.from; capacity = if leaves (is_seen near) i then 0 else 1; flow = 0 }
 
--- the import leads from the near modules to one of the far ones
+-- the import leads from the minimal source side to a module that reaches the sink outside of it
 abbrev pub is_printed : List Bool → List Bool → Priced → Bool
 is_printed near far i = leaves (is_seen near) i && is_seen far i.to

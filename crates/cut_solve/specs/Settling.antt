@@ -1,9 +1,9 @@
--- The flow of a settled preflow on the imports that a cut is asked of.
+-- The flow of a complete preflow on the imports of the network.
 use Rattle.std.specs.Prelude.{ℕ, List, [], ◌∷◌}
 use Rattle.cut_net.specs.declared.priced.Priced.{Priced}
 use Rattle.cut_residual.specs.declared.arc.Arc.{Arc}
 
--- the imports as arcs, each with its flow, by their numbers
+-- the imports as arcs, each with the flow of its number
 abbrev pub carrying : List Priced → List ℕ → List Arc
 carrying [] flow = []
 carrying (i ∷ more) [] = []

@@ -1,4 +1,4 @@
--- What one turn of a worker does to the preflow behind the lock.
+-- The effect of one step of a worker on the locked preflow.
 use Rattle.std.specs.Prelude.{◌≡◌, ◌≢◌, ◌↔◌, ℕ, true, false}
 use Rattle.cut_preflow.specs.declared.event.Event.{Event}
 use Rattle.cut_preflow.specs.declared.event.Outcome.{Outcome}
@@ -7,7 +7,7 @@ use Rattle.cut_preflow.specs.Preflow.{applies}
 use Rattle.cut_preflow.specs.Trace.{state_of, step_outcome, history_after}
 use Rattle.cut_preflow.specs.Shares.{Shared, count_after}
 
--- the event was tried, with one of its outcomes: the history has it where it applied, and the book and the worker's count are so much longer
+-- the event was tried, with one of its outcomes: if it applied, the history has it, and the book and the worker's count are higher by one
 pub record IsTried (event : Event) (old new : Shared) (before after : ℕ) : Type 0 where
   pub outcome : Outcome
   pub is : outcome ≢ Refused → outcome ≡ step_outcome old.trace.net (state_of old.trace) event.step

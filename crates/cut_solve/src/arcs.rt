@@ -1,4 +1,4 @@
-//! Imports as arcs of a graph, and the flow of arcs as lines.
+//! Conversions between imports and the arcs of a residual graph.
 ghost use Rattle.std.specs.Prelude.{◌≡◌, IfOk, filter, length, map};
 ghost use Rattle.cut_solve.specs.Lines.{empty_of, has_flow, flow_line};
 
@@ -6,7 +6,7 @@ use cut_net::{Net, Priced};
 use cut_residual::{Arc, ResidualGraph};
 use std::alloc::{AllocError, Global};
 
-/// For each import an arc whose capacity is the import's weight, without flow.
+/// For each import an arc without flow, whose capacity is the import's weight.
 pub(crate) fn arcs_of(alloc: Global, imports: &[Priced]) -> Result<Vec<Arc>, AllocError>
     ensures { IfOk result (λ arcs. arcs.items ≡ map empty_of imports.now) }
 {
@@ -22,8 +22,9 @@ pub(crate) fn arcs_of(alloc: Global, imports: &[Priced]) -> Result<Vec<Arc>, All
     Ok(arcs)
 }
 
-/// The imports of a network as arcs between its modules, each with the import's weight and without flow. Fails where memory is refused.
+/// The residual graph of a network without flow: for each import an arc whose capacity is the import's weight. Fails if an allocation fails.
 pub fn graph_of(alloc: Global, net: &Net) -> Result<ResidualGraph, AllocError>
+    // The nodes are the modules, and the arcs the imports in their order.
     ensures { IfOk result (λ graph. graph ≡ record { nodes = length net.now.names; arcs = map empty_of net.now.imports }) }
 {
     net.keeps();
@@ -31,7 +32,7 @@ pub fn graph_of(alloc: Global, net: &Net) -> Result<ResidualGraph, AllocError>
     ResidualGraph::new(alloc, arcs, net.nodes())
 }
 
-/// For each arc an import with its flow for a weight.
+/// For each arc an import whose amount is the arc's flow.
 pub(crate) fn flows_of(alloc: Global, arcs: &[Arc]) -> Result<Vec<Priced>, AllocError>
     ensures { IfOk result (λ imports. imports.items ≡ map flow_line arcs.now) }
 {
@@ -46,8 +47,9 @@ pub(crate) fn flows_of(alloc: Global, arcs: &[Arc]) -> Result<Vec<Priced>, Alloc
     Ok(imports)
 }
 
-/// The arcs that carry flow, each with its flow. Fails where memory is refused.
+/// The arcs with flow, as imports whose amount is the flow. Fails if an allocation fails.
 pub fn flow_of(alloc: Global, arcs: &[Arc]) -> Result<Vec<Priced>, AllocError>
+    // They are exactly the arcs with flow above 0, in their order.
     ensures { IfOk result (λ flow. flow.items ≡ filter has_flow (map flow_line arcs.now)) }
 {
     let mut flow = Vec::new(alloc);

@@ -1,18 +1,18 @@
-//! Why there is no cut.
+//! Why the solver returns no answer.
 
 use std::alloc::AllocError;
 use thiserror::Error;
 
-/// What is wrong with the two names of a question, or that memory ran out.
+/// An error in the two names, or a failed allocation.
 #[derive(Debug, Drop, Error)]
 pub enum SolveFault {
-    /// Both names are those of one module.
+    /// Both names are the same module's.
     #[error("both names are of one module")]
     SameModule,
-    /// No module has this name. The first of the two names is looked up first.
+    /// No module has this name. `from` is looked up before `to`.
     #[error("no module is named {name}")]
     NoSuchModule { name: String },
-    /// A growth of memory was refused.
+    /// An allocation failed.
     #[error("memory ran out")]
     Memory,
 }

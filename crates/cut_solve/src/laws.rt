@@ -1,4 +1,4 @@
-//! The laws of answers. Each function is a law: its body is empty, and its contract is proved.
+//! Laws of answers, proved as contracts of functions with an empty body.
 ghost use Rattle.std.specs.Prelude.{◌≡◌, ℕ, Err, List, Result};
 ghost use Rattle.cut_net.specs.Network.{Network};
 ghost use Rattle.cut_net.specs.Pins.{ArePins};
@@ -6,17 +6,20 @@ ghost use Rattle.cut_net.specs.Said.{Said};
 ghost use Rattle.cut_net.specs.WellFormed.{IsNetwork};
 ghost use Rattle.cut_solve.specs.Solving.{AreSameOutcomes, IsSolveOutcome, SolveRefusal};
 
-/// Two names that are refused have no other answer.
+/// Two names with an error have no other outcome.
 pub fn one_refusal()
+    // The error is the only outcome.
     ensures { (net : Network) (from to : List ℕ) (refusal : SolveRefusal) (o : Result Said SolveRefusal) → IsSolveOutcome net from to (Err refusal) → IsSolveOutcome net from to o → o ≡ Err refusal }
 {}
 
-/// Any two names have an answer in every network: a cheapest cut with a flow of its weight, or a chain of pins, or what is wrong with the names.
+/// Any two names have an outcome in every network: a cheapest cut with a flow of its weight, a path of pinned imports, or an error in the names.
 pub fn some_outcome()
+    // There is an outcome.
     ensures { (net : Network) (from to : List ℕ) → IsNetwork net → ArePins net → (o : Result Said SolveRefusal) × IsSolveOutcome net from to o }
 {}
 
-/// And they have one: the imports of the cut and its weight are the same in each, and so is the chain of pins. The flow may be another one.
+/// Two names have one outcome, but for the flow: the imports of the cut and its weight, the path of pinned imports, and the error are unique.
 pub fn one_outcome()
+    // Two outcomes differ at most in their flows.
     ensures { (net : Network) (from to : List ℕ) (o p : Result Said SolveRefusal) → IsSolveOutcome net from to o → IsSolveOutcome net from to p → AreSameOutcomes o p }
 {}

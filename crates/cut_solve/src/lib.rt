@@ -1,6 +1,7 @@
-//! Cheapest cuts: the imports to be removed, and a flow that proves that none is cheaper, by many threads; or the chain of pins that no cut parts.
-//! Stands on `cut_net`, `cut_part`, `cut_preflow`, `cut_residual` and `cut_trial`, with `thiserror` for its faults.
-//! Its contract: an answer is the printed imports by their definition, their weight and a flow of that value, so no cut weighs less, whatever turns the workers took.
+//! Cheapest cuts: the imports to remove, and a flow that proves that no cut is cheaper, or the path of pinned imports because of which there is none.
+//! The algorithm is push-relabel (Goldberg and Tarjan 1988) by many threads on one locked preflow.
+//! Depends on `cut_part` for smaller networks, `cut_trial` for an initial flow, `cut_preflow` for steps, `cut_residual` for the final search.
+//! The main call is `solve`. It promises the reported cut by its definition, its weight and a flow of that value, for every schedule.
 #![tactic(auto)]
 
 mod arcs;

@@ -1,4 +1,4 @@
-//! A network whose weights are lowered to a flow that is tried first.
+//! A network whose capacities are reduced to an initial flow.
 ghost use Rattle.std.specs.Prelude.{◌≡◌, ◌<◌, IfOk};
 ghost use Rattle.cut_net.specs.WellFormed.{AreBetween};
 ghost use Rattle.cut_solve.specs.Starts.{IsLowered};
@@ -9,8 +9,8 @@ use cut_residual::ResidualGraph;
 use cut_trial::trial_flow;
 use std::alloc::{AllocError, Global};
 
-/// The same start on lower weights: what got through in a trial. A preflow on them has nothing to send back, where the trial found a greatest flow;
-/// it isn't proved that it did, so what comes of such a preflow is tested.
+/// The start with the initial flow of each import as its capacity. If the initial flow is maximum, a preflow with these capacities has no
+/// excess to return. That it is maximum isn't proved, so the result of such a preflow is tested.
 pub(crate) fn lowered(alloc: Global, nodes: u32, start: &Start) -> Result<Start, AllocError>
     requires between { AreBetween start.now.imports.items nodes }
     requires source { start.now.source < nodes }

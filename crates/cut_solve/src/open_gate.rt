@@ -1,7 +1,7 @@
-//! The gate that holds no worker.
+//! A gate that does nothing.
 use crate::Gate;
 
-/// Lets every worker through at once.
+/// A gate that returns at once, for every worker.
 #[derive(Drop)]
 pub struct OpenGate;
 

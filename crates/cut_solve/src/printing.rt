@@ -1,4 +1,4 @@
-//! The printed imports: of those that leave the near modules, those that lead to a module that still has a chain to the end.
+//! The reported imports: those that leave the minimal source side, if the imported module reaches the sink outside of it.
 ghost use Rattle.std.specs.Prelude.{ℕ, ◌≡◌, ◌<◌, ◌^◌, ◌↔◌, true, IfOk, filter, length, map, sum_by};
 ghost use Rattle.cut_net.specs.Cuts.{leaves, Chain, Outside};
 ghost use Rattle.cut_net.specs.WellFormed.{AreBetween};
@@ -9,7 +9,7 @@ use cut_net::Priced;
 use cut_residual::{Arc, marks};
 use std::alloc::{AllocError, Global};
 
-/// Whether the import leads out of the near modules.
+/// Whether the import leaves the minimal source side.
 fn leaves(i: Priced, near: &[bool]) -> bool
     requires from { i.from < length near.now }
     requires to { i.to < length near.now }
@@ -18,7 +18,7 @@ fn leaves(i: Priced, near: &[bool]) -> bool
     near[i.from as usize] && !near[i.to as usize]
 }
 
-/// For each import an arc the other way round, which is open where the import doesn't leave the near modules.
+/// For each import the reversed arc, with capacity exactly if the import doesn't leave the minimal source side.
 fn reversed_arcs(alloc: Global, imports: &[Priced], near: &[bool]) -> Result<Vec<Arc>, AllocError>
     requires between { AreBetween imports.now (length near.now) }
     ensures { IfOk result (λ arcs. arcs.items ≡ map (reversed_of near.now) imports.now) }
@@ -36,7 +36,7 @@ fn reversed_arcs(alloc: Global, imports: &[Priced], near: &[bool]) -> Result<Vec
     Ok(arcs)
 }
 
-/// Marks the modules that have a chain to the end by imports that don't leave the near modules.
+/// Flags the modules that reach the sink by imports that don't leave the minimal source side.
 pub(crate) fn far_from(
     alloc: Global,
     imports: &[Priced],
@@ -55,7 +55,7 @@ pub(crate) fn far_from(
     Ok(far)
 }
 
-/// Whether the import is printed: it leaves the near modules, and the module that it leads to has a chain to the end.
+/// Whether the import is reported: it leaves the minimal source side, and the imported module reaches the sink outside of it.
 fn is_printed(i: Priced, near: &[bool], far: &[bool]) -> bool
     requires from { i.from < length near.now }
     requires to { i.to < length near.now }
@@ -65,7 +65,7 @@ fn is_printed(i: Priced, near: &[bool], far: &[bool]) -> bool
     leaves(i, near) && far[i.to as usize]
 }
 
-/// The printed imports, in their order.
+/// The reported imports, in their order.
 pub(crate) fn printed_of(
     alloc: Global,
     imports: &[Priced],

@@ -1,4 +1,4 @@
-//! The last pass: a preflow is settled by one worker, and told as a cut.
+//! The last step of the solver: the calling thread completes the preflow, and its flow gives the cut.
 ghost use Rattle.std.specs.Prelude.{◌≡◌, ◌≤◌, IfOk, IfSome, IsSome, length};
 ghost use Rattle.cut_net.specs.Answers.{said_by_cut};
 ghost use Rattle.cut_net.specs.Lines.{IsAnswer, IsCheapestSaid};
@@ -16,7 +16,7 @@ use cut_preflow::{NetworkLedger, Preflow};
 use cut_residual::{Arc, marks};
 use std::alloc::{AllocError, Global};
 
-/// The imports as arcs that carry the flow of a preflow on as many imports.
+/// The imports as arcs, each with the flow that the preflow has on the import of the same number.
 fn carrying<L: NetworkLedger>(
     alloc: Global,
     imports: &[Priced],
@@ -40,9 +40,9 @@ fn carrying<L: NetworkLedger>(
     Ok(arcs)
 }
 
-/// The cheapest cut between two modules that the flow of a quiet preflow shows: where a search in the network from the first doesn't come to the
-/// second, the flow is a greatest one of the network too, and the search tells its near modules. It doesn't where no flow was lost by the weights
-/// that the preflow started on.
+/// The cheapest cut between two modules that the flow of a preflow without active modules gives, or none.
+/// If a search with the weights as capacities doesn't reach the second module from the first, the flow is maximum, and the search finds the
+/// minimal source side. It doesn't reach it if the capacities of the preflow allow a maximum flow.
 fn quiet_cut<L: NetworkLedger>(
     alloc: Global,
     net: &Net,
@@ -70,8 +70,8 @@ fn quiet_cut<L: NetworkLedger>(
     Ok(Some(cut))
 }
 
-/// The cheapest cut between two modules that a preflow comes to, with a flow that proves it: what is left to do is done first, by pushes
-/// and relabels of one worker (Goldberg and Tarjan, 1988). None where the weights that it started on lost flow.
+/// The cheapest cut between two modules, with a flow that proves it, after the calling thread has taken the pushes and relabels that are
+/// left (Goldberg and Tarjan 1988). None if the capacities of the preflow don't allow a maximum flow.
 pub(crate) fn last_pass<L: NetworkLedger>(
     alloc: Global,
     net: &Net,

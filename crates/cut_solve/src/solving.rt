@@ -1,4 +1,4 @@
-//! The solver by many workers: pushes and relabels on one locked preflow, and a last pass for what they left.
+//! The solver with many workers: pushes and relabels on one locked preflow, completed by the calling thread.
 ghost use Rattle.std.specs.Prelude.{◌≡◌, ◌≤◌, Err, IfOk, IfSome, IsSome, length};
 ghost use Rattle.cut_net.specs.Answers.{said_by, said_by_cut};
 ghost use Rattle.cut_net.specs.Lines.{IsAnswer, IsCheapestSaid};
@@ -26,7 +26,7 @@ use std::sync::{Mutex, Wait};
 use std::thread;
 use std::thread::{JoinHandle, Threads};
 
-/// Lets a worker go on with a share of its own, if one is left.
+/// Runs a worker with a share of its own, if one is left.
 fn started<L: NetworkLedger, R: Wait, G: Gate>(
     rt: &R,
     locked: &Locked<L>,
@@ -37,7 +37,7 @@ fn started<L: NetworkLedger, R: Wait, G: Gate>(
     Some(worker(rt, locked, number, share, gate))
 }
 
-/// Joins the threads, and puts their shares back.
+/// Joins the threads, and returns their shares to the preflow.
 fn join_all<L: NetworkLedger, R: Threads + Wait>(
     rt: &R,
     locked: &Locked<L>,
@@ -50,7 +50,7 @@ fn join_all<L: NetworkLedger, R: Threads + Wait>(
     }
 }
 
-/// Starts this many workers, each in a thread, joins them, and puts their shares back. A thread that can't be started is left out.
+/// Starts the workers, each in a thread, joins them, and returns their shares to the preflow. Goes on without a thread that can't be started.
 fn in_threads<L: NetworkLedger + Send + Sync, R: Threads + Wait + Sync, G: Gate + Sync>(
     rt: &R,
     alloc: Global,
@@ -73,7 +73,7 @@ fn in_threads<L: NetworkLedger + Send + Sync, R: Threads + Wait + Sync, G: Gate 
     })
 }
 
-/// The preflow, with what this many workers did to it.
+/// The preflow after the steps of this number of workers.
 fn worked<L: NetworkLedger + Send + Sync, R: Threads + Wait + Sync, G: Gate + Sync>(
     rt: &R,
     alloc: Global,
@@ -86,8 +86,8 @@ fn worked<L: NetworkLedger + Send + Sync, R: Threads + Wait + Sync, G: Gate + Sy
     Ok(locked.into_inner())
 }
 
-/// A cheapest cut between two modules, with a flow that proves it, by this many workers on one preflow in the ledger of the blank. None where the
-/// weights that it started on lost flow.
+/// A cheapest cut between two modules, with a flow that proves it, by this number of workers on one preflow, whose ledger is that of `blank`.
+/// None if the capacities of `start` don't allow a maximum flow.
 fn in_ledger<L: NetworkLedger + Send + Sync, R: Threads + Wait + Sync, G: Gate + Sync>(
     rt: &R,
     alloc: Global,
@@ -120,7 +120,7 @@ fn in_ledger<L: NetworkLedger + Send + Sync, R: Threads + Wait + Sync, G: Gate +
     last_pass(alloc, net, &mut preflow, from, to)
 }
 
-/// The same in a ledger of its own.
+/// As `in_ledger`, with a new ledger.
 fn in_own_ledger<R: Threads + Wait + Sync, G: Gate + Sync>(
     rt: &R,
     alloc: Global,
@@ -148,7 +148,7 @@ fn in_own_ledger<R: Threads + Wait + Sync, G: Gate + Sync>(
     )
 }
 
-/// A cheapest cut between two modules: on weights that are lowered to a trial's flow, and where these lost flow on those that lost none.
+/// A cheapest cut between two modules: with capacities reduced to an initial flow, and if these don't allow a maximum flow, without the reduction.
 fn on_lowered<R: Threads + Wait + Sync, G: Gate + Sync>(
     rt: &R,
     alloc: Global,
@@ -173,7 +173,7 @@ fn on_lowered<R: Threads + Wait + Sync, G: Gate + Sync>(
     }
 }
 
-/// A cheapest cut between two modules, found in the part of the network that lies between them.
+/// A cheapest cut between two modules, found in the subnetwork of the modules on paths between them.
 fn in_part<R: Threads + Wait + Sync, G: Gate + Sync>(
     rt: &R,
     alloc: Global,
@@ -194,7 +194,7 @@ fn in_part<R: Threads + Wait + Sync, G: Gate + Sync>(
     Ok(whole)
 }
 
-/// What is answered of two modules: a cheapest cut, or the chain of pins that no cut parts.
+/// The answer for two modules: a cheapest cut, or the shortest path of pinned imports.
 fn answer_between<R: Threads + Wait + Sync, G: Gate + Sync>(
     rt: &R,
     alloc: Global,
@@ -215,12 +215,12 @@ fn answer_between<R: Threads + Wait + Sync, G: Gate + Sync>(
     Ok(as_answer(net, cut, from, to))
 }
 
-/// A cheapest cut between the modules of two names, or the chain of pins that no cut parts, as `plain` tells it: the cut by 1 to 64 threads that push and relabel on one locked
-/// preflow (Goldberg and Tarjan 1988) of the modules between the two, and call the gate between their turns. Whatever turns they take, the imports and the weight are
-/// the same; the flow may be another one of that value. A worker that memory is refused to ends alone, a thread that can't be started is
-/// left out, and a last pass does what is left. It is proved that this pass never runs out of fuel, so there is no refusal for it.
-/// The names are looked up first, `from` before `to`. Refuses with `NoSuchModule` for the first that no module has, with
-/// `SameModule` where both are one module's, and with `Memory`. It may wait for the lock and for its threads.
+/// A cheapest cut between the modules of two names, or the shortest path of pinned imports, because of which no cut exists.
+/// 1 to 64 threads push and relabel on one locked preflow (Goldberg and Tarjan 1988) and call `gate` between two critical sections.
+/// The imports and the weight are the same for every schedule; the flow may differ. A worker ends if an allocation fails for it.
+/// A thread that can't be started is left out. The calling thread takes the steps that are left; the bound on steps always suffices.
+/// Fails with `NoSuchModule` for the first unknown name, `from` before `to`, with `SameModule` if both are the same module's, and with
+/// `Memory`. It may wait for the lock and for its threads.
 pub fn solve<R: Threads + Wait + Sync, G: Gate + Sync>(
     rt: &R,
     alloc: Global,
@@ -230,12 +230,13 @@ pub fn solve<R: Threads + Wait + Sync, G: Gate + Sync>(
     workers: u32,
     gate: &G,
 ) -> Result<Answer, SolveFault>
+    // The number of workers is 1 to 64.
     requires workers { (1 ≤ workers) × (workers ≤ 64) }
-    // It is a cheapest cut with a flow that proves it, or a chain of pins, which no cut parts, or what is wrong with the names.
+    // The result is a cheapest cut with a flow that proves it, a path of pinned imports, or the error in the names.
     ensures exact { Tells said_by result (IsSolveOutcome net.now from.now to.now) }
-    // What is wrong with the names is answered unless memory runs out.
+    // An error in the names is returned, unless an allocation fails.
     ensures refused { (refusal : SolveRefusal) → IsSolveOutcome net.now from.now to.now (Err refusal) → Tells said_by result (λ o. o ≡ Err refusal) }
-    // Each import of a cut is needed: with all others removed a chain still leads from the one module to the other.
+    // Each import of a cut is needed: if only the others are removed, a path still leads from the one module to the other.
     ensures needed { IfOk result (λ answer. AreNeeded net.now from.now to.now (said_by answer)) }
 {
     net.keeps();

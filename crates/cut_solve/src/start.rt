@@ -1,4 +1,4 @@
-//! The network that a preflow starts on: its weights narrowed, from the end whose imports weigh less.
+//! The input of a preflow: imports with reduced capacities, reversed if that is cheaper.
 ghost use Rattle.std.specs.Prelude.{IfOk, length};
 ghost use Rattle.cut_part.specs.Narrowing.{IsNarrowed};
 ghost use Rattle.cut_preflow.specs.Flows.{AreEnds};
@@ -8,18 +8,18 @@ use cut_net::{Net, Priced};
 use cut_part::{narrowed, numbers_along, turned_imports};
 use std::alloc::{AllocError, Global};
 
-/// Imports in the order of a network's, and the two modules that a preflow on them is between.
+/// Imports in the order of a network's imports, and the source and the sink of a preflow on them.
 #[derive(Drop)]
 pub struct Start {
-    /// The imports.
+    /// The imports, with capacities as amounts.
     pub imports: Vec<Priced>,
-    /// The module that the flow starts from.
+    /// The source, a module number.
     pub source: u32,
-    /// The module that it goes to.
+    /// The sink, a module number.
     pub sink: u32,
 }
 
-/// The imports, their weights narrowed along the chains of the network.
+/// The imports, each with the weight reduced to what can flow in and out along paths of the network.
 fn narrow(alloc: Global, net: &Net, from: u32, to: u32) -> Result<Vec<Priced>, AllocError>
     requires { AreEnds net.now from to }
     ensures { IfOk result (λ v. IsNarrowed net.now (with_imports net.now v.items) from to) }
@@ -29,7 +29,7 @@ fn narrow(alloc: Global, net: &Net, from: u32, to: u32) -> Result<Vec<Priced>, A
     narrowed(alloc, net.imports(), net.nodes(), &order, from, to)
 }
 
-/// The weight of the imports that leave a module; 2^64 - 1 where it is more.
+/// The weight of the imports by a module, at most 2^64 - 1.
 fn weight_from(imports: &[Priced], module: u32) -> u64 {
     let mut sum = 0u64;
     for import in imports {
@@ -40,7 +40,7 @@ fn weight_from(imports: &[Priced], module: u32) -> u64 {
     sum
 }
 
-/// The weight of the imports that lead to a module; 2^64 - 1 where it is more.
+/// The weight of the imports of a module, at most 2^64 - 1.
 fn weight_to(imports: &[Priced], module: u32) -> u64 {
     let mut sum = 0u64;
     for import in imports {
@@ -51,10 +51,12 @@ fn weight_to(imports: &[Priced], module: u32) -> u64 {
     sum
 }
 
-/// What a preflow between two modules starts on: the imports narrowed, and turned round where those that lead to the second module weigh
-/// less than those that leave the first, since less flow has to come back then. Fails where memory is refused.
+/// The input of a preflow between two modules: imports with reduced capacities. They are reversed if the imports of `to` weigh less than those
+/// by `from`, since less excess has to return then. Fails if an allocation fails.
 pub fn start_between(alloc: Global, net: &Net, from: u32, to: u32) -> Result<Start, AllocError>
+    // `from` and `to` are two modules.
     requires { AreEnds net.now from to }
+    // The imports are those between the two modules, as they are or reversed, with capacities that allow the same flows.
     ensures { IfOk result (λ s. IsStart net.now from to s.imports.items s.source s.sink) }
 {
     let imports = narrow(alloc, net, from, to)?;

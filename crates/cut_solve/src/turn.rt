@@ -1,22 +1,22 @@
-//! What a worker sees in a turn, and what it calls before it acts.
+//! What a worker finds under the lock, and the callback between two critical sections.
 
 use cut_preflow::{Event, Preflow};
 use std::sync::Mutex;
 
-/// A preflow behind a lock. Its type names the network, so that no preflow of another network can be put in its place.
+/// A preflow guarded by a lock. Its type names the network, so no preflow of another network can replace it.
 pub type Locked<L> = Mutex<Preflow<L>>;
 
-/// What a worker sees under the lock.
+/// What a worker finds under the lock.
 #[derive(Clone, Copy, Debug)]
 pub enum Look {
-    /// No module but the two ends has excess.
+    /// No module but the source and the sink has excess.
     Quiet,
-    /// This event applies.
+    /// A push or relabel that applies.
     Try { event: Event },
 }
 
-/// What a worker calls between its look and its act, without the lock.
+/// A callback between two critical sections of a worker, without the lock.
 pub trait Gate {
-    /// The worker of this number came to this turn. Turns count its looks that found an event, from 0, and stay at 2^64 - 1.
+    /// Called before a worker tries the event that it found. `turn` counts the events that this worker has found, from 0 up to 2^64 - 1.
     fn at(&self, worker: u32, turn: u64);
 }

@@ -1,4 +1,4 @@
-//! What is answered of the part of a network between two modules, told of the whole network.
+//! The answer for a subnetwork as one for the whole network.
 ghost use Rattle.std.specs.Prelude.{◌≡◌, IfOk, length};
 ghost use Rattle.cut_net.specs.Answers.{said_by_cut};
 ghost use Rattle.cut_net.specs.WellFormed.{AreBetween};
@@ -8,7 +8,7 @@ use cut_net::Cut;
 use cut_part::lines_whole;
 use std::alloc::{AllocError, Global};
 
-/// The same cut, its lines by the numbers that the modules have in the whole network.
+/// The cut of a subnetwork, with the numbers that the modules have in the whole network.
 pub(crate) fn whole_cut(alloc: Global, cut: &Cut, numbers: &[u32]) -> Result<Cut, AllocError>
     requires imports { AreBetween cut.now.imports.items (length numbers.now) }
     requires flow { AreBetween cut.now.flow.items (length numbers.now) }

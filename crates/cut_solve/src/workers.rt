@@ -1,4 +1,4 @@
-//! A worker holds the lock once a turn: it tries the event of the turn before and looks for the next.
+//! A worker: in each critical section it tries the event that it found before, and finds the next one.
 ghost use Rattle.std.specs.Prelude.{◌≡◌, ◌≤◌, ◌↔◌, true, false, IsNone, IfSome};
 ghost use Rattle.cut_preflow.specs.declared.event.Event.{Event as EventValue};
 ghost use Rattle.cut_preflow.specs.Kept.{IsQuiet};
@@ -10,18 +10,18 @@ use cut_preflow::{Event, NetworkLedger, Outcome, Preflow, Share};
 use std::sync::{MutexGuard, Wait};
 use std::thread;
 
-/// As many rests as a worker takes at most before it tries the lock again.
+/// The largest number of times that a worker yields before it tries the lock again.
 const MOST_RESTS: u32 = 4096;
 
-/// Lets other threads run, this many times.
+/// Yields to other threads this number of times.
 fn rest(times: u32) {
     for _ in 0..times {
         thread::yield_now();
     }
 }
 
-/// Takes the lock. A worker that finds it taken steps aside, each time for twice as long, in place of queueing: a queue wakes a thread
-/// for each turn, which takes longer than the turn.
+/// Takes the lock. A worker that finds it taken yields, twice as often each time. It doesn't queue: a queue wakes a thread for each step,
+/// which takes longer than the step.
 fn aside<'a, L: NetworkLedger, R: Wait>(
     rt: &R,
     locked: &'a Locked<L>,
@@ -37,9 +37,11 @@ fn aside<'a, L: NetworkLedger, R: Wait>(
     unreachable!()
 }
 
-/// What a worker sees: an event of its own that applies to this preflow, or that no module but the two ends has excess.
+/// An event of the worker that applies to this preflow, or that no module but the source and the sink has excess.
 pub fn look<L: NetworkLedger>(preflow: &Preflow<L>, worker: u32) -> Look
+    // The result is `Quiet` exactly if no module but the source and the sink has excess.
     ensures quiet { (result ≡ Look.Quiet) ↔ IsQuiet preflow.now.trace.net (state_of preflow.now.trace) }
+    // The event is the worker's, and applies.
     ensures event { (event : EventValue) → result ≡ Look.Try event → CanTry preflow.now worker event }
 {
     match preflow.next_step() {
@@ -50,7 +52,7 @@ pub fn look<L: NetworkLedger>(preflow: &Preflow<L>, worker: u32) -> Look
     }
 }
 
-/// The event that the worker is to try. With none, its share is marked.
+/// The event that the worker is to try. Without one, marks its share.
 fn look_or_mark<L: NetworkLedger>(
     preflow: &Preflow<L>,
     number: u32,
@@ -69,7 +71,7 @@ fn look_or_mark<L: NetworkLedger>(
     }
 }
 
-/// Tries an event, and looks for the next one. With none, the share is marked.
+/// Tries an event, and finds the next one. Without one, marks the share.
 fn next<L: NetworkLedger>(
     preflow: &mut Preflow<L>,
     event: Event,
@@ -86,9 +88,9 @@ fn next<L: NetworkLedger>(
     look_or_mark(preflow, number, share)
 }
 
-/// Goes on as the worker of this number, with an unmarked share, until the preflow is quiet or a step was refused, as the marked share
-/// says. Each turn takes the lock once: it tries the event that the turn before it found, and looks for the next one. What was looked
-/// at may be stale by then, and then nothing changes. The gate is called between the two, without the lock. It may wait for the lock.
+/// Runs the worker of this number until no module is active or an allocation fails in a step; then the share is marked.
+/// Each critical section tries the event that the previous one found, and finds the next one. If other workers have changed the preflow in
+/// between, an event that no longer applies changes nothing. `gate` is called between the two sections. It may wait for the lock.
 pub fn worker<L: NetworkLedger, R: Wait, G: Gate>(
     rt: &R,
     locked: &Locked<L>,
@@ -96,9 +98,11 @@ pub fn worker<L: NetworkLedger, R: Wait, G: Gate>(
     mut share: Share<L>,
     gate: &G,
 ) -> Share<L>
+    // The share isn't marked.
     requires unmarked { share.marked ≡ false }
+    // The returned share is marked.
     ensures marked { result.marked ≡ true }
-    // What the share counts doesn't fall.
+    // The share counts at least the steps that it counted before.
     ensures counted { share.count ≤ result.count }
 {
     let Some(mut event) = look_or_mark(&*aside(rt, locked), number, &mut share) else {
