@@ -1,4 +1,4 @@
--- The picture of what is said of two modules of a network: of imports to be removed, and of a flow.
+-- The picture of an answer for two modules of a network: of imports to remove, and of a flow.
 use Rattle.std.specs.Prelude.{◌≡◌, ◌⊎◌, ℕ, Bool, not, ◌||◌, ◌&&◌, ◌==◌, nat_lt, List, [], ◌∷◌, length, filter, Contains}
 use Rattle.std.specs.List.{list_any, range_with_len}
 use Rattle.digraph.specs.declared.edge.Edge.{Edge}
@@ -17,7 +17,7 @@ use Rattle.cut_dot.specs.Texts.{picture_text}
 abbrev pub numbers : Network → List ℕ
 numbers net = range_with_len 0 (length net.names)
 
--- the module is in the picture: it is one of these (those between, or those at an end of a drawn import), or one of the two ends
+-- the module is in the picture: it is one of the given ones, or one of the two ends
 abbrev pub is_drawn : ℕ → ℕ → (ℕ → Bool) → ℕ → Bool
 is_drawn a b between m = between m || is_chain_end a b m
 
@@ -25,11 +25,11 @@ is_drawn a b between m = between m || is_chain_end a b m
 abbrev pub drawn_modules : Network → ℕ → ℕ → (ℕ → Bool) → List ℕ
 drawn_modules net a b between = filter (is_drawn a b between) (numbers net)
 
--- the imports of the picture, in order: those whose modules are both between
+-- the imports of the picture, in order: those whose modules are both on a path from a to b
 abbrev pub drawn_imports : Network → (ℕ → Bool) → List Priced
 drawn_imports net between = filter (inside between) net.imports
 
--- the imports that an answer removes: none where no cut can be made
+-- the imports that an answer removes, none for an answer without a cut
 abbrev pub removed_said : Answer → List Priced
 removed_said (answers.Cut cut) = cut.imports.items
 removed_said (answers.Blocked chain) = []
@@ -47,12 +47,12 @@ stays printed i = not (removed_by printed i)
 abbrev pub AreStillReached : Network → ℕ → List Priced → (ℕ → Bool) → Type 0
 AreStillReached net a printed reached = AreThose reached (Chain net.imports (Outside (removed_by printed)) a)
 
--- the text is the picture: the modules on a chain from a to b with a and b, the imports among those on a chain, each once, and their marks
+-- the text is the picture: the modules on paths from a to b with a and b, the imports between those on paths, each once, with their attributes
 pub record IsPicture (net : Network) (a b : ℕ) (printed flow : List Priced) (text : List ℕ) : Type 0 where
-  -- the modules on a chain from a to b
+  -- the modules on paths from a to b
   pub between : ℕ → Bool
   pub are_between : AreThose between (IsBetween net a b)
-  -- those that a still reaches
+  -- the modules that a still reaches
   pub reached : ℕ → Bool
   pub are_reached : AreStillReached net a printed reached
   -- the lines of these modules and imports
@@ -62,7 +62,7 @@ pub record IsPicture (net : Network) (a b : ℕ) (printed flow : List Priced) (t
 abbrev pub is_reported : List Priced → List Priced → Priced → Bool
 is_reported printed flow i = removed_by printed i || nat_lt 0 (flow_by flow i)
 
--- the imports of the network that it removes or gives flow, in order
+-- the imports of the network that the report removes or gives flow, in order
 abbrev pub reported_imports : Network → List Priced → List Priced → List Priced
 reported_imports net printed flow = filter (is_reported printed flow) net.imports
 
@@ -70,30 +70,30 @@ reported_imports net printed flow = filter (is_reported printed flow) net.import
 abbrev pub IsAtEnd : List Priced → ℕ → Type 0
 IsAtEnd imports m = (i : Priced) × Contains imports i × ((i.from ≡ m) ⊎ (i.to ≡ m))
 
--- the text is the picture of these imports of the network, each once: with the modules at their ends, a and b, and their marks
+-- the text is the picture of these imports of the network, each once, with the modules at their ends, a and b, and their attributes
 pub record IsPictureOfImports (net : Network) (a b : ℕ) (printed flow imports : List Priced) (text : List ℕ) : Type 0 where
   -- the modules at the ends of these imports
   pub at_end : ℕ → Bool
   pub are_at_ends : AreThose at_end (IsAtEnd imports)
-  -- those that a still reaches
+  -- the modules that a still reaches
   pub reached : ℕ → Bool
   pub are_reached : AreStillReached net a printed reached
   -- the lines of these modules and imports
   pub text_is : text ≡ picture_text net a b printed flow reached (drawn_modules net a b at_end) imports
 
--- the text is the picture by flow: the imports that are removed or have flow
+-- the text is the picture by flow: that of the imports that are removed or have flow
 abbrev pub IsFlowPicture : Network → ℕ → ℕ → List Priced → List Priced → List ℕ → Type 0
 IsFlowPicture net a b printed flow text = IsPictureOfImports net a b printed flow (reported_imports net printed flow) text
 
 -- ---- a path
 
--- from each module of the path to the next
+-- the edges from each module of the path to the next
 abbrev pub steps : List ℕ → List Edge
 steps [] = []
 steps (m ∷ []) = []
 steps (m ∷ n ∷ more) = record { from = m; to = n } ∷ steps (n ∷ more)
 
--- the import leads as the edge does
+-- the import has the ends of the edge
 abbrev pub has_ends : Priced → Edge → Bool
 has_ends i step = (i.from == step.from) && (i.to == step.to)
 
@@ -101,7 +101,7 @@ has_ends i step = (i.from == step.from) && (i.to == step.to)
 abbrev pub is_step : List ℕ → Priced → Bool
 is_step path i = list_any (has_ends i) (steps path)
 
--- the imports of the network that are steps of the path, in order
+-- the imports of the network that lead from a module of the path to the next, in order
 abbrev pub path_imports : Network → List ℕ → List Priced
 path_imports net path = filter (is_step path) net.imports
 
@@ -109,7 +109,7 @@ path_imports net path = filter (is_step path) net.imports
 abbrev pub IsPathPicture : Network → ℕ → ℕ → List ℕ → List ℕ → Type 0
 IsPathPicture net a b path text = IsPictureOfImports net a b [] [] (path_imports net path) text
 
--- the text is the picture by flow of what is said: of a cut, or of the path of pins that blocks any
+-- the text is the picture by flow of an answer: of a cut, or of the path of pinned imports because of which there is none
 abbrev pub IsPictureByFlow : Network → ℕ → ℕ → Said → List ℕ → Type 0
 IsPictureByFlow net a b (CutOf total printed flow) text = IsFlowPicture net a b printed flow text
 IsPictureByFlow net a b (BlockedBy path) text = IsPathPicture net a b path text

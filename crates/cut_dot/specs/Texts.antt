@@ -13,7 +13,7 @@ abbrev pub end_mark : Bool → List ℕ
 end_mark true = codes " [peripheries=2]"
 end_mark false = []
 
--- a module that is still reached is shaded
+-- a module that is still reached is gray
 abbrev pub reached_mark : Bool → List ℕ
 reached_mark true = codes " [style=filled]"
 reached_mark false = []
@@ -23,7 +23,7 @@ abbrev pub removed_mark : Bool → List ℕ
 removed_mark true = codes " [style=dashed, color=red]"
 removed_mark false = []
 
--- the line of a module: its name between quotation marks, since a bare one might be a keyword, and its marks
+-- the line of a module: its name between quotation marks, since it might be a keyword of DOT, and its attributes
 abbrev pub module_line : List ℕ → Bool → Bool → List ℕ
 module_line name end reached = codes "  \"" ++ name ++ codes "\"" ++ end_mark end ++ reached_mark reached ++ codes ";\n"
 
@@ -31,7 +31,7 @@ module_line name end reached = codes "  \"" ++ name ++ codes "\"" ++ end_mark en
 abbrev pub ends_text : List ℕ → List ℕ → List ℕ
 ends_text from to = codes "  \"" ++ from ++ codes "\" -> \"" ++ to ++ codes "\""
 
--- its flow, its weight, and its mark
+-- the label of an import, its flow and weight, and its attributes
 abbrev pub label_text : ℕ → ℕ → Bool → List ℕ
 label_text flow weight removed = codes " [label=\"" ++ decimal flow ++ codes "/" ++ decimal weight ++ codes "\"]" ++ removed_mark removed ++ codes ";\n"
 
@@ -47,11 +47,11 @@ import_line from to flow weight removed pinned = ends_text from to ++ (if pinned
 abbrev pub line_of_module : Network → ℕ → ℕ → (ℕ → Bool) → ℕ → List ℕ
 line_of_module net a b reached m = module_line (name_of net m) (is_chain_end a b m) (reached m)
 
--- the line of this import, by the lines of the removed imports and of the flow, and by whether it is pinned
+-- the line of this import, given the removed imports, the flow, and whether the import is pinned
 abbrev pub line_of_import : Network → List Priced → List Priced → Priced → List ℕ
 line_of_import net printed flow i = import_line (name_of net i.from) (name_of net i.to) (flow_by flow i) i.amount (removed_by printed i) (is_pinned net i)
 
--- what begins the graph: it goes from left to right, and its label is the legend
+-- the beginning of the graph: it goes from left to right, and its label is the legend
 abbrev pub head_text : List ℕ
 head_text = codes "digraph cut {\n  rankdir=LR;\n  label=\"flow/weight; red: removed; bold: pinned; gray: still reached; double border: the two ends\";\n"
 

@@ -1,4 +1,4 @@
-//! Putting a picture.
+//! Writing a picture.
 ghost use Rattle.std.specs.Prelude.{◌≡◌, ◌<◌, [], length};
 ghost use Rattle.byte_sink.specs.Sinks.{failures_after};
 ghost use Rattle.cut_net.specs.Answers.{said_by};
@@ -16,7 +16,7 @@ use cut_net::{Answer, Cut, Net, Priced};
 use cut_part::between;
 use std::alloc::Global;
 
-/// Puts the picture of a cut.
+/// Writes the picture of a cut.
 fn draw_cut<S: Sink>(
     alloc: Global,
     net: &Net,
@@ -51,7 +51,7 @@ fn draw_cut<S: Sink>(
     )
 }
 
-/// Writes the picture of these imports of the network: with the modules at their ends, A and B.
+/// Writes the picture of these imports of the network, with the modules at their ends, A and B.
 fn draw_imports<S: Sink>(
     alloc: Global,
     net: &Net,
@@ -98,7 +98,7 @@ fn draw_flow_of_cut<S: Sink>(
     draw_imports(alloc, net, ends, cut, &imports, sink)
 }
 
-/// What is said where no cut can be made: nothing is removed, and nothing flows.
+/// The cut of an answer without a cut: nothing is removed, and nothing flows.
 fn nothing(alloc: Global) -> Cut
     ensures removed { result.imports.items ≡ [] }
     ensures flow { result.flow.items ≡ [] }
@@ -110,7 +110,7 @@ fn nothing(alloc: Global) -> Cut
     }
 }
 
-/// Writes the picture of a path of pins.
+/// Writes the picture of a path of pinned imports.
 fn draw_path<S: Sink>(
     alloc: Global,
     net: &Net,
@@ -129,14 +129,13 @@ fn draw_path<S: Sink>(
     draw_imports(alloc, net, ends, &nothing(alloc), &imports, sink)
 }
 
-/// Puts the picture of what is said of two modules of a network, A and B, given by their numbers, as a graph in DOT: the
-/// modules on a chain of imports from A to B and all imports between these, in the order of the network, each once. A and B
-/// have a double border, and stand there also where no chain leads from A to B; then there is no import. The modules that A
-/// still reaches where the removed imports of a cut are gone are shaded, A among them. A removed import is dashed and red.
-/// An import's label is its flow by the cut, a slash, and its weight in the network; a pinned one has the word pin in place of
-/// a weight, and is bold. Where no cut can be made, nothing is removed and nothing flows. Both lists of a cut ascend; what they
-/// say isn't checked, and a line of an import that isn't drawn is drawn nowhere.
-/// Refuses with `Device` and `Memory`; the sink has then taken a front of the text.
+/// Writes the picture of an answer for two modules of a network, A and B, which are given by their numbers, as a graph in DOT.
+/// It has the modules on paths from A to B, and all imports between these, in the order of the network, each once.
+/// A and B have a double border, and are there even if no path leads from A to B; then there is no import.
+/// The modules that A reaches without the removed imports are gray, A among them. A removed import is dashed and red.
+/// An import's label is its flow, a slash, and its weight in the network. A pinned import is bold, and has `pin` instead of a weight.
+/// Without a cut nothing is removed and nothing flows. The answer isn't verified: a line of an import that isn't drawn has no effect.
+/// Fails with `Device` or `Memory`; the sink then has a prefix of the text.
 pub fn draw<S: Sink>(
     alloc: Global,
     net: &Net,
@@ -145,13 +144,17 @@ pub fn draw<S: Sink>(
     answer: &Answer,
     sink: &mut S,
 ) -> Result<(), SinkFault>
+    // `from` is a module.
     requires from { from < length net.now.names }
+    // `to` is a module.
     requires to { to < length net.now.names }
+    // The imports to remove are strictly sorted.
     requires removed { IsAscending (removed_said answer.now) }
+    // The imports with flow are strictly sorted.
     requires flow { IsAscending (flow_said answer.now) }
-    // All of the picture at Ok, and a front of it after a refusal.
+    // With `Ok` the sink took the whole picture, otherwise a prefix of it.
     ensures run { IsDrawing net.now from to (removed_said answer.now) (flow_said answer.now) (S.taken sink.old) (S.taken sink.new) result }
-    // Device is answered where the sink counted a failure, and nowhere else.
+    // The sink counts a failure if and only if the result is `Device`.
     ensures failures { S.failures sink.new ≡ failures_after result (S.failures sink.old) }
 {
     match answer {
@@ -160,10 +163,10 @@ pub fn draw<S: Sink>(
     }
 }
 
-/// Writes the picture of what is said of two modules by its flow. It is as that of `draw`, but the imports drawn are exactly those of
-/// the network that the cut removes or gives flow, wherever they lead; or, if no cut can be made, those of the path of pins, each from a
-/// module of the path to the next. The modules drawn are those at their ends, with A and B.
-/// Fails with `Device` and `Memory`; the sink has then taken a prefix of the text.
+/// Writes the picture of an answer for two modules by its flow. It differs from that of `draw` in its imports and modules.
+/// The imports are exactly those of the network that the cut removes or gives flow, wherever they lead.
+/// Without a cut they are those of the path of pinned imports, each from a module of the path to the next.
+/// The modules are those at the ends of the imports, with A and B. Fails with `Device` or `Memory`; the sink then has a prefix of the text.
 pub fn draw_flow<S: Sink>(
     alloc: Global,
     net: &Net,
@@ -172,13 +175,17 @@ pub fn draw_flow<S: Sink>(
     answer: &Answer,
     sink: &mut S,
 ) -> Result<(), SinkFault>
+    // `from` is a module.
     requires from { from < length net.now.names }
+    // `to` is a module.
     requires to { to < length net.now.names }
+    // The imports to remove are strictly sorted.
     requires removed { IsAscending (removed_said answer.now) }
+    // The imports with flow are strictly sorted.
     requires flow { IsAscending (flow_said answer.now) }
-    // All of the picture by flow at Ok, and a prefix of it after an error.
+    // With `Ok` the sink took the whole picture by flow, otherwise a prefix of it.
     ensures run { IsFlowDrawing net.now from to (said_by answer.now) (S.taken sink.old) (S.taken sink.new) result }
-    // Device is answered where the sink counted a failure, and nowhere else.
+    // The sink counts a failure if and only if the result is `Device`.
     ensures failures { S.failures sink.new ≡ failures_after result (S.failures sink.old) }
 {
     match answer {

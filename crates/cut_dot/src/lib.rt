@@ -1,6 +1,7 @@
 //! Pictures of cuts, in the language DOT of Graphviz.
-//! Stands on `byte_sink`, `text_pieces`, `cut_net`, on `cut_part` and `cut_residual` for the modules between two others and for what is still reached, on `digraph` for the steps of a path, and on lemmas of `texts`.
-//! Its contract: a sink takes exactly the text of the picture, or a front of it; where no chain leads, the picture has the two modules alone.
+//! Depends on `cut_part` for the modules between two others, `cut_residual` for what is still reached, `digraph` for the steps of a path,
+//! `cut_net` for networks, `byte_sink` and `text_pieces` for output, and lemmas of `texts`.
+//! The main calls are `draw` and `draw_flow`. They promise that the sink takes exactly the text of the picture, or a prefix of it.
 #![tactic(auto)]
 
 mod drawing;

@@ -1,4 +1,4 @@
-//! What lists of lines say of an import.
+//! The lines of an answer about one import.
 ghost use Rattle.std.specs.Prelude.{◌≡◌};
 ghost use Rattle.cut_net.specs.Lines.{flow_by, removed_by, IsAscending};
 ghost use Rattle.cut_net.specs.Pins.{is_pinned};
@@ -13,7 +13,7 @@ pub(crate) fn is_pinned(net: &Net, import: Priced) -> bool
     line_of(net.pins(), import).is_some()
 }
 
-/// Whether the import has a line among those of removed imports.
+/// Whether the list of removed imports has the import.
 pub(crate) fn is_removed(removed: &[Priced], import: Priced) -> bool
     requires { IsAscending removed.now }
     ensures { result ≡ removed_by removed.now import }
@@ -21,7 +21,7 @@ pub(crate) fn is_removed(removed: &[Priced], import: Priced) -> bool
     line_of(removed, import).is_some()
 }
 
-/// The flow of the import, and 0 where it has no line.
+/// The flow of the import, 0 if it has no line.
 pub(crate) fn flow_on(flow: &[Priced], import: Priced) -> u64
     requires { IsAscending flow.now }
     ensures { result ≡ flow_by flow.now import }

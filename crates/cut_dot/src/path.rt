@@ -10,7 +10,7 @@ use cut_net::{Priced, line_of};
 use digraph::{Edge, put_in_order};
 use std::alloc::{AllocError, Global};
 
-/// The steps of a path, in order and each once: from a module to the next.
+/// The steps of a path from each module to the next, sorted, each once.
 fn steps_of(alloc: Global, path: &[u32]) -> Result<Vec<Edge>, AllocError>
     ensures ascending { IfOk result (λ found. AreEdgesAscending found.items) }
     ensures same { IfOk result (λ found. (p : GraphEdge) → Contains found.items p ↔ Contains (steps path.now) p) }

@@ -1,4 +1,4 @@
-//! The modules that are still reached where imports are removed.
+//! The modules that are still reached without the removed imports.
 ghost use Rattle.std.specs.Prelude.{◌≡◌, ◌<◌, IfOk, filter, length, map};
 ghost use Rattle.cut_net.specs.Cuts.{AreThose, Chain, Outside};
 ghost use Rattle.cut_net.specs.Lines.{removed_by, IsAscending};
@@ -38,7 +38,7 @@ fn arcs_of(alloc: Global, imports: &[Priced], removed: &[Priced]) -> Result<Vec<
     Ok(arcs)
 }
 
-/// Marks the modules to which a chain leads from the start by imports that aren't removed.
+/// Flags the modules to which a path leads from the start by imports that aren't removed.
 pub(crate) fn reached_from(
     alloc: Global,
     net: &Net,

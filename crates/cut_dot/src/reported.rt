@@ -19,7 +19,7 @@ fn is_reported(removed: &[Priced], flow: &[Priced], import: Priced) -> bool
     is_removed(removed, import) || flow_on(flow, import) > 0
 }
 
-/// The imports that the report removes or gives flow, in order. Each is looked up in the report's lists by halving.
+/// The imports that the report removes or gives flow, in order. Each is looked up in the report's lists by binary search.
 pub(crate) fn reported_among(
     alloc: Global,
     imports: &[Priced],
@@ -39,7 +39,7 @@ pub(crate) fn reported_among(
     Ok(reported)
 }
 
-/// Marks the modules at the ends of the imports.
+/// Flags the modules at the ends of the imports.
 pub(crate) fn marked_ends(
     alloc: Global,
     imports: &[Priced],

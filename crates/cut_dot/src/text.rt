@@ -18,28 +18,28 @@ use cut_net::{Cut, Net, Priced};
 use std::alloc::{AllocError, Global};
 use text_pieces::put_enough;
 
-/// What begins the graph: it goes from left to right, and its label is the legend.
+/// The beginning of the graph: it goes from left to right, and its label is the legend.
 fn head_text() -> &'static str
     ensures { result.now ≡ head_text }
 {
     "digraph cut {\n  rankdir=LR;\n  label=\"flow/weight; red: removed; bold: pinned; gray: still reached; double border: the two ends\";\n"
 }
 
-/// What the line of A or B has behind the name.
+/// The end of the line of A or B.
 fn end_mark(is_chain_end: bool) -> &'static str
     ensures { result.now ≡ end_mark is_chain_end }
 {
     if is_chain_end { " [peripheries=2]" } else { "" }
 }
 
-/// What the line of a module that is still reached has behind the name.
+/// The end of the line of a module that is still reached.
 fn reached_mark(is_reached: bool) -> &'static str
     ensures { result.now ≡ reached_mark is_reached }
 {
     if is_reached { " [style=filled]" } else { "" }
 }
 
-/// What the line of a removed import has behind the label.
+/// The attributes of a removed import.
 fn removed_mark(is_removed: bool) -> &'static str
     ensures { result.now ≡ removed_mark is_removed }
 {
@@ -50,7 +50,7 @@ fn removed_mark(is_removed: bool) -> &'static str
     }
 }
 
-/// Puts the line of a module behind the text.
+/// Appends the line of a module to the text.
 fn push_module(
     text: &mut String,
     name: &str,
@@ -64,14 +64,14 @@ fn push_module(
     writeln!(text, "  \"{name}\"{end}{reached};")
 }
 
-/// Puts the two names of an import behind the text.
+/// Appends the two names of an import to the text.
 fn push_ends(text: &mut String, from: &str, to: &str) -> Result<(), AllocError>
     ensures { OnOk result (string_bytes text.new ≡ string_bytes text.old ++ ends_text from.now to.now) }
 {
     write!(text, "  \"{from}\" -> \"{to}\"")
 }
 
-/// Puts the label of an import behind the text, the mark of a removed one, and the end of the line.
+/// Appends the label of an import, the attributes of a removed one, and the end of the line to the text.
 fn push_label(text: &mut String, flow: u64, weight: u64, is_removed: bool) -> Result<(), AllocError>
     ensures { OnOk result (string_bytes text.new ≡ string_bytes text.old ++ label_text flow weight is_removed) }
 {
@@ -79,7 +79,7 @@ fn push_label(text: &mut String, flow: u64, weight: u64, is_removed: bool) -> Re
     writeln!(text, " [label=\"{flow}/{weight}\"]{removed};")
 }
 
-/// Puts the label of a pinned import behind the text, its mark, the mark of a removed one, and the end of the line.
+/// Appends the label of a pinned import, its attributes, those of a removed one, and the end of the line to the text.
 fn push_pin(text: &mut String, flow: u64, is_removed: bool) -> Result<(), AllocError>
     ensures { OnOk result (string_bytes text.new ≡ string_bytes text.old ++ pin_text flow is_removed) }
 {
@@ -94,7 +94,7 @@ fn is_chain_end(from: u32, to: u32, node: u32) -> bool
     (node == from) | (node == to)
 }
 
-/// Gathers the line of a module, where it is marked or an end.
+/// Appends the line of a module, if it is flagged, or is A or B, and writes the text if it is long.
 fn push_drawn<S: Sink>(
     text: &mut String,
     net: &Net,
@@ -125,7 +125,7 @@ fn push_drawn<S: Sink>(
     Ok(())
 }
 
-/// Gathers the lines of the modules: of those that are marked, and of the two ends.
+/// Appends the lines of the modules that are flagged, and of A and B.
 fn push_modules<S: Sink>(
     text: &mut String,
     net: &Net,
@@ -150,7 +150,7 @@ fn push_modules<S: Sink>(
     Ok(())
 }
 
-/// Puts the line of an import behind the text.
+/// Appends the line of an import to the text.
 fn push_import(
     text: &mut String,
     net: &Net,
@@ -175,7 +175,7 @@ fn push_import(
     }
 }
 
-/// Gathers the line of an import, where both its modules are marked.
+/// Appends the line of an import, if both its modules are flagged, and writes the text if it is long.
 fn push_inside<S: Sink>(
     text: &mut String,
     net: &Net,
@@ -206,7 +206,7 @@ fn push_inside<S: Sink>(
     Ok(())
 }
 
-/// Gathers the lines of the imports: of those whose modules are both marked.
+/// Appends the lines of the imports whose modules are both flagged.
 fn push_imports<S: Sink>(
     text: &mut String,
     net: &Net,
@@ -233,7 +233,7 @@ fn push_imports<S: Sink>(
     Ok(())
 }
 
-/// Puts the text of the picture of the marked modules and of the imports between them, piece by piece.
+/// Writes the text of the picture of the flagged modules and of the imports between them, in pieces.
 pub(crate) fn put_text<S: Sink>(
     alloc: Global,
     net: &Net,

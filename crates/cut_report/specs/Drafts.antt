@@ -1,4 +1,4 @@
--- A report that is read line by line: what the private functions of the reader give. The reader's own clause is in the words of report lines.
+-- The builder of a report, for contracts of private functions. The contract of `read` is in terms of report lines.
 use Rattle.std.specs.Prelude.{◌≡◌, ℕ, ◌+◌, Bool, true, List, [], ◌∷◌, ◌++◌, Option, Some, None, Result, Ok, Err, if◌then◌else◌}
 use Rattle.std.specs.Option.{ok_or}
 use Rattle.cut_net.specs.declared.priced.Priced.{Priced}
@@ -22,7 +22,7 @@ abbrev pub ◌>>=◌ : {A B E : Type 0} → Result A E → (A → Result B E) �
 (Ok x) >>= f = f x
 (Err e) >>= f = Err e
 
--- a cut as far as it is read
+-- a cut whose lines are read in part
 pub record ClaimedPart : Type 0 where
   pub from : ℕ
   pub to : ℕ
@@ -33,11 +33,11 @@ pub record ClaimedPart : Type 0 where
 abbrev pub entry_of_part : ClaimedPart → ReportClaim
 entry_of_part p = record { from = p.from; to = p.to; said = CutOf p.weight p.printed p.flow }
 
--- a chain of pins between two modules
+-- a path of pinned imports between two modules
 abbrev pub blocked_entry : ℕ → ℕ → List ℕ → ReportClaim
 blocked_entry a b chain = record { from = a; to = b; said = BlockedBy chain }
 
--- what is read so far: nothing, the first line, more lines of a cut, a chain of pins, all lines
+-- the lines read so far: none, the first, more lines of a cut, a path of pinned imports, or all
 pub data ReadSoFar : Type 0 where
   Start : ReadSoFar
   Named : ℕ → ℕ → ReadSoFar
@@ -55,7 +55,7 @@ read_so_far_of (drafts.Open a b cut) = Open (claimed_part a b cut)
 read_so_far_of (drafts.Shut a b chain) = Shut a b chain.items
 read_so_far_of (drafts.Ended r) = Ended (entry_of r)
 
--- the last of the imports, or what stood before them
+-- the last of the imports, or the given one if there are none
 abbrev pub last_import : Option Priced → List Priced → Option Priced
 last_import last [] = last
 last_import last (p ∷ ps) = last_import (Some p) ps
@@ -64,7 +64,7 @@ abbrev pub is_after : Option Priced → Priced → Bool
 is_after None next = true
 is_after (Some last) next = comes_before last next
 
--- the modules of two names; the first that is unknown is the fault
+-- the modules of two names; the error is the first unknown name
 unfoldable pub ends_named : Network → List ℕ → List ℕ → Result (ℕ × ℕ) ReportLineFault
 ends_named net m n = do
   x ← ok_or (index_of net m) faults.UnknownName
@@ -105,7 +105,7 @@ opened_by net a b (Flows m n f) = Err faults.BadLine
 opened_by net a b (Blocks names) = chain_of net names >>= λ chain. Ok (Shut a b chain)
 opened_by net a b Last = Err faults.BadLine
 
--- with one more import to be removed, if no flow is there yet
+-- the cut with one more import to remove, if it has no flow yet
 abbrev pub with_removed : Network → ClaimedPart → List Priced → List ℕ → List ℕ → ℕ → Result ReadSoFar ReportLineFault
 with_removed net p [] m n w = import_of net (last_import None p.printed) m n w >>= λ next. Ok (Open (record p { printed = p.printed ++ next ∷ [] }))
 with_removed net p (_ ∷ _) m n w = Err faults.BadLine
@@ -133,11 +133,11 @@ step net (Open p) line = going_on net p line
 step net (Shut a b chain) line = shut_by a b chain line
 step net (Ended e) line = Err faults.BadLine
 
--- with the line of this text
+-- the lines with the line of these bytes added
 unfoldable pub text_step : Network → ReadSoFar → List ℕ → Result ReadSoFar ReportLineFault
 text_step net standing text = ok_or (line_of_text text) faults.BadLine >>= λ line. step net standing line
 
--- what the bytes after the last line end make of it, after this many lines
+-- the report after this many lines, if only these bytes follow the last LF
 abbrev pub finish_of : ReadSoFar → ℕ → List ℕ → Result ReportClaim ReportFault
 finish_of Start before rest = Err report_faults.NoEnd
 finish_of (Named a b) before rest = Err report_faults.NoEnd
@@ -146,26 +146,26 @@ finish_of (Shut a b chain) before rest = Err report_faults.NoEnd
 finish_of (Ended e) before [] = Ok e
 finish_of (Ended e) before (_ ∷ _) = Err (report_faults.BadLine (before + 1))
 
--- the fault of a report whose line of this number has this fault
+-- the error of a report, given the error of its line with this number
 abbrev pub report_fault_in_line : ℕ → ReportLineFault → ReportFault
 report_fault_in_line line faults.BadLine = report_faults.BadLine line
 report_fault_in_line line faults.UnknownName = report_faults.UnknownName line
 report_fault_in_line line faults.Order = report_faults.Order line
 report_fault_in_line line faults.Memory = report_faults.Memory
 
--- what is read of a line ends with this fault; where it is want of memory nothing is said
+-- reading a line fails with this error, unless an allocation failed
 abbrev pub IsLineFault : {Y : Type 0} → ReportLineFault → Result Y ReportLineFault → Type 0
 IsLineFault faults.BadLine read = read ≡ Err faults.BadLine
 IsLineFault faults.UnknownName read = read ≡ Err faults.UnknownName
 IsLineFault faults.Order read = read ≡ Err faults.Order
 IsLineFault faults.Memory read = Unit {0}
 
--- what was answered, seen by view, is what is read of a line, unless memory ran out
+-- the result, seen by the view, is that of reading a line, unless an allocation failed
 abbrev pub IsReadAs : {X Y : Type 0} → (X → Y) → Result X ReportLineFault → Result Y ReportLineFault → Type 0
 IsReadAs view (Ok x) read = read ≡ Ok (view x)
 IsReadAs view (Err fault) read = IsLineFault fault read
 
--- the same of the line of this number, which its fault tells
+-- the result, seen by the view, is that of reading the line of this number, unless an allocation failed
 abbrev pub IsReadAtLine : {X Y : Type 0} → ℕ → (X → Y) → Result X ReportFault → Result Y ReportLineFault → Type 0
 IsReadAtLine line view (Ok x) read = read ≡ Ok (view x)
 IsReadAtLine line view (Err fault) read = (e : ReportLineFault) × (fault ≡ report_fault_in_line line e) × IsLineFault e read

@@ -1,11 +1,11 @@
--- The faults of reports: what is said unless memory ran out, and those that come from a sink.
+-- Errors of reports: properties that hold unless an allocation failed, and errors of a sink.
 use Rattle.std.specs.Prelude.{Bool, true, false, Result, Ok, Err}
 use Rattle.byte_sink.specs.declared.sink.SinkFault.{SinkFault}
 use Rattle.byte_sink.specs.declared.sink.SinkFault.TheVariants as sink_faults
 use Rattle.cut_report.specs.declared.fault.ReportFault.{ReportFault}
 use Rattle.cut_report.specs.declared.fault.ReportFault.TheVariants as faults
 
--- the fact holds, but where the fault is want of memory nothing is said
+-- the property holds, unless the error is a failed allocation
 abbrev pub UnlessMemory : ReportFault → Type 0 → Type 0
 UnlessMemory (faults.BadLine line) P = P
 UnlessMemory (faults.UnknownName line) P = P
@@ -14,12 +14,12 @@ UnlessMemory faults.NoEnd P = P
 UnlessMemory faults.Device P = P
 UnlessMemory faults.Memory P = Unit {0}
 
--- what was answered, seen by view, is such an outcome, unless memory ran out
+-- the result, seen by the view, has the property, unless an allocation failed
 abbrev pub Tells : {X Y : Type 0} → (X → Y) → Result X ReportFault → (Result Y ReportFault → Type 0) → Type 0
 Tells view (Ok x) IsOutcome = IsOutcome (Ok (view x))
 Tells view (Err fault) IsOutcome = UnlessMemory fault (IsOutcome (Err fault))
 
--- the fault of a sink, as one of a report
+-- the error of a sink as one of a report
 abbrev pub fault_of_sink : SinkFault → ReportFault
 fault_of_sink sink_faults.Memory = faults.Memory
 fault_of_sink sink_faults.Device = faults.Device
@@ -33,7 +33,7 @@ is_failure faults.NoEnd = false
 is_failure faults.Device = true
 is_failure faults.Memory = false
 
--- after the fault a sink may have taken a front of a text
+-- the error is one of a sink, which may have taken a prefix of a text
 abbrev pub is_of_sink : ReportFault → Bool
 is_of_sink (faults.BadLine line) = false
 is_of_sink (faults.UnknownName line) = false

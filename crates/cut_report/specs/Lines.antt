@@ -1,4 +1,4 @@
--- A line of a report, read field by field: what the private functions of the reader give.
+-- A line of a report, parsed field by field, for contracts of private functions.
 use Rattle.std.specs.Prelude.{ℕ, ◌≡◌, ◌==◌, ◌&&◌, nat_lt, List, ◌∷◌, ◌++◌, codes, Option, Some, None, if◌then◌else◌}
 use Rattle.std.specs.List.{list_all, slice_split}
 use Rattle.std.specs.Str.{bytes_eq}
@@ -7,15 +7,15 @@ use Rattle.cut_report.specs.ReportLine.{ReportLine, Ends, Weighs, Removes, Flows
 use Rattle.cut_report.specs.declared.line.Line.{Line}
 use Rattle.cut_report.specs.declared.line.Line.TheVariants as lines
 
--- what stands between blanks
+-- the words between spaces
 abbrev pub words_of : List ℕ → List (List ℕ)
 words_of bytes = slice_split (λ b. b == 32) bytes
 
--- a word behind the text of this many words
+-- the text of this number of words with one more word
 abbrev pub with_next : List ℕ → ℕ → List ℕ → List ℕ
 with_next text count word = if count == 0 then text ++ word else text ++ 32 ∷ word
 
--- what the line says, without where its names lie
+-- the content of a line, with names as byte lists
 abbrev pub line_seen : Line → ReportLine
 line_seen (lines.Ends m n) = Ends m.now n.now
 line_seen (lines.Weighs w) = Weighs w
@@ -47,7 +47,7 @@ amount_of fields = do
   amount ← number_of second.1
   Some (from, to, amount)
 
--- an import and what it carries, after its word
+-- an import with its amount, after the keyword
 abbrev pub import_under : List ℕ → List ℕ × List ℕ × ℕ → Option ReportLine
 import_under word x =
     if bytes_eq word (codes "remove") then Some (Removes x.0 x.1 x.2)
@@ -57,7 +57,7 @@ import_under word x =
 unfoldable pub blocks_of : List ℕ → Option ReportLine
 blocks_of fields = if list_all is_name (words_of fields) then Some (Blocks (words_of fields)) else None
 
--- the line of these fields after its word
+-- the line of a keyword and these fields
 unfoldable pub line_under : List ℕ → List ℕ → Option ReportLine
 line_under word fields =
     if bytes_eq word (codes "cut") then (ends_of fields >>= λ x. Some (Ends x.0 x.1))
@@ -65,10 +65,10 @@ line_under word fields =
     else (if bytes_eq word (codes "blocked") then blocks_of fields
     else (amount_of fields >>= import_under word)))
 
--- the line of this text
+-- the line of these bytes
 unfoldable pub line_of_text : List ℕ → Option ReportLine
 line_of_text text = if bytes_eq text (codes "end") then Some Last else (cut_at 32 text >>= λ parts. line_under parts.0 parts.1)
 
--- the text begins with a line, which says this, if anything, and goes on behind its end
+-- the bytes begin with a line, which has this content if any, and the rest follows its LF
 abbrev pub IsFirstLine : List ℕ → Option ReportLine → List ℕ → Type 0
 IsFirstLine text said rest = (line : List ℕ) × (cut_at 10 text ≡ Some (line, rest)) × (line_of_text line ≡ said)

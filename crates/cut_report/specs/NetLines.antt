@@ -1,4 +1,4 @@
--- The text of a network, and that of a chain of imports: each line is one that the text of a network may have.
+-- The text of a network, and of a path of imports. Each line is one that the text of a network may have.
 use Rattle.std.specs.Prelude.{ℕ, List, ◌++◌, map, drop, find, unwrap_or}
 use Rattle.std.specs.List.{flat_map, zip}
 use Rattle.digraph.specs.ShortestPaths.{AreChain}
@@ -11,16 +11,16 @@ use Rattle.cut_net.specs.Network.{Network}
 use Rattle.cut_report.specs.declared.net_writer.NetLine as declared
 use Rattle.cut_report.specs.declared.net_writer.NetLine.TheVariants as lines
 
--- what a line says, without where its names lie
+-- the content of a line, with names as byte lists
 abbrev pub net_line_seen : declared.NetLine → NetLine
 net_line_seen (lines.Module m) = Module m.now
 net_line_seen (lines.Import m n w) = Import m.now n.now w
 
--- a line with its end
+-- a line with its LF
 abbrev pub ended_line : NetLine → List ℕ
 ended_line line = ended (net_line line)
 
--- the bytes of the lines, each with its end
+-- the bytes of the lines, each with its LF
 abbrev pub ended_lines : List NetLine → List ℕ
 ended_lines lines = flat_map ended_line lines
 
@@ -28,23 +28,23 @@ ended_lines lines = flat_map ended_line lines
 abbrev pub net_lines : Network → List NetLine
 net_lines net = map Module net.names ++ map (import_line net.names) net.imports
 
--- the text that is put of a network in which nothing is pinned
+-- the text of a network without pins
 abbrev pub net_text : Network → List ℕ
 net_text net = ended_lines (net_lines net)
 
--- an import between two modules that costs nothing
+-- an import of weight 0 between two modules
 abbrev pub free_import : ℕ → ℕ → Priced
 free_import m n = record { from = m; to = n; amount = 0 }
 
--- the import between two modules, as the network has it, or one that costs nothing where it has none
+-- the import of the network between two modules, or one of weight 0 if there is none
 abbrev pub import_between : Network → ℕ → ℕ → Priced
 import_between net m n = unwrap_or (find (same_ends (free_import m n)) net.imports) (free_import m n)
 
--- the import between each two neighbours of a list of modules
+-- the imports between each two consecutive modules of a list
 abbrev pub imports_along : Network → List ℕ → List Priced
 imports_along net modules = map (λ ends. import_between net ends.0 ends.1) (zip modules (drop 1 modules))
 
--- the lines of these imports
+-- the lines of the imports along a list of modules
 abbrev pub chain_text : Network → List ℕ → List ℕ
 chain_text net modules = ended_lines (map (import_line net.names) (imports_along net modules))
 

@@ -2,7 +2,7 @@
 use Rattle.std.specs.Prelude.{ℕ}
 use Rattle.cut_net.specs.Said.{Said}
 
--- a report: the numbers of the two modules, and what is said of them
+-- a report: the numbers of the two modules, and the answer for them
 pub record ReportClaim : Type 0 where
   pub from : ℕ
   pub to : ℕ

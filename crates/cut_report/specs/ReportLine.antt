@@ -1,4 +1,4 @@
--- The lines of a report, and how each is spelled.
+-- The lines of a report, and their bytes.
 use Rattle.std.specs.Prelude.{ℕ, List, [], ◌∷◌, ◌++◌, map, codes}
 use Rattle.std.specs.List.{flat_map}
 use Rattle.std.specs.Fmt.{decimal}
@@ -8,8 +8,8 @@ use Rattle.cut_net.specs.Network.{Network, name_of}
 use Rattle.cut_net.specs.Said.{Said, CutOf, BlockedBy}
 use Rattle.cut_report.specs.ReportClaim.{ReportClaim}
 
--- what a line says: the two modules, the weight, an import to be removed with its weight, one with its flow, the names of a chain of pins,
--- the end
+-- the content of a line: the two modules, the weight, an import to remove with its weight, an import with its flow, the names of a path of
+-- pinned imports, or the end
 pub data ReportLine : Type 0 where
   Ends : List ℕ → List ℕ → ReportLine
   Weighs : ℕ → ReportLine
@@ -18,7 +18,7 @@ pub data ReportLine : Type 0 where
   Blocks : List (List ℕ) → ReportLine
   Last : ReportLine
 
--- how it is spelled
+-- the bytes of a line, without its LF
 abbrev pub report_line : ReportLine → List ℕ
 report_line (Ends m n) = line_of (codes "cut" ∷ m ∷ n ∷ [])
 report_line (Weighs w) = line_of (codes "weight" ∷ decimal w ∷ [])
@@ -27,15 +27,15 @@ report_line (Flows m n f) = line_of (codes "flow" ∷ m ∷ n ∷ decimal f ∷ 
 report_line (Blocks names) = line_of (codes "blocked" ∷ names)
 report_line Last = codes "end"
 
--- the bytes of the lines, each with its end
+-- the bytes of the lines, each with its LF
 abbrev pub written : List ReportLine → List ℕ
 written lines = flat_map (λ line. ended (report_line line)) lines
 
--- the line of an import to be removed
+-- the line of an import to remove
 abbrev pub removes : Network → Priced → ReportLine
 removes net line = Removes (name_of net line.from) (name_of net line.to) line.amount
 
--- the line of an import that carries flow
+-- the line of an import with flow
 abbrev pub flows : Network → Priced → ReportLine
 flows net line = Flows (name_of net line.from) (name_of net line.to) line.amount
 
@@ -44,7 +44,7 @@ abbrev pub said_lines : Network → Said → List ReportLine
 said_lines net (CutOf total printed flow) = Weighs total ∷ (map (removes net) printed ++ map (flows net) flow)
 said_lines net (BlockedBy chain) = Blocks (map (name_of net) chain) ∷ []
 
--- the lines before the last
+-- all lines but the last
 abbrev pub front_lines : Network → ReportClaim → List ReportLine
 front_lines net entry = Ends (name_of net entry.from) (name_of net entry.to) ∷ said_lines net entry.said
 

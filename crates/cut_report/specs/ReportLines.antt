@@ -1,4 +1,4 @@
--- Which lines of a report may stand where, and the first fault of a text that is none. Lines are numbered from 1.
+-- Which line of a report may follow which, and the first error of a text that is no report. Lines are numbered from 1.
 use Rattle.std.specs.Prelude.{◌≡◌, ◌≢◌, ◌⊎◌, ℕ, ◌+◌, ◌<◌, ◌^◌, ◌==◌, ◌&&◌, ◌||◌, Bool, true, false, List, [], ◌∷◌, ◌++◌, length, Option, Some, None, Result, Ok, Err, All, Contains}
 use Rattle.std.specs.List.{list_all, list_any}
 use Rattle.std.specs.Str.{bytes_eq}
@@ -12,7 +12,7 @@ use Rattle.cut_report.specs.ReportText.{ReportText}
 use Rattle.cut_report.specs.declared.fault.ReportFault.{ReportFault}
 use Rattle.cut_report.specs.declared.fault.ReportFault.TheVariants as faults
 
--- names are names, numbers fit 64 bits, no flow is 0, and no chain is empty
+-- names are identifiers, numbers fit 64 bits, no flow is 0, and no path is empty
 abbrev pub HasForm : ReportLine → Type 0
 HasForm (Ends m n) = (is_name m ≡ true) × (is_name n ≡ true)
 HasForm (Weighs w) = w < 2 ^ 64
@@ -21,8 +21,8 @@ HasForm (Flows m n f) = (is_name m ≡ true) × (is_name n ≡ true) × (f < 2 ^
 HasForm (Blocks names) = (0 < length names) × (list_all is_name names ≡ true)
 HasForm Last = Unit {0}
 
--- which kinds of line may follow which: the two modules, the weight, remove lines, flow lines, the end; or the two modules, a chain of pins,
--- the end
+-- which kinds of line may follow which: the two modules, the weight, `remove` lines, `flow` lines, the end;
+-- or the two modules, a path of pinned imports, the end
 abbrev pub may_follow : Option ReportLine → ReportLine → Bool
 may_follow None (Ends _ _) = true
 may_follow None (Weighs _) = false
@@ -84,7 +84,7 @@ HasKnownNames net Last = Unit {0}
 abbrev pub pair_is_before : List ℕ → List ℕ → List ℕ → List ℕ → Bool
 pair_is_before k l m n = is_lt (slice_cmp nat_cmp k m) || (bytes_eq k m && is_lt (slice_cmp nat_cmp l n))
 
--- the names come after those of the line before, if that is a remove line
+-- the names come after those of the previous line, if that is a `remove` line
 abbrev pub is_above_removed : Option ReportLine → List ℕ → List ℕ → Bool
 is_above_removed None m n = true
 is_above_removed (Some (Ends _ _)) m n = true
@@ -94,7 +94,7 @@ is_above_removed (Some (Flows _ _ _)) m n = true
 is_above_removed (Some (Blocks _)) m n = true
 is_above_removed (Some Last) m n = true
 
--- the names come after those of the line before, if that is a flow line
+-- the names come after those of the previous line, if that is a `flow` line
 abbrev pub is_above_flow : Option ReportLine → List ℕ → List ℕ → Bool
 is_above_flow None m n = true
 is_above_flow (Some (Ends _ _)) m n = true
@@ -104,7 +104,7 @@ is_above_flow (Some (Flows k l _)) m n = pair_is_before k l m n
 is_above_flow (Some (Blocks _)) m n = true
 is_above_flow (Some Last) m n = true
 
--- a remove line is above the remove line before it, and a flow line above the flow line before it
+-- a `remove` line comes after the previous `remove` line, and a `flow` line after the previous `flow` line
 abbrev pub is_above : Option ReportLine → ReportLine → Bool
 is_above last (Ends _ _) = true
 is_above last (Weighs _) = true
@@ -113,50 +113,50 @@ is_above last (Flows m n _) = is_above_flow last m n
 is_above last (Blocks _) = true
 is_above last Last = true
 
--- the line may stand after the one before it
+-- the line may follow the previous one: its form, its kind, its names and their order are right
 pub record IsGoodAfter (net : Network) (last : Option ReportLine) (line : ReportLine) : Type 0 where
   pub form : HasForm line
   pub follows : may_follow last line ≡ true
   pub known : HasKnownNames net line
   pub above : is_above last line ≡ true
 
--- the last of the lines, or the one that stood before them
+-- the last of the lines, or the given one if there are none
 abbrev pub last_of : Option ReportLine → List ReportLine → Option ReportLine
 last_of last [] = last
 last_of last (line ∷ lines) = last_of (Some line) lines
 
--- each line may stand after the one before it
+-- each line may follow its predecessor
 abbrev pub AreGoodAfter : Network → Option ReportLine → List ReportLine → Type 0
 AreGoodAfter net last [] = Unit {0}
 AreGoodAfter net last (line ∷ lines) = IsGoodAfter net last line × AreGoodAfter net (Some line) lines
 
--- the bytes begin with these good lines, and go on so
+-- the bytes begin with these good lines, and the rest follows
 pub record IsFront (net : Network) (bytes : List ℕ) (lines : List ReportLine) (rest : List ℕ) : Type 0 where
   pub good : AreGoodAfter net None lines
   pub whole : bytes ≡ written lines ++ rest
 
--- a line ends in the bytes
+-- the bytes have an LF
 abbrev pub has_line_end : List ℕ → Bool
 has_line_end bytes = list_any (λ b. b == 10) bytes
 
--- the rest begins with this line and its end
+-- the rest begins with this line and its LF
 pub record BeginsWith (rest line : List ℕ) : Type 0 where
   pub more : List ℕ
   pub whole : rest ≡ ended line ++ more
   pub one_line : has_line_end line ≡ false
 
--- the line is one that may follow
+-- the line may follow, by its form and kind
 pub record IsNextLine (last : Option ReportLine) (line : ReportLine) : Type 0 where
   pub form : HasForm line
   pub follows : may_follow last line ≡ true
 
--- a line that is none that may follow, or a byte after the last line
+-- a line that may not follow, by its form or kind, or a byte after the last line
 abbrev pub IsWrongLine : Option ReportLine → List ℕ → Type 0
 IsWrongLine last rest =
     ((last ≡ Some Last) × (rest ≢ []))
     ⊎ ((last ≢ Some Last) × ((text : List ℕ) × BeginsWith rest text × ((line : ReportLine) → IsNextLine last line → report_line line ≢ text)))
 
--- after good lines, what is wrong
+-- good lines, and then this error
 pub record IsBadLine (net : Network) (bytes : List ℕ) (k : ℕ) : Type 0 where
   pub before : List ReportLine
   pub rest : List ℕ
@@ -164,7 +164,7 @@ pub record IsBadLine (net : Network) (bytes : List ℕ) (k : ℕ) : Type 0 where
   pub count : length before ≡ k
   pub wrong : IsWrongLine (last_of None before) rest
 
--- after good lines, a line that may follow them, with a name that the network lacks
+-- good lines, and then a line that may follow by its form and kind, with a name that the network lacks
 pub record IsUnknownName (net : Network) (bytes : List ℕ) (k : ℕ) : Type 0 where
   pub before : List ReportLine
   pub rest : List ℕ
@@ -175,7 +175,7 @@ pub record IsUnknownName (net : Network) (bytes : List ℕ) (k : ℕ) : Type 0 w
   pub next : IsNextLine (last_of None before) line
   pub unknown : HasKnownNames net line → ⊥
 
--- after good lines, a line of known names that may follow them and isn't above the one before it
+-- good lines, and then a line of known names that may follow by its form and kind, but doesn't come after its predecessor
 pub record IsOutOfOrder (net : Network) (bytes : List ℕ) (k : ℕ) : Type 0 where
   pub before : List ReportLine
   pub rest : List ℕ
@@ -195,7 +195,7 @@ pub record HasNoEnd (net : Network) (bytes : List ℕ) : Type 0 where
   pub unended : has_line_end rest ≡ false
   pub not_last : last_of None before ≢ Some Last
 
--- the text says this of the network: a report, or its first fault, never a failed device or want of memory
+-- the outcome of a text for the network: a report, or its first error; never a failed device or allocation
 abbrev pub IsReportOutcome : Network → List ℕ → Result ReportClaim ReportFault → Type 0
 IsReportOutcome net bytes (Ok entry) = ReportText net bytes entry
 IsReportOutcome net bytes (Err (faults.BadLine line)) = (k : ℕ) × (line ≡ k + 1) × IsBadLine net bytes k

@@ -1,4 +1,4 @@
--- The text of a report. It has exactly one spelling.
+-- The text of a report, which is unique.
 use Rattle.std.specs.Prelude.{◌≡◌, ℕ, ◌<◌, ◌^◌, List, length, All}
 use Rattle.cut_net.specs.declared.priced.Priced.{Priced}
 use Rattle.cut_net.specs.Network.{Network}
@@ -8,11 +8,11 @@ use Rattle.cut_net.specs.Said.{Said, CutOf, BlockedBy}
 use Rattle.cut_report.specs.ReportClaim.{ReportClaim}
 use Rattle.cut_report.specs.ReportLine.{entry_lines, written}
 
--- the one text of a report
+-- the text of a report
 abbrev pub report_text : Network → ReportClaim → List ℕ
 report_text net entry = written (entry_lines net entry)
 
--- what a cut may be said to be: lines of modules that there are, in order and once each, and no flow of 0
+-- a well-formed cut: imports between modules of the network, strictly sorted, and no flow of 0
 pub record IsSayable (net : Network) (total : ℕ) (printed flow : List Priced) : Type 0 where
   pub fits : total < 2 ^ 64
   pub printed_between : AreBetween printed (length net.names)
@@ -23,12 +23,12 @@ pub record IsSayable (net : Network) (total : ℕ) (printed flow : List Priced) 
   pub flow_fits : All (λ line. line.amount < 2 ^ 64) flow
   pub flow_above_zero : All (λ line. 0 < line.amount) flow
 
--- such a cut, or one or more modules that there are
+-- a well-formed answer: such a cut, or one or more modules of the network
 abbrev pub MaySay : Network → Said → Type 0
 MaySay net (CutOf total printed flow) = IsSayable net total printed flow
 MaySay net (BlockedBy chain) = (0 < length chain) × All (λ m. m < length net.names) chain
 
--- the report is of modules that there are, and may say what it says
+-- the report has two modules of the network and a well-formed answer
 pub record IsReport (net : Network) (entry : ReportClaim) : Type 0 where
   pub from : entry.from < length net.names
   pub to : entry.to < length net.names

@@ -1,4 +1,4 @@
-//! Chains of imports.
+//! The shortest path of imports between two modules.
 ghost use Rattle.std.specs.Prelude.{◌≡◌, ◌<◌, IfNone, IfOk, IfSome, length, map};
 ghost use Rattle.digraph.specs.Chains.{Chain};
 ghost use Rattle.digraph.specs.ShortestPaths.{IsLeastChain};
@@ -9,7 +9,7 @@ use cut_net::{Net, Priced};
 use digraph::{Edge, least_chain};
 use std::alloc::{AllocError, Global};
 
-/// The imports without their weights.
+/// The imports as edges, without their weights.
 pub(crate) fn edges_of(alloc: Global, imports: &[Priced]) -> Result<Vec<Edge>, AllocError>
     ensures { IfOk result (λ edges. edges.items ≡ map edge_of imports.now) }
 {
@@ -22,18 +22,21 @@ pub(crate) fn edges_of(alloc: Global, imports: &[Priced]) -> Result<Vec<Edge>, A
         .collect(alloc)
 }
 
-/// The chain of imports from one module to another with the fewest, and of those the one with the least names, from the first on: its
-/// modules, each imported by the one before it. None exactly where no chain leads there; a module is a chain to itself. Fails where memory
-/// is refused.
+/// The shortest path of imports from one module to another, of several the lexicographically smallest, as a list of module numbers.
+/// None if there is no path. The path from a module to itself has that module alone. Fails if an allocation fails.
 pub fn least_chain_of(
     alloc: Global,
     net: &Net,
     from: u32,
     to: u32,
 ) -> Result<Option<Vec<u32>>, AllocError>
+    // `from` is a module.
     requires from { from < length net.now.names }
+    // `to` is a module.
     requires to { to < length net.now.names }
+    // A returned path has the fewest imports of all paths, and of those the smallest names, from the first on.
     ensures found { IfOk result (λ answer. IfSome answer (λ chain. IsLeastChain (Imports net.now.imports Any) from to chain.items)) }
+    // Without a result no path leads from the one module to the other.
     ensures none { IfOk result (λ answer. IfNone answer (Chain (Imports net.now.imports Any) from to → ⊥)) }
 {
     net.keeps();

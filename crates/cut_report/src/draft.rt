@@ -1,4 +1,4 @@
-//! A report that is read line by line.
+//! The builder of a report, to which lines are added one by one.
 ghost use Rattle.std.specs.Prelude.{◌≡◌, ◌+◌, ◌<◌, ◌^◌, ℕ, List, None, length, option_map, Err, IfErr, IfOk, Ok};
 ghost use Rattle.cut_report.specs.Lines.{line_of_text, line_seen, words_of};
 ghost use Rattle.cut_report.specs.Reading.{entry_of};
@@ -11,22 +11,22 @@ use crate::{Report, ReportFault};
 use cut_net::{Answer, Cut, Net, Priced};
 use std::alloc::Global;
 
-/// What is read so far.
+/// The lines read so far.
 #[derive(Drop)]
 pub(crate) enum ReportDraft {
     /// No line.
     Start,
     /// The first line, with the numbers of its modules.
     Named(u32, u32),
-    /// More lines of a cut between these modules, but not the last.
+    /// More lines of a cut between these modules, without the last.
     Open(u32, u32, Cut),
-    /// A chain of pins between these modules.
+    /// A path of pinned imports between these modules.
     Shut(u32, u32, Vec<u32>),
     /// All lines.
     Ended(Report),
 }
 
-/// The last import.
+/// The last import of the list.
 fn last_in(imports: &[Priced]) -> Option<Priced>
     ensures { result ≡ last_import None imports.now }
 {
@@ -42,7 +42,7 @@ fn comes_after(last: Option<Priced>, next: Priced) -> bool
     }
 }
 
-/// The modules of two names, which are looked for where the imports go on behind that of the last line, and then among all.
+/// The modules of two names. They are looked up first among the imports that follow that of the previous line, then among all modules.
 #[tactic(auto, unfolding(crate::specs::Drafts::ends_named))]
 fn ends_in(
     net: &Net,
@@ -61,7 +61,7 @@ fn ends_in(
     Ok((from, to))
 }
 
-/// The import between two names, which is to come after the last of those that are read.
+/// The import between two names, which must come after the last import of its list.
 #[tactic(auto, unfolding(crate::specs::Drafts::import_of, crate::specs::Drafts::ends_named))]
 fn import_in(
     net: &Net,
@@ -82,7 +82,7 @@ fn import_in(
     }
 }
 
-/// The first line.
+/// Adds the first line.
 #[tactic(auto, unfolding(crate::specs::Drafts::numbered_by))]
 fn with_ends(net: &Net, line: Line) -> Result<ReportDraft, ReportLineFault>
     ensures { IsReadAs read_so_far_of result (numbered_by net.now (line_seen line.entry)) }
@@ -95,7 +95,7 @@ fn with_ends(net: &Net, line: Line) -> Result<ReportDraft, ReportLineFault>
     Ok(ReportDraft::Named(from, to))
 }
 
-/// The modules of these names, which have a blank between each two.
+/// The modules of these names, which are separated by spaces.
 fn chain_in(alloc: Global, net: &Net, names: &str) -> Result<Vec<u32>, ReportLineFault>
     ensures { IsReadAs (λ chain. chain.items) result (chain_of net.now (words_of names.now)) }
 {
@@ -109,7 +109,7 @@ fn chain_in(alloc: Global, net: &Net, names: &str) -> Result<Vec<u32>, ReportLin
     Ok(chain)
 }
 
-/// The line after the first.
+/// Adds the second line: a weight, or a path of pinned imports.
 #[tactic(auto, unfolding(crate::specs::Drafts::opened_by))]
 fn with_second(
     alloc: Global,
@@ -137,7 +137,7 @@ fn with_second(
     }
 }
 
-/// A later line. No remove line follows a flow line.
+/// Adds a later line of a cut. No `remove` line follows a `flow` line.
 #[tactic(auto, unfolding(crate::specs::Drafts::going_on))]
 fn with_more(
     from: u32,
@@ -168,7 +168,7 @@ fn with_more(
     }
 }
 
-/// The line after a chain of pins.
+/// Adds the line after a path of pinned imports, which is the last.
 #[tactic(auto, unfolding(crate::specs::Drafts::shut_by))]
 fn with_end(from: u32, to: u32, chain: Vec<u32>, line: Line) -> Result<ReportDraft, ReportLineFault>
     ensures { IsReadAs read_so_far_of result (shut_by from to chain.items (line_seen line.entry)) }
@@ -200,7 +200,7 @@ impl ReportDraft {
         }
     }
 
-    /// The draft with a line, if a text is one.
+    /// Adds the line of these bytes, if they are one.
     #[tactic(auto, unfolding(crate::specs::Drafts::text_step))]
     fn with_read(
         self,
@@ -215,7 +215,7 @@ impl ReportDraft {
         self.with_line(alloc, net, place, line)
     }
 
-    /// The same, where the text is the line of this number.
+    /// Adds the line of these bytes, which has this number, and reports the number with an error.
     pub(crate) fn with_numbered(
         self,
         alloc: Global,
@@ -232,7 +232,7 @@ impl ReportDraft {
         }
     }
 
-    /// The report, where all lines are read and nothing stands behind them.
+    /// The report, if all lines are read and no byte follows.
     pub(crate) fn finish(self, before: u64, rest: &[u8]) -> Result<Report, ReportFault>
         requires { before + length rest.now < 2 ^ 64 }
         ensures report { IfOk result (λ report. finish_of (read_so_far_of self) before rest.now ≡ Ok (entry_of report)) }

@@ -1,20 +1,19 @@
-//! Why a report could not be read or written.
+//! Why a report can't be read or written.
 
 use crate::SinkFault;
 use std::alloc::{AllocError, AllocFailed};
 use thiserror::Error;
 
-/// The first fault of a text, by lines and then within the line; or why a sink did not take it.
-/// Lines are numbered from 1.
+/// The first error of a text, by lines and then within the line, or the error of a sink. Lines are numbered from 1.
 #[derive(Clone, Copy, Debug, Error)]
 pub enum ReportFault {
-    /// The line is none that may stand there, or a byte stands behind the last line.
+    /// The line isn't one that may occur here, or a byte follows the last line.
     #[error("line {line} breaks the form")]
     BadLine { line: u64 },
-    /// The network lacks a name of the line.
+    /// The network has no module with a name of the line.
     #[error("line {line} names no module")]
     UnknownName { line: u64 },
-    /// The line is not above the one before it, by the two names.
+    /// The line isn't after its predecessor, by the two names.
     #[error("line {line} is out of order")]
     Order { line: u64 },
     /// The text ends before its last line.
@@ -23,7 +22,7 @@ pub enum ReportFault {
     /// The sink failed.
     #[error("the device failed")]
     Device,
-    /// A growth of memory was refused.
+    /// An allocation failed.
     #[error("memory ran out")]
     Memory,
 }
@@ -64,7 +63,7 @@ impl From<SinkFault> for ReportFault {
     }
 }
 
-/// What is wrong within a line, in the order in which it is looked for.
+/// The errors within a line, in the order of testing.
 #[derive(Clone, Copy)]
 pub(crate) enum ReportLineFault {
     BadLine,

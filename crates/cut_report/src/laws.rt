@@ -1,4 +1,4 @@
-//! The laws of reports. Each function's body is empty, and its contract is proved.
+//! Laws of reports, proved as contracts of functions with an empty body.
 ghost use Rattle.std.specs.Prelude.{◌≡◌, ℕ, List, [], Contains, Ok, Result};
 ghost use Rattle.cut_net.specs.declared.priced.Priced.{Priced};
 ghost use Rattle.cut_net.specs.NetText.{IsNetOutcome, NetText};
@@ -10,28 +10,35 @@ ghost use Rattle.cut_report.specs.ReportText.{report_text, IsReport, ReportText}
 ghost use Rattle.cut_report.specs.ReportLines.{IsReportOutcome};
 ghost use Rattle.cut_report.specs.declared.fault.ReportFault.{ReportFault};
 
-/// Of a network a text says at most one thing: a report or a first fault.
+/// For a network, a text has at most one outcome: a report or a first error.
 pub fn one_reading()
+    // Two outcomes are the same.
     ensures { (net : Network) (bytes : List ℕ) (o p : Result ReportClaim ReportFault) → IsNetwork net → IsReportOutcome net bytes o → IsReportOutcome net bytes p → o ≡ p }
 {}
 
-/// How `write` and `read` meet: each report has a text, the one that `write` puts, and this text says the report and
-/// nothing else. So by its clause `only` `read` answers the report that was written, unless memory runs out.
+/// `read` inverts `write`: the text that `write` writes has the report as its only outcome.
+/// So by its clause `only` `read` returns the report that was written, unless an allocation fails.
 pub fn what_is_written_is_read()
+    // The text that `write` writes is a text of the report.
     ensures text { (net : Network) (entry : ReportClaim) → IsReport net entry → ReportText net (report_text net entry) entry }
+    // A text of a report has the report as an outcome.
     ensures some { (net : Network) (bytes : List ℕ) (entry : ReportClaim) → ReportText net bytes entry → IsReportOutcome net bytes (Ok entry) }
+    // It has no other outcome.
     ensures only { (net : Network) (bytes : List ℕ) (entry : ReportClaim) (o : Result ReportClaim ReportFault) →
         IsNetwork net → ReportText net bytes entry → IsReportOutcome net bytes o → o ≡ Ok entry }
 {}
 
-/// How `write_net` and `Net::read` meet: what `write_net` puts of a network without pins is a text of it, and by `one_reading` of `cut_net`
-/// of no other and of no fault. So `Net::read` answers that network, unless memory runs out.
+/// `Net::read` inverts `write_net` for networks without pins: the text that `write_net` writes has the network as an outcome.
+/// By `one_reading` of `cut_net` it has no other. So `Net::read` returns the network, unless an allocation fails.
 pub fn what_net_puts_is_the_network()
+    // The text that `write_net` writes is a text of the network.
     ensures text { (net : Network) → IsNetwork net → net.pins ≡ [] → NetText (net_text net) net }
+    // It has the network as an outcome.
     ensures read { (net : Network) → IsNetwork net → net.pins ≡ [] → IsNetOutcome (net_text net) (Ok net) }
 {}
 
-/// What `write_chain` puts are imports of the network, each as the network has it.
+/// The lines that `write_chain` writes are those of imports of the network, with their weights.
 pub fn a_chain_is_of_imports()
+    // Each import along the path is one of the network.
     ensures { (net : Network) (modules : List ℕ) (i : Priced) → AreImportChain net modules → Contains (imports_along net modules) i → Contains net.imports i }
 {}

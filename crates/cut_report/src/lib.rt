@@ -1,10 +1,7 @@
-//! Reports on cuts and on chains of pins: their format, its reader and its writer; the writers of a network and of a path of its
-//! imports; and the modules of a network that a module reaches, or that reach it.
-//! Stands on `texts`, `digraph`, `cut_net`, on `byte_sink`, whose names it gives out again, and on `text_pieces` for what is written,
-//! with `thiserror` for its faults.
-//! Its contract: a report or a network is written as its one text, or a prefix of it; a text is read as exactly what it says, or as its
-//! first fault; what was written is read again. A shortest path is found exactly if one exists, and is written as its imports. The
-//! modules that are reached are exactly those to which a path of imports leads.
+//! Reports of cuts and of paths of pinned imports: their reader and writer; the writers of a network and of a path of imports.
+//! Also the shortest path between two modules, and the modules that a module reaches or that reach it (`digraph`, breadth-first search).
+//! Depends on `cut_net` for networks, `texts` for fields of lines, and `byte_sink` and `text_pieces` for output; it reexports `byte_sink`.
+//! The main calls are `read` and `write`. A report has exactly one text; `read` returns the report of a text or its first error.
 #![tactic(auto)]
 
 mod chain;

@@ -1,4 +1,4 @@
-//! The lines of a report, each spelled and read by itself.
+//! The lines of a report.
 ghost use Rattle.std.specs.Prelude.{◌≡◌, ◌++◌, ◌∷◌, IfNone, IfSome, None, option_map};
 ghost use Rattle.std.specs.List.{list_all};
 ghost use Rattle.texts.specs.Fields.{cut_at, is_name};
@@ -10,24 +10,24 @@ use std::fmt;
 use texts::ahead::amount_ahead;
 use texts::fields::{cut_at_byte, is_identifier, name_in, number_in};
 
-/// What a line says.
+/// The content of a line.
 #[derive(Clone, Copy, Drop)]
 pub(crate) enum Line<'a> {
     /// The two modules.
     Ends(&'a str, &'a str),
     /// The weight of the cut.
     Weighs(u64),
-    /// An import to be removed, with its weight.
+    /// An import to remove, with its weight.
     Removes(&'a str, &'a str, u64),
-    /// An import that carries flow, with its flow.
+    /// An import with its flow, which is above 0.
     Flows(&'a str, &'a str, u64),
-    /// The names of a chain of pins, with a blank between each two.
+    /// The names of a path of pinned imports, separated by spaces.
     Blocks(&'a str),
-    /// The end.
+    /// The last line.
     Last,
 }
 
-/// The line without its end.
+/// Writes the line without its LF.
 impl fmt::Display for Line<'_> {
     ghost use Rattle.std.specs.Prelude.{Some};
     ghost use Rattle.cut_report.specs.ReportLine.{report_line};
@@ -47,7 +47,7 @@ impl fmt::Display for Line<'_> {
     }
 }
 
-/// Two names.
+/// Two names, separated by a space.
 #[tactic(auto, unfolding(crate::specs::Lines::ends_of))]
 fn ends_in(fields: &[u8]) -> Option<(&str, &str)>
     ensures { option_map (λ x. (x.0.now, x.1.now)) result ≡ ends_of fields.now }
@@ -58,7 +58,7 @@ fn ends_in(fields: &[u8]) -> Option<(&str, &str)>
     Some((from, to))
 }
 
-/// Two names and a number.
+/// Two names and a number, separated by spaces.
 #[tactic(auto, unfolding(crate::specs::Lines::amount_of))]
 fn amount_in(fields: &[u8]) -> Option<(&str, &str, u64)>
     ensures { option_map (λ x. (x.0.now, x.1.now, x.2)) result ≡ amount_of fields.now }
@@ -78,7 +78,7 @@ fn are_names(text: &str) -> bool
     text.split(' ').all(|word| is_identifier(word.as_bytes()))
 }
 
-/// One or more names.
+/// One or more names, separated by spaces.
 #[tactic(auto, unfolding(crate::specs::Lines::blocks_of))]
 fn chain_in(fields: &[u8]) -> Option<Line<'_>>
     ensures { option_map line_seen result ≡ blocks_of fields.now }
@@ -89,7 +89,7 @@ fn chain_in(fields: &[u8]) -> Option<Line<'_>>
     }
 }
 
-/// The fields after a word.
+/// The line of a keyword and the fields after it.
 #[tactic(auto, unfolding(crate::specs::Lines::line_under))]
 fn fields_in<'a>(word: &[u8], fields: &'a [u8]) -> Option<Line<'a>>
     ensures { option_map line_seen result ≡ line_under word.now fields.now }
@@ -115,7 +115,7 @@ fn fields_in<'a>(word: &[u8], fields: &'a [u8]) -> Option<Line<'a>>
     None
 }
 
-/// The line of this text, which has no LF.
+/// The line of these bytes, which have no LF.
 #[tactic(auto, unfolding(crate::specs::Lines::line_of_text))]
 pub(crate) fn line_in(text: &[u8]) -> Option<Line<'_>>
     ensures { option_map line_seen result ≡ line_of_text text.now }
@@ -127,8 +127,8 @@ pub(crate) fn line_in(text: &[u8]) -> Option<Line<'_>>
     fields_in(word, fields)
 }
 
-/// The flow line that the text begins with, whose end need not be found before it is read, and what stands behind that. None where it begins with another line, or with one
-/// that isn't read so.
+/// The `flow` line with which the bytes begin, and the bytes after its LF. It is parsed without searching for the LF first, since most lines of a
+/// report are `flow` lines. None for another line, and for one that can't be parsed this way.
 fn flow_ahead(text: &[u8]) -> Option<(Line<'_>, &[u8])>
     ensures form { IfSome result (λ x. HasForm (line_seen x.0)) }
     ensures text { IfSome result (λ x. text.now ≡ report_line (line_seen x.0) ++ 10 ∷ x.1.now) }
@@ -141,7 +141,7 @@ fn flow_ahead(text: &[u8]) -> Option<(Line<'_>, &[u8])>
     Some((Line::Flows(from, to, flow), rest))
 }
 
-/// The first line of the text, if it is one of a report, and what stands behind its end. None where no line ends in the text.
+/// The first line of the bytes, if it is one of a report, and the bytes after its LF. None if there is no LF.
 pub(crate) fn first_line(text: &[u8]) -> Option<(Option<Line<'_>>, &[u8])>
     ensures line { IfSome result (λ x. IsFirstLine text.now (option_map line_seen x.0) x.1.now) }
     ensures none { IfNone result (cut_at 10 text.now ≡ None) }

@@ -1,4 +1,4 @@
-//! Writing a network, and a chain of its imports.
+//! Writing a network, and a path of its imports.
 ghost use Rattle.std.specs.Prelude.{◌≡◌, ◌++◌, [], ◌<◌, length, map, IfErr, IfOk, OnOk};
 ghost use Rattle.std.specs.String.{string_bytes};
 ghost use Rattle.byte_sink.specs.Sinks.{failures_after, AppendsFront, Puts};
@@ -14,16 +14,16 @@ use std::alloc::{AllocError, Global};
 use std::fmt;
 use text_pieces::put_enough;
 
-/// What a line of a network says.
+/// The content of a line of a network.
 #[derive(Clone, Copy, Drop)]
 enum NetLine<'a> {
-    /// There is a module.
+    /// A module.
     Module(&'a str),
-    /// The first module imports the second, at this weight.
+    /// The first module imports the second, with this weight.
     Import(&'a str, &'a str, u64),
 }
 
-/// The line without its end.
+/// Writes the line without its LF.
 impl fmt::Display for NetLine<'_> {
     ghost use Rattle.std.specs.Prelude.{Some};
     ghost use Rattle.cut_net.specs.NetText.{net_line};
@@ -39,7 +39,7 @@ impl fmt::Display for NetLine<'_> {
     }
 }
 
-/// Gathers a line with its end behind the text, of which pieces are put.
+/// Appends a line with its LF to the text, and writes the text if it is long.
 fn push_line<S: Sink>(text: &mut String, line: NetLine, sink: &mut S) -> Result<(), SinkFault>
     ensures gathered { OnOk result (PutsAllBut (S.taken sink.old) (S.taken sink.new)
         (string_bytes text.old ++ ended_line (net_line_seen line.entry)) (string_bytes text.new)) }
@@ -51,7 +51,7 @@ fn push_line<S: Sink>(text: &mut String, line: NetLine, sink: &mut S) -> Result<
     put_enough(text, sink)
 }
 
-/// Gathers a line for each module.
+/// Appends a line for each module.
 fn push_modules<S: Sink>(text: &mut String, net: &Net, sink: &mut S) -> Result<(), SinkFault>
     ensures gathered { OnOk result (PutsAllBut (S.taken sink.old) (S.taken sink.new)
         (string_bytes text.old ++ ended_lines (map Module net.now.names)) (string_bytes text.new)) }
@@ -65,7 +65,7 @@ fn push_modules<S: Sink>(text: &mut String, net: &Net, sink: &mut S) -> Result<(
     Ok(())
 }
 
-/// Gathers a line for each import.
+/// Appends a line for each import.
 fn push_imports<S: Sink>(
     text: &mut String,
     net: &Net,
@@ -87,13 +87,14 @@ fn push_imports<S: Sink>(
     Ok(())
 }
 
-/// Puts the one text of a network: a line for each module, in the order of their names, and then one for each import, in their order.
-/// Nothing is pinned, since a text has no line for a pin. Refuses with `Device` and `Memory`; the sink has then taken a front of the text.
+/// Writes the text of a network: a line for each module, sorted by name, and then one for each import, in their order.
+/// Fails with `Device` or `Memory`; the sink then has a prefix of the text.
 pub fn write_net<S: Sink>(alloc: Global, net: &Net, sink: &mut S) -> Result<(), SinkFault>
+    // Nothing is pinned, since a network's text can't express a pin.
     requires { net.now.pins ≡ [] }
-    // All of the text at Ok, and a front of it after a refusal.
+    // With `Ok` the sink took the whole text, otherwise a prefix of it.
     ensures puts { Puts (S.taken sink.old) (S.taken sink.new) result (net_text net.now) }
-    // Device is answered where the sink counted a failure, and nowhere else.
+    // The sink counts a failure if and only if the result is `Device`.
     ensures failures { S.failures sink.new ≡ failures_after result (S.failures sink.old) }
 {
     net.keeps();
@@ -103,7 +104,7 @@ pub fn write_net<S: Sink>(alloc: Global, net: &Net, sink: &mut S) -> Result<(), 
     put_all(sink, text.as_bytes())
 }
 
-/// The import between two modules, or one that costs nothing where there is none.
+/// The import between two modules, or one of weight 0 if there is none.
 fn import_between(net: &Net, from: u32, to: u32) -> Priced
     ensures { result ≡ import_between net.now from to }
 {
@@ -116,7 +117,7 @@ fn import_between(net: &Net, from: u32, to: u32) -> Priced
     line_of(net.imports(), none).unwrap_or(none)
 }
 
-/// The import between each two neighbours.
+/// The imports between each two consecutive modules.
 fn imports_along(alloc: Global, net: &Net, modules: &[u32]) -> Result<Vec<Priced>, AllocError>
     ensures { IfOk result (λ imports. imports.items ≡ imports_along net.now modules.now) }
 {
@@ -127,20 +128,21 @@ fn imports_along(alloc: Global, net: &Net, modules: &[u32]) -> Result<Vec<Priced
         .collect(alloc)
 }
 
-/// Puts a line for each import of a chain, in their order and with their weights in the network. The chain is given by its modules, each of
-/// which imports the next, and nothing is pinned, since a pinned import has no weight. Of a chain of one module nothing is put. Refuses
-/// with `Device` and `Memory`; the sink has then taken a front of the text.
+/// Writes a line for each import of a path, in their order and with their weights. The path is given by its module numbers.
+/// Writes nothing for a path of one module. Fails with `Device` or `Memory`; the sink then has a prefix of the text.
 pub fn write_chain<S: Sink>(
     alloc: Global,
     net: &Net,
     chain: &[u32],
     sink: &mut S,
 ) -> Result<(), SinkFault>
+    // Each module imports the next.
     requires chain { AreImportChain net.now chain.now }
+    // Nothing is pinned, since a pinned import has no weight.
     requires unpinned { net.now.pins ≡ [] }
-    // All of the lines at Ok, and a front of them after a refusal.
+    // With `Ok` the sink took all of the lines, otherwise a prefix of them.
     ensures puts { Puts (S.taken sink.old) (S.taken sink.new) result (chain_text net.now chain.now) }
-    // Device is answered where the sink counted a failure, and nowhere else.
+    // The sink counts a failure if and only if the result is `Device`.
     ensures failures { S.failures sink.new ≡ failures_after result (S.failures sink.old) }
 {
     net.keeps();

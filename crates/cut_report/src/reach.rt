@@ -41,6 +41,7 @@ fn nodes_after(
 
 /// The modules that a module reaches by one or more imports, in ascending order. Imports of weight 0 count. Fails if an allocation fails.
 pub fn reached_modules(alloc: Global, net: &Net, from: u32) -> Result<Vec<u32>, AllocError>
+    // `from` is a module.
     requires { from < length net.now.names }
     // Each is listed once, in the order of the names.
     ensures ascending { IfOk result (λ reached. AllPairs (λ m n. m < n) reached.items) }
@@ -56,6 +57,7 @@ pub fn reached_modules(alloc: Global, net: &Net, from: u32) -> Result<Vec<u32>, 
 
 /// The modules that reach a module by one or more imports, in ascending order. Imports of weight 0 count. Fails if an allocation fails.
 pub fn reaching_modules(alloc: Global, net: &Net, to: u32) -> Result<Vec<u32>, AllocError>
+    // `to` is a module.
     requires { to < length net.now.names }
     // Each is listed once, in the order of the names.
     ensures ascending { IfOk result (λ reaching. AllPairs (λ m n. m < n) reaching.items) }

@@ -1,4 +1,4 @@
-//! Reading a report.
+//! The reader of reports.
 ghost use Rattle.std.specs.Prelude.{◌≡◌, Result};
 ghost use Rattle.cut_net.specs.WellFormed.{IsNetwork};
 ghost use Rattle.cut_report.specs.Faults.{Tells};
@@ -14,7 +14,7 @@ use crate::{Report, ReportFault};
 use cut_net::Net;
 use std::alloc::Global;
 
-/// What the bytes say, line by line.
+/// Adds the lines of the bytes to the builder, one by one.
 fn read_lines(alloc: Global, bytes: &[u8], net: &Net) -> Result<Report, ReportFault>
     requires { IsNetwork net.now }
     ensures { Tells entry_of result (IsReportOutcome net.now bytes.now) }
@@ -31,11 +31,11 @@ fn read_lines(alloc: Global, bytes: &[u8], net: &Net) -> Result<Report, ReportFa
     draft.finish(before, rest)
 }
 
-/// What the bytes say of two modules of the network, or their first fault by lines; Memory where a growth was refused.
+/// The report of two modules of the network that the bytes spell. Fails with the first error of the bytes, by lines, or with `Memory`.
 pub fn read(alloc: Global, bytes: &[u8], net: &Net) -> Result<Report, ReportFault>
-    // Unless memory ran out, it is a report of the text or a fault that the text has, so never Device.
+    // The result is an outcome of the bytes, a report or an error, unless an allocation failed. So it is never `Device`.
     ensures exact { Tells entry_of result (IsReportOutcome net.now bytes.now) }
-    // What the text says, or its first fault, is answered unless memory runs out.
+    // Any outcome of the bytes is the result, unless an allocation failed.
     ensures only { (o : Result ReportClaim ReportFault) → IsReportOutcome net.now bytes.now o → Tells entry_of result (λ p. p ≡ o) }
 {
     net.keeps();

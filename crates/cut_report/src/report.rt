@@ -1,14 +1,14 @@
-//! What a report says.
+//! The content of a report.
 
 use cut_net::Answer;
 
-/// What is said of two modules, given by their numbers.
+/// An answer for two modules, which are given by their numbers.
 #[derive(Drop)]
 pub struct Report {
-    /// The module that is to lose its chains to the other.
+    /// The module from which the paths begin.
     pub from: u32,
-    /// The module that is to be cut off.
+    /// The module to which the paths lead.
     pub to: u32,
-    /// A cut with its certificate, or a chain of pins that no cut can part.
+    /// A cut with its flow, or a path of pinned imports.
     pub answer: Answer,
 }

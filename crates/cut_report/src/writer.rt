@@ -1,4 +1,4 @@
-//! Writing a report.
+//! The writer of reports.
 ghost use Rattle.std.specs.Prelude.{◌≡◌, ◌++◌, ◌<◌, true, length, map, All, IfErr, IfOk, OnOk};
 ghost use Rattle.std.specs.String.{string_bytes};
 ghost use Rattle.texts.specs.Fields.{ended, line_of};
@@ -20,7 +20,7 @@ use cut_net::{Answer, Cut, Net, Priced};
 use std::alloc::{AllocError, Global};
 use text_pieces::put_enough;
 
-/// Gathers a line with its end behind the text, of which pieces are put.
+/// Appends a line with its LF to the text, and writes the text if it is long.
 fn push_line<S: Sink>(text: &mut String, line: Line, sink: &mut S) -> Result<(), SinkFault>
     ensures gathered { OnOk result (PutsAllBut (S.taken sink.old) (S.taken sink.new)
         (string_bytes text.old ++ ended (report_line (line_seen line.entry))) (string_bytes text.new)) }
@@ -32,7 +32,7 @@ fn push_line<S: Sink>(text: &mut String, line: Line, sink: &mut S) -> Result<(),
     put_enough(text, sink)
 }
 
-/// Gathers a line for each import to be removed.
+/// Appends a line for each import to remove.
 fn push_removes<S: Sink>(
     text: &mut String,
     net: &Net,
@@ -54,7 +54,7 @@ fn push_removes<S: Sink>(
     Ok(())
 }
 
-/// Gathers a line for each import that carries flow.
+/// Appends a line for each import with flow.
 fn push_flows<S: Sink>(
     text: &mut String,
     net: &Net,
@@ -76,7 +76,7 @@ fn push_flows<S: Sink>(
     Ok(())
 }
 
-/// Gathers the lines of a cut.
+/// Appends the lines of a cut.
 fn push_cut<S: Sink>(text: &mut String, net: &Net, cut: &Cut, sink: &mut S) -> Result<(), SinkFault>
     requires { MaySay net.now (said_by_cut cut.now) }
     ensures gathered { OnOk result (PutsAllBut (S.taken sink.old) (S.taken sink.new)
@@ -90,7 +90,7 @@ fn push_cut<S: Sink>(text: &mut String, net: &Net, cut: &Cut, sink: &mut S) -> R
     push_flows(text, net, cut.flow.as_slice(), sink)
 }
 
-/// Puts a word behind the text, and a blank between them, if the word isn't the first.
+/// Appends a word to the text, after a space if the text isn't empty.
 fn push_word(text: &mut String, count: usize, word: &str) -> Result<(), AllocError>
     ensures { OnOk result (string_bytes text.new ≡ with_next (string_bytes text.old) count word.now) }
 {
@@ -100,7 +100,7 @@ fn push_word(text: &mut String, count: usize, word: &str) -> Result<(), AllocErr
     text.push_str(word)
 }
 
-/// The names of the modules, with a blank between each two.
+/// The names of the modules, separated by spaces.
 fn names_of(alloc: Global, net: &Net, modules: &[u32]) -> Result<String, AllocError>
     requires { All (λ m. m < length net.now.names) modules.now }
     ensures { IfOk result (λ t. string_bytes t ≡ line_of (map (name_of net.now) modules.now)) }
@@ -112,7 +112,7 @@ fn names_of(alloc: Global, net: &Net, modules: &[u32]) -> Result<String, AllocEr
     Ok(text)
 }
 
-/// Gathers the line of a chain of pins.
+/// Appends the line of a path of pinned imports.
 fn push_chain<S: Sink>(
     alloc: Global,
     text: &mut String,
@@ -133,7 +133,7 @@ fn push_chain<S: Sink>(
     push_line(text, Line::Blocks(names.as_str()), sink)
 }
 
-/// Gathers the lines between the first and the last.
+/// Appends the lines between the first and the last.
 fn push_answer<S: Sink>(
     alloc: Global,
     text: &mut String,
@@ -154,7 +154,7 @@ fn push_answer<S: Sink>(
     }
 }
 
-/// Puts the one text of the report, piece by piece.
+/// Writes the text of the report in pieces.
 fn put_text<S: Sink>(
     alloc: Global,
     net: &Net,
@@ -174,9 +174,8 @@ fn put_text<S: Sink>(
     put_all(sink, text.as_bytes())
 }
 
-/// Puts the one text of the report of an answer of two modules of the network, given by their numbers. Both lists of a cut
-/// ascend strictly and are of its modules, and no flow is 0; a chain has one or more of its modules.
-/// Refuses with `Device` and `Memory`; the sink has then taken a front of the text.
+/// Writes the report of an answer for two modules of the network, which are given by their numbers.
+/// Fails with `Device` or `Memory`; the sink then has a prefix of the text.
 pub fn write<S: Sink>(
     alloc: Global,
     net: &Net,
@@ -185,12 +184,13 @@ pub fn write<S: Sink>(
     answer: &Answer,
     sink: &mut S,
 ) -> Result<(), ReportFault>
+    // The lists of a cut are strictly sorted imports between modules of the network, and no flow is 0; a path has one or more modules of the network.
     requires { IsReport net.now (claim_of from to answer.now) }
-    // All of the text at Ok, and a front of it after a refusal.
+    // With `Ok` the sink took the whole text, otherwise a prefix of it.
     ensures puts { PutsBy is_of_sink (S.taken sink.old) (S.taken sink.new) result (report_text net.now (claim_of from to answer.now)) }
-    // Device is answered where the sink counted a failure, and nowhere else.
+    // The sink counts a failure if and only if the result is `Device`.
     ensures failures { S.failures sink.new ≡ failures_by is_failure result (S.failures sink.old) }
-    // No fault of a text is answered.
+    // No error of a text is returned.
     ensures of_sink { IfErr result (λ fault. is_of_sink fault ≡ true) }
 {
     put_text(alloc, net, from, to, answer, sink)?;
