@@ -1,4 +1,4 @@
--- In what context a module's rows name a token (Oberon-07 report, sections 4 to 11).
+-- The contexts in which a module table names a token (Oberon-07 report, sections 4 to 11).
 use Rattle.std.specs.Prelude.{◌≡◌, ◌≢◌, ℕ, Some, Contains}
 use Rattle.ob_rows.specs.declared.rows.Declared.{Declared}
 use Rattle.ob_rows.specs.declared.rows.End.{End}
@@ -9,8 +9,8 @@ use Rattle.ob_rows.specs.declared.rows.Used.{Used}
 use Rattle.ob_rows.specs.Tables.{own_name}
 use Rattle.ob_rows.specs.Parts.{Rows}
 
--- the module's own name, the name behind := in an import item, a declared identifier, the name behind END, a name that is looked up,
--- and the name behind a dot
+-- a token's context: the module's own name, the name after := in an import item, a declared identifier, the name after END, a name that is looked up, a name
+-- after a dot
 pub data NameContext : Type 0 where
   OwnName : NameContext
   ImportedName : NameContext
@@ -19,7 +19,7 @@ pub data NameContext : Type 0 where
   Use : NameContext
   Member : NameContext
 
--- the rows name this token in this context; an import item without := names its alias alone, which is declared
+-- an entry of the table names this token in this context; an import item without := has one token, its alias, which is declared
 pub data HasContext (rows : Rows) (k : ℕ) : NameContext → Type 0 where
   own : k ≡ own_name → HasContext rows k OwnName
   imported : (i : Import) → Contains rows.imports i → i.imported ≡ k → i.alias ≢ k → HasContext rows k ImportedName

@@ -1,4 +1,4 @@
--- What each identifier stands for, and its role, one line for each place in which it can stand.
+-- What each identifier denotes and in which role, with one constructor for each syntactic position.
 use Rattle.std.specs.Prelude.{◌≡◌, ℕ, List, slice_get, Option, Some, None, Bool, true, false, if◌then◌else◌, map}
 use Rattle.std.specs.List.{All, Contains, filter, filter_map, enumerate_from}
 use Rattle.ob_scan.specs.declared.kind.Kind.{Kind}
@@ -17,7 +17,7 @@ use Rattle.ob_targets.specs.Targets.{end_target, is_written, second_target, use_
 use Rattle.ob_targets.specs.Steps.{Knows, Selects}
 
 module _ (w : World) where
-  -- the identifier of this token stands for this, in this role
+  -- the identifier of this token denotes this target, in this role
   pub data Refers (k : ℕ) : Target → ℕ → Type 0 where
     own_name : standing w.rows k ≡ standings.OwnName → Refers k targets.Own 1
     item : {at : ℕ} → standing w.rows k ≡ standings.Item at → Refers k (targets.«Module» at) 2
@@ -30,23 +30,25 @@ module _ (w : World) where
         Refers k (second_target w k (used_target w u.number)) (use_role w (second_target w k (used_target w u.number)) false)
     nowhere : standing w.rows k ≡ standings.Nowhere → Refers k targets.Unresolved 0
 
--- the numbers of the tokens that are identifiers, in order
+-- whether a token of this kind is an identifier
 abbrev pub is_identifier : Kind → Bool
 is_identifier kinds.Ident = true
 is_identifier _ = false
 
+-- the number of a numbered token, if the token is an identifier
 abbrev pub identifier_number : ℕ × Token → Option ℕ
 identifier_number (k, t) = if is_identifier t.kind then Some k else None
 
+-- the numbers of the tokens that are identifiers, in order
 abbrev pub identifiers : List Token → List ℕ
 identifiers ts = filter_map identifier_number (enumerate_from 0 ts)
 
--- all identifiers of a module, in order, each with what it stands for and its role
+-- the list has all identifiers of the module, in order, each with its target and its role
 pub record AreReferences (w : World) (rs : List Reference) : Type 0 where
   pub numbers : map (λ (r : Reference). r.number) rs ≡ identifiers w.tokens
   pub each : All (λ (r : Reference). Refers w r.number r.target r.role) rs
 
--- the numbers of those that stand for nothing
+-- whether the target is Unresolved
 abbrev pub is_unresolved : Target → Bool
 is_unresolved (targets.Declared k) = false
 is_unresolved (targets.Imported i d) = false
@@ -56,10 +58,11 @@ is_unresolved (targets.«Module» at) = false
 is_unresolved targets.Predeclared = false
 is_unresolved targets.Unresolved = true
 
+-- the token numbers of the references whose target is Unresolved, in order
 abbrev pub unresolved : List Reference → List ℕ
 unresolved rs = map (λ (r : Reference). r.number) (filter (λ (r : Reference). is_unresolved r.target) rs)
 
--- the identifier of this token stands for nothing
+-- the token is an identifier that denotes nothing
 pub record StandsForNothing (w : World) (k : ℕ) : Type 0 where
   pub is : Contains (identifiers w.tokens) k
   pub role : ℕ

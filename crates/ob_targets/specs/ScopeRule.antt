@@ -1,4 +1,4 @@
--- What the name of a type in a module's block denotes by the module's own scopes, found in what other modules see of it.
+-- What a name in a module's block denotes by the module's own scopes, in terms of the module's interface.
 use Rattle.std.specs.Prelude.{◌≡◌, ℕ, List, Some, None, Contains, map}
 use Rattle.ob_scan.specs.declared.token.Token.{Token}
 use Rattle.ob_scan.specs.Spelling.{Spells}
@@ -17,7 +17,7 @@ use Rattle.ob_interface.specs.OwnTable.{Declares}
 use Rattle.ob_interface.specs.Placed.{declaration_at, place_of}
 use Rattle.ob_scope.specs.Scoped.{AreScopes, ModuleScopes}
 
--- a use in the block of an accepted module: the bytes spell the tokens, the tree derives them, and the scopes are those of the tree's rows
+-- a use in the block of an accepted module: the bytes spell the tokens, the tree derives them, and the scopes are those of the tree's table
 pub record IsOuterUse (bytes : List ℕ) (ts : List Token) (m : Module) (s : ModuleScopes) (u : Used) : Type 0 where
   pub spelled : Spells bytes ts
   pub derives : Derives (map (λ (t : Token). t.kind) ts) m
@@ -26,7 +26,7 @@ pub record IsOuterUse (bytes : List ℕ) (ts : List Token) (m : Module) (s : Mod
   pub outer : u.block ≡ 0
 
 module _ (bytes : List ℕ) (ts : List Token) (rows : Rows) (s : ModuleScopes) where
-  -- the use of this token means a type of the module's block, which is declared at this place of the interface
+  -- by the module's own scopes the use of this token means a type of the block, which the interface declares at this index
   pub record MeansType (used d : ℕ) : Type 0 where
     pub row : Declared
     pub by : Declarer
@@ -36,7 +36,7 @@ module _ (bytes : List ℕ) (ts : List Token) (rows : Rows) (s : ModuleScopes) w
     pub place : place_of (interface_of bytes ts rows) None (text_at bytes ts used) ≡ Some d
     pub there : declaration_at (interface_of bytes ts rows) d ≡ Some (declaration bytes ts rows.parts row by)
 
-  -- the use of this token means an alias of the module of this name
+  -- by the module's own scopes the use of this token means an alias of the module of this name
   pub record MeansAlias (used : ℕ) (name : List ℕ) : Type 0 where
     pub item : Import
     pub among : Contains rows.imports item

@@ -1,4 +1,4 @@
--- Where an identifier stands in its module, told by the rows that the productions give (Oberon-07 report, sections 4 to 11).
+-- The syntactic position of an identifier in its module, by the entries of the module table (Oberon-07 report, sections 4 to 11).
 use Rattle.std.specs.Prelude.{ℕ, ◌==◌, List, Option, Some, None, Bool, false, if◌then◌else◌}
 use Rattle.std.specs.List.{position}
 use Rattle.std.specs.Option.{option_map_or}
@@ -14,47 +14,52 @@ use Rattle.ob_rows.specs.Parts.{Rows}
 use Rattle.ob_targets.specs.declared.standing.Standing.{Standing}
 use Rattle.ob_targets.specs.declared.standing.Standing.TheVariants as standings
 
--- the name behind a dot, if this is it
+-- whether the optional token number is this one
 abbrev pub is_token : ℕ → Option ℕ → Bool
 is_token k None = false
 is_token k (Some n) = n == k
 
--- the name that a selector selects, if it is a dot and a name
+-- the token number of the name that a selector selects, if the selector is a dot and a name
 abbrev pub name_of : Step → Option ℕ
 name_of (steps.Field k) = Some k
 name_of (steps.Elements n) = None
 name_of steps.Target = None
 name_of (steps.Arguments t) = None
 
--- whether the identifier of this token stands in a row: as an alias, as a module's own name, declared, behind END, used,
--- behind a dot in a designator, behind a dot in a qualident
+-- whether this token is the alias of the import item
 abbrev pub is_alias : ℕ → Import → Bool
 is_alias k i = i.alias == k
 
+-- whether this token is the name of the module that the import item imports
 abbrev pub is_imported_name : ℕ → Import → Bool
 is_imported_name k i = i.imported == k
 
+-- whether the entry declares this token
 abbrev pub is_declared : ℕ → Declared → Bool
 is_declared k d = d.number == k
 
+-- whether this token is the name after the END of the entry
 abbrev pub is_end_name : ℕ → End → Bool
 is_end_name k e = e.number == k
 
+-- whether this token is the use of the entry
 abbrev pub is_use : ℕ → Used → Bool
 is_use k u = u.number == k
 
+-- whether this token is the name after the dot of the selector
 abbrev pub is_selected : ℕ → Selector → Bool
 is_selected k s = is_token k (name_of s.step)
 
+-- whether this token is the name after a dot that follows the use in a qualident
 abbrev pub is_second : ℕ → Used → Bool
 is_second k u = is_token k u.member
 
--- the place of the first row in which it stands, or else what the rows of other kinds tell
+-- the position that the index of the first entry for which the test holds gives, or else the other position
 abbrev pub first : {X : Type 0} → (X → Bool) → (ℕ → Standing) → List X → Standing → Standing
 first stands at rows otherwise = option_map_or at (position stands rows) otherwise
 
--- where the identifier of this token stands, by the first of these kinds of rows that has it, or else here; by the law one_context only
--- one kind has it, except that an import item's alias is also declared, and that both kinds of names behind a dot may have it
+-- the syntactic position of a token, by the first of these kinds of entries that has it, or else the given position; by the law one_context only one kind
+-- has it, except that an import item's alias is also declared, and that both kinds of names after a dot may have it
 abbrev pub standing_or : Rows → ℕ → Standing → Standing
 standing_or rows k otherwise = if k == own_name then standings.OwnName else
     first (is_alias k) standings.Item rows.imports (
@@ -65,5 +70,6 @@ standing_or rows k otherwise = if k == own_name then standings.OwnName else
     first (is_selected k) standings.Selected rows.selectors (
     first (is_second k) standings.Second rows.uses otherwise))))))
 
+-- the syntactic position of a token, Nowhere if no entry has it
 abbrev pub standing : Rows → ℕ → Standing
 standing rows k = standing_or rows k standings.Nowhere

@@ -18,14 +18,14 @@ use Rattle.ob_targets.specs.declared.known.Known.{Known}
 use Rattle.ob_targets.specs.declared.known.Known.TheVariants as knowns
 use Rattle.ob_targets.specs.Targets.{exported_target, field_target, known_of, used_target}
 
--- where a relation leads from the type that is known; nothing is known where it leads nowhere
+-- what is known after a step along a relation of types: the related type, and nothing if there is none or if no type is known before it
 pub data Follows (Leads : Node → Node → Type 0) : Known → Known → Type 0 where
   there : {n m : Node} → Leads n m → Follows Leads (knowns.Typed n) (knowns.Typed m)
   nowhere : {n : Node} → ((m : Node) → Leads n m → ⊥) → Follows Leads (knowns.Typed n) knowns.Nothing
   of_module : {at : ℕ} → Follows Leads (knowns.«Module» at) knowns.Nothing
   of_nothing : Follows Leads knowns.Nothing knowns.Nothing
 
--- the type whose name stands alone between parentheses
+-- what is known after parentheses: a type, if their only content is its name (a type guard), and otherwise nothing
 abbrev pub guard_of : World → Option TypeName → Known
 guard_of w None = knowns.Nothing
 guard_of w (Some t) = elim (named_here w t.head t.member) [
@@ -37,36 +37,36 @@ guard_of w (Some t) = elim (named_here w t.head t.member) [
   | shapes.Unknown ↦ knowns.Nothing
 ]
 
--- whether the selector at this place is the first one of its designator; those of one designator stand together
+-- whether the selector at this index is the first of its designator; the selectors of one designator are adjacent
 abbrev pub begins_designator : List Selector → ℕ → Selector → Bool
 begins_designator selectors zero s = true
 begins_designator selectors (suc i) s = elim (slice_get selectors i) [ None ↦ true | Some before ↦ not (before.of == s.of) ]
 
 module _ (w : World) where
-  -- the field that a name means at a type
+  -- the field that a name denotes at a type
   abbrev pub FindsField : Node → List ℕ → Field → Type 0
   FindsField n name f = Finds same (shape w) (λ r. field_of w r name) (base_of w) [] n f
 
-  -- what a name behind a dot stands for, by what is known of what stands before the dot
+  -- the target of the name after a dot, by what is known before the dot
   pub data Selects : Known → ℕ → Target → Type 0 where
     exported : {at k : ℕ} → Selects (knowns.«Module» at) k (exported_target w at k)
     field : {n : Node} {k : ℕ} {f : Field} → FindsField n (text w k) f → Selects (knowns.Typed n) k (field_target f)
     no_field : {n : Node} {k : ℕ} → ((f : Field) → FindsField n (text w k) f → ⊥) → Selects (knowns.Typed n) k targets.Unresolved
     unknown : {k : ℕ} → Selects knowns.Nothing k targets.Unresolved
 
-  -- each expression between brackets takes one level of an array
+  -- what is known after this number of index expressions, each of which takes one level of an array
   pub data Levels : ℕ → Known → Known → Type 0 where
     none : {o : Known} → Levels 0 o o
     one : {c : ℕ} {o next last : Known} → Levels c o next → Follows (HasElement same (shape w)) next last → Levels (suc c) o last
 
-  -- what is known behind a selector, by what is known before it
+  -- what is known after a selector, by what is known before it
   pub data StepsTo (o : Known) : Step → Known → Type 0 where
     to_field : {k : ℕ} {t : Target} → Selects o k t → StepsTo o (steps.Field k) (known_of w t)
     to_elements : {c : ℕ} {next : Known} → Levels c o next → StepsTo o (steps.Elements c) next
     to_target : {next : Known} → Follows (HasTarget same (shape w)) o next → StepsTo o steps.Target next
     by_guard : {t : Option TypeName} → StepsTo o (steps.Arguments t) (guard_of w t)
 
-  -- what is known before the selector at this place
+  -- what is known before the selector at this index, from the head of its designator on
   pub data Knows : ℕ → Known → Type 0 where
     at_head : {i : ℕ} {s : Selector} → slice_get w.rows.selectors i ≡ Some s → begins_designator w.rows.selectors i s ≡ true → Knows i (known_of w (used_target w s.of))
     behind : {i : ℕ} {s t : Selector} {o next : Known} → slice_get w.rows.selectors i ≡ Some s → slice_get w.rows.selectors (suc i) ≡ Some t →

@@ -1,4 +1,4 @@
--- What names stand for, and in which roles (Oberon-07 report, sections 4, 6.1, 8.1, 9.1 and 11).
+-- The targets of names, and the roles of their uses (Oberon-07 report, sections 4, 6.1, 8.1, 9.1 and 11).
 use Rattle.std.specs.Prelude.{ℕ, ◌==◌, List, Option, Some, None, Bool, true, false, ◌&&◌, if◌then◌else◌, nat_eq}
 use Rattle.std.specs.List.{filter, fold, list_any}
 use Rattle.std.specs.Option.{unwrap_or}
@@ -21,20 +21,20 @@ use Rattle.ob_targets.specs.declared.known.Known.TheVariants as knowns
 
 -- ---- targets
 
--- what a declaration is to the uses that mean it: an alias stands for its module
+-- the target of the uses that mean a declaration: the module for an import item's alias, otherwise the declaration itself
 abbrev pub declared_target : World → ℕ → Target
 declared_target w d = elim (item_of w d) [ None ↦ targets.Declared d | Some at ↦ targets.«Module» at ]
 
--- what a use stands for: what the scope rule gives it, or else a predeclared name
+-- the target of a use: what the scope rule gives it, or else a predeclared name, or else Unresolved
 abbrev pub used_target : World → ℕ → Target
 used_target w k = elim (meaning w k) [ Some d ↦ declared_target w d | None ↦ if is_predeclared (text w k) then targets.Predeclared else targets.Unresolved ]
 
--- what a name behind a dot stands for, if a module stands before the dot: what that module exports under this name; the name itself,
--- if the module isn't in the tree
+-- the target of a name after a module and a dot: what the module exports under this name, Unresolved if it exports none, or the name itself if the
+-- module isn't in the tree
 abbrev pub exported_target : World → ℕ → ℕ → Target
 exported_target w at k = elim (home_of w at) [ None ↦ targets.External at k | Some i ↦ elim (exported w i (text w k)) [ None ↦ targets.Unresolved | Some d ↦ targets.Imported i d ] ]
 
--- what the second identifier of a qualident stands for
+-- the target of the second identifier of a qualident, by the target of the first
 abbrev pub second_target : World → ℕ → Target → Target
 second_target w k (targets.«Module» at) = exported_target w at k
 second_target w k (targets.Declared d) = targets.Unresolved
@@ -44,18 +44,19 @@ second_target w k targets.Own = targets.Unresolved
 second_target w k targets.Predeclared = targets.Unresolved
 second_target w k targets.Unresolved = targets.Unresolved
 
--- what the name behind END stands for: its procedure or the module
+-- the target of the name after END: its procedure, or the module
 abbrev pub end_target : Option ℕ → Target
 end_target None = targets.Own
 end_target (Some k) = targets.Declared k
 
+-- the target of a name that denotes this field
 abbrev pub field_target : Field → Target
 field_target (fields.Own k) = targets.Declared k
 field_target (fields.Other i d) = targets.Imported i d
 
 -- ---- what is known of a target
 
--- variables, parameters and fields hold values
+-- whether a declaration of this kind holds a value: a variable, a parameter or a field
 abbrev pub holds_value : Sort → Bool
 holds_value sorts.Import = false
 holds_value sorts.Constant = false
@@ -65,12 +66,13 @@ holds_value sorts.Procedure = false
 holds_value sorts.Parameter = true
 holds_value sorts.Field = true
 
--- of what holds a value its declared type
+-- what is known of a declaration of this kind and type: its type, if it holds a value
 abbrev pub typed : Option Sort → Option Node → Known
 typed None form = knowns.Nothing
 typed (Some s) None = knowns.Nothing
 typed (Some s) (Some n) = if holds_value s then knowns.Typed n else knowns.Nothing
 
+-- what is known of a target: the module, or the declared type of what holds a value, and otherwise nothing
 abbrev pub known_of : World → Target → Known
 known_of w (targets.Declared k) = typed (sort_of w k) (form_of w k)
 known_of w (targets.Imported i d) = typed (sort_there w i d) (Some (nodes.Other i d 0))
@@ -82,27 +84,28 @@ known_of w targets.Unresolved = knowns.Nothing
 
 -- ---- roles
 
--- the selectors of a designator, in order
+-- the selectors of the designator with this head, in order
 abbrev pub selectors_of : Rows → ℕ → List Selector
 selectors_of rows head = filter (λ (s : Selector). nat_eq s.of head) rows.selectors
 
--- the last name of a designator that no brackets enclose: of its selectors the last name behind a dot, or else its head
+-- the last name of a designator that no brackets enclose: the last name after a dot among its selectors, or else its head
 abbrev pub last_name : ℕ → List Selector → ℕ
 last_name head selectors = fold (λ last (s : Selector). unwrap_or (name_of s.step) last) head selectors
 
--- whether a designator stands on the left side of an assignment or is the variable of a FOR, and this is its last name
+-- whether the designator is the left side of an assignment or the variable of a FOR, and the token is its last name
 abbrev pub writes : Rows → ℕ → Designator → Bool
 writes rows k d = d.is_written && (last_name d.head (selectors_of rows d.head) == k)
 
+-- whether the token is the last name of a designator that is written
 abbrev pub is_written : Rows → ℕ → Bool
 is_written rows k = list_any (writes rows k) rows.designators
 
--- what holds a value is written (4) or else read (8)
+-- the role of a use of a declaration of this kind: if it holds a value, 4 if it is written and 8 if it is read, and otherwise 0
 abbrev pub value_role : Option Sort → Bool → ℕ
 value_role None written = 0
 value_role (Some s) written = if holds_value s then (if written then 4 else 8) else 0
 
--- the role of a use of what holds a value; 0 of all other uses
+-- the role of a use of a target: 4 (written) or 8 (read) if it holds a value, and otherwise 0
 abbrev pub use_role : World → Target → Bool → ℕ
 use_role w (targets.Declared k) written = value_role (sort_of w k) written
 use_role w (targets.Imported i d) written = value_role (sort_there w i d) written

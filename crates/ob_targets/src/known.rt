@@ -1,14 +1,14 @@
-//! What is known of a part of a designator.
+//! What is known of a designator while its selectors are followed.
 
 use ob_types::Node;
 
-/// What is known of a designator, or of a part of it from its head on.
+/// What is known of a prefix of a designator: of its head and its first selectors.
 #[derive(Clone, Copy, Drop)]
 pub enum Known {
-    /// Nothing.
+    /// Neither a module nor a type.
     Nothing,
-    /// It is the module that the import item at this place names.
+    /// It denotes the module that the import item at this index names.
     Module(u32),
-    /// Its type.
+    /// It denotes a value of this type.
     Typed(Node),
 }

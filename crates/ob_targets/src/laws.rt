@@ -1,4 +1,4 @@
-//! Laws of what identifiers stand for. Each function is a law: its body is empty, and its contract is proved.
+//! Laws of targets, roles and references, proved as contracts of functions with an empty body.
 ghost use Rattle.std.specs.Prelude.{◌≡◌, ◌≢◌, ◌↔◌, ℕ, List, Some, Contains, map, slice_get};
 ghost use Rattle.ob_scan.specs.declared.token.Token.{Token};
 ghost use Rattle.ob_scan.specs.Texts.{text_at};
@@ -21,47 +21,58 @@ ghost use Rattle.ob_targets.specs.declared.standing.Standing.TheVariants as stan
 ghost use Rattle.ob_targets.specs.declared.target.Reference.{Reference};
 ghost use Rattle.ob_targets.specs.declared.target.Target.{Target};
 
-/// An identifier stands for at most one thing, in one role: so of a declaration, an external name or a module that it
-/// means, a predeclared name and nothing it is at most one.
+/// An identifier denotes at most one target, in at most one role.
+/// So it denotes at most one of: a declaration, a name of an external module, a module, a predeclared name, and nothing.
 pub fn one_target()
+    // Two targets of one identifier are equal.
     ensures target { (w : World) (k : ℕ) (t u : Target) (r s : ℕ) → Refers w k t r → Refers w k u s → t ≡ u }
+    // Two roles of one identifier are equal.
     ensures role { (w : World) (k : ℕ) (t u : Target) (r s : ℕ) → Refers w k t r → Refers w k u s → r ≡ s }
 {}
 
-/// Where a module has references, each of its identifiers stands for what is declared, or is predeclared, or stands for nothing, in
-/// some role: so by `one_target` it is exactly one of these, in one role.
+/// If a module has a list of references, each of its identifiers denotes a declaration, a module, an external name, a predeclared name, or
+/// nothing, in some role.
+/// By `one_target` it is exactly one of these, in exactly one role.
 pub fn each_refers()
+    // Each identifier of a module that has references denotes a target, in a role.
     ensures { (w : World) (rs : List Reference) (k : ℕ) → AreReferences w rs → Contains (identifiers w.tokens) k → (t : Target) × (r : ℕ) × Refers w k t r }
 {}
 
-/// Of the references of a module those that stand for nothing are exactly the identifiers that do.
+/// The unresolved references of a module are exactly those of the identifiers that denote nothing.
 pub fn unresolved_identifiers()
+    // A token number is in `unresolved` of the references if and only if the token is an identifier that denotes nothing.
     ensures { (w : World) (rs : List Reference) (k : ℕ) → AreReferences w rs → Contains (unresolved rs) k ↔ StandsForNothing w k }
 {}
 
-/// A module has one list of references.
+/// A module has at most one list of references.
 pub fn one_references()
+    // Two lists of references of one module are equal.
     ensures { (w : World) (rs ss : List Reference) → AreReferences w rs → AreReferences w ss → rs ≡ ss }
 {}
 
-/// Where a tree derives the tokens, no identifier of them stands nowhere: what it stands for, or that it stands for nothing, is
-/// told by the rule of the place where it stands.
+/// If a tree derives the tokens, each identifier among them has a syntactic position.
+/// The rule of that position determines what the identifier denotes, or that it denotes nothing.
 pub fn each_stands()
+    // In the module table of a tree that derives the tokens, the syntactic position of an identifier isn't `Nowhere`.
     ensures { (tokens : List Token) (m : Module) (k : ℕ) → Derives (map (λ (t : Token). t.kind) tokens) m → Contains (identifiers tokens) k → standing (rows_of m) k ≢ standings.Nowhere }
 {}
 
-/// A token has at most one context in the rows of a tree: it is the module's own name, the name behind `:=` in an import item,
-/// a declared identifier (an import item's alias is one), the name behind END, a name that is looked up, or a name behind a dot.
+/// A token has at most one context in the module table of a tree.
+/// It is the module's own name, the name after `:=` in an import item, or a declared identifier (an import item's alias is one).
+/// Otherwise it is the name after END, a name that is looked up, or a name after a dot.
 pub fn one_context()
+    // Two contexts of one token are equal.
     ensures { (m : Module) (k : ℕ) (c d : NameContext) → HasContext (rows_of m) k c → HasContext (rows_of m) k d → c ≡ d }
 {}
 
-/// For the modules that import an accepted module, a name in its block denotes what the module's own scopes give it: a name alone
-/// the type of the block that it means, and a name before a dot the module whose alias it means.
+/// For the modules that import an accepted module, a name in its block denotes what the module's own scopes give it.
+/// An unqualified name denotes the type of the block that it means; a name before a dot denotes the module whose alias it means.
 pub fn one_scope_rule()
+    // An unqualified name denotes the type at an index of the interface if and only if it means that type by the module's own scopes.
     ensures alone { (bytes : List ℕ) (ts : List Token) (m : Module) (s : ModuleScopes) (u : Used) (w : World) (i d : ℕ) →
         IsOuterUse bytes ts m s u → slice_get w.reached i ≡ Some (interface_of bytes ts (rows_of m)) →
         (named_there w i (start_at ts u.number) u.is_target (Alone (text_at bytes ts u.number)) ≡ shapes.Named (named.Other i d) (nodes.Other i d 0)) ↔ MeansType bytes ts (rows_of m) s u.number d }
+    // A name before a dot denotes the module of this name if and only if it means an alias of that module by the module's own scopes.
     ensures qualified { (bytes : List ℕ) (ts : List Token) (m : Module) (s : ModuleScopes) (u : Used) (w : World) (i : ℕ) (name : List ℕ) →
         IsOuterUse bytes ts m s u → slice_get w.reached i ≡ Some (interface_of bytes ts (rows_of m)) →
         (named_by_alias w i (text_at bytes ts u.number) ≡ Some name) ↔ MeansAlias bytes ts (rows_of m) s u.number name }

@@ -1,6 +1,8 @@
-//! What each identifier of a module stands for, and how it is used there.
-//! Stands on `ob_types` for what modules declare, and on `type_search` for types that are followed through names.
-//! Its contract: whether a name is predeclared; its definitions say of each identifier its one target and its one role.
+//! The rules that determine what each identifier of a module denotes, and in which role (Oberon-07 report, sections 4 to 11).
+//! The rules are definitions: `Refers` has one constructor for each syntactic position of an identifier. `ob_resolve` finds the targets.
+//! Depends on `ob_types` for what modules declare, and on `type_search` for types that are followed through names.
+//! It also depends on `ob_scan`, `ob_rows`, `ob_scope` and `ob_interface` for a module's data, and on `ob_tree` and `ob_decls` for trees.
+//! The main law is `one_target`: an identifier denotes at most one target, in one role.
 #![tactic(auto)]
 
 mod known;

@@ -1,4 +1,4 @@
-//! The names that every module may use without declaring them.
+//! The predeclared names, which every module may use without declaring them.
 ghost use Rattle.std.specs.Prelude.{◌≡◌};
 ghost use Rattle.std.specs.List.{list_any};
 ghost use Rattle.std.specs.Str.{bytes_eq};
@@ -43,8 +43,10 @@ fn is_procedure(name: &[u8]) -> bool
         || name == b"UNPK".as_slice()
 }
 
-/// Whether a name is predeclared (Oberon-07 report, sections 6.1 and 10.2).
+/// Returns whether a name, given as bytes, is predeclared (Oberon-07 report, sections 6.1 and 10.2).
 pub fn is_predeclared(name: &[u8]) -> bool
+    // The result is true if and only if the name is one of the six basic types, the ten function procedures and the eight proper
+    // procedures.
     ensures { result ≡ is_predeclared name.now }
 {
     is_basic_type(name) || is_function(name) || is_procedure(name)

@@ -1,22 +1,22 @@
-//! Where an identifier stands.
+//! The syntactic positions of identifiers.
 
-/// Where an identifier stands in its module, by the place of a row among those of its kind.
+/// The syntactic position of an identifier in its module. An index is that of a module table's entry in the list of its kind.
 #[derive(Clone, Copy, Drop)]
 pub enum Standing {
-    /// Behind MODULE.
+    /// After MODULE: the module's own name.
     OwnName,
-    /// In an import item.
+    /// In the import item at this index: its alias, or the name of the imported module.
     Item(usize),
-    /// Where it is declared, by anything but an import item.
+    /// Declared by the entry at this index of the declared identifiers, and not by an import item.
     Declaration(usize),
-    /// Behind END.
+    /// After the END of the entry at this index.
     End(usize),
-    /// As a designator's head, a qualident's first identifier, a label's or the variable of a FOR.
+    /// The use at this index: the head of a designator, the first identifier of a qualident, a label, or the variable of a FOR.
     Use(usize),
-    /// Behind a dot in a designator, by the selector.
+    /// After the dot of the selector at this index, in a designator.
     Selected(usize),
-    /// Behind a dot in a qualident, by the use that is the first identifier.
+    /// After a dot in a qualident, whose first identifier is the use at this index.
     Second(usize),
-    /// In none of these.
+    /// In no entry.
     Nowhere,
 }

@@ -1,29 +1,30 @@
-//! What an identifier stands for, and how it is used.
+//! The targets of identifiers, and references.
 ghost use Rattle.std.specs.Prelude.{◌≡◌};
 ghost use Rattle.ob_targets.specs.Refers.{is_unresolved};
 
-/// What an identifier stands for.
+/// What an identifier denotes.
 #[derive(Clone, Copy, Drop)]
 pub enum Target {
-    /// What the token of this number declares, a field too.
+    /// A declaration of the module itself, also of a field, by the number of the token that it declares.
     Declared(u32),
-    /// A declaration of a module that is reached, a field too, by the places of both.
+    /// A declaration of a reached module, also of a field, by the index of the module and that of the declaration in its interface.
     Imported { reached: u32, declaration: u32 },
-    /// A name of a module that isn't in the tree, by the place of the import item that names the module and the token of the name.
+    /// A name of a module that isn't in the tree, by the index of the import item that names the module and the token number of the name.
     External { item: u32, name: u32 },
     /// The module itself.
     Own,
-    /// The module that the import item at this place names.
+    /// The module that the import item at this index names.
     Module(u32),
     /// A predeclared name.
     Predeclared,
-    /// Nothing.
+    /// Nothing: the identifier can't be resolved.
     Unresolved,
 }
 
 impl Target {
-    /// Whether it is nothing.
+    /// Returns whether the target is `Unresolved`.
     pub fn is_unresolved(&self) -> bool
+        // The result is true if and only if the target is `Unresolved`.
         ensures { result ≡ is_unresolved self.now }
     {
         match self {
@@ -38,11 +39,11 @@ impl Target {
     }
 }
 
-/// An identifier, by the number of its token, with what it stands for and the role in which it does.
+/// An identifier, by the number of its token, with its target and its role.
 #[derive(Clone, Copy, Drop)]
 pub struct Reference {
     pub number: u32,
     pub target: Target,
-    /// 1 a declaration, 2 an import, 4 written, 8 read, 0 any other use.
+    /// The role (scip.proto, `SymbolRole`): 1 a declaration, 2 an import, 4 a write, 8 a read, 0 any other use.
     pub role: u8,
 }
