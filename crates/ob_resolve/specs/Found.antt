@@ -1,4 +1,4 @@
--- What is found of a module before its identifiers are gone through, and of each of them.
+-- What is computed of a module before its identifiers are resolved, and the reference of each identifier.
 use Rattle.std.specs.Prelude.{◌≡◌, ◌<◌, ℕ, Some, length, slice_get}
 use Rattle.ob_types.specs.World.{World}
 use Rattle.ob_targets.specs.Refers.{Refers}
@@ -10,8 +10,7 @@ use Rattle.ob_resolve.specs.Selected.{AreNamed}
 use Rattle.ob_resolve.specs.Sorted.{AreSorts}
 use Rattle.ob_resolve.specs.Used.{AreUsed}
 
--- where each token stands, whether it is written, what is kept of what it is declared as, and what each use and the name of each selector
--- stand for
+-- the lists have, by token, the syntactic position, whether it is written and the kind of its declaration, and the targets of uses and selectors
 pub record IsFound (w : World) (f : Found) : Type 0 where
   pub standings : (k : ℕ) → k < length w.tokens → slice_get f.standings.items k ≡ Some (standing w.rows k)
   pub written : (k : ℕ) → k < length w.tokens → slice_get f.written.items k ≡ Some (is_written w.rows k)
@@ -19,7 +18,7 @@ pub record IsFound (w : World) (f : Found) : Type 0 where
   pub used : AreUsed w f.used.items
   pub selected : AreNamed w (length w.rows.selectors) f.selected.items
 
--- what the identifier of this token stands for, and its role
+-- the reference has this token number, and the target and the role that the rules give its identifier
 pub record IsReference (w : World) (k : ℕ) (r : Reference) : Type 0 where
   pub number : r.number ≡ k
   pub refers : Refers w k r.target r.role

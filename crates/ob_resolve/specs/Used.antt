@@ -1,10 +1,10 @@
--- What is kept of what uses stand for.
+-- The stored targets of uses.
 use Rattle.std.specs.Prelude.{◌≡◌, List, map}
 use Rattle.ob_rows.specs.declared.rows.Used.{Used}
 use Rattle.ob_types.specs.World.{World}
 use Rattle.ob_targets.specs.declared.target.Target.{Target}
 use Rattle.ob_targets.specs.Targets.{used_target}
 
--- these are the targets of all uses, in order
+-- the list has the targets of all uses, in order
 abbrev pub AreUsed : World → List Target → Type 0
 AreUsed w targets = targets ≡ map (λ (u : Used). used_target w u.number) w.rows.uses

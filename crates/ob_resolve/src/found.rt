@@ -1,4 +1,4 @@
-//! What is found of a module before its identifiers are gone through.
+//! What is computed of a module before its identifiers are resolved one by one.
 ghost use Rattle.std.specs.Prelude.{IfOk};
 ghost use Rattle.ob_resolve.specs.Found.{IsFound};
 
@@ -12,22 +12,22 @@ use ob_targets::{Standing, Target};
 use ob_types::Types;
 use std::alloc::{AllocError, Global};
 
-/// What is found of a module before its identifiers are gone through.
+/// What is computed of a module before its identifiers are resolved one by one.
 #[derive(Drop)]
 pub(crate) struct Found {
-    /// Where each token stands as an identifier.
+    /// The syntactic position of each token's identifier, by token number.
     pub(crate) standings: Vec<Standing>,
-    /// Whether each token is a name that is written.
+    /// Whether each token is a name that is written, by token number.
     pub(crate) written: Vec<bool>,
-    /// What each token is declared as, where that is kept.
+    /// The kind of each token's declaration, by token number; `None` if it isn't stored.
     pub(crate) sorts: Vec<Option<Sort>>,
-    /// What each use stands for.
+    /// The target of each use, by the use's index in the table.
     pub(crate) used: Vec<Target>,
-    /// What the name of each selector stands for.
+    /// The target of the name of each selector, by the selector's index in the table.
     pub(crate) selected: Vec<Target>,
 }
 
-/// Finds it.
+/// Computes the lists for all tokens, uses and selectors of a module. Fails with `AllocError` if an allocation fails.
 pub(crate) fn find_all(alloc: Global, types: &Types<'_>) -> Result<Found, AllocError>
     ensures { IfOk result (IsFound types.now) }
 {

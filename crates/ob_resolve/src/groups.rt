@@ -1,4 +1,4 @@
-//! The selectors of one designator after another, where designators are asked for in order.
+//! The selectors of designators that are requested in the order of their heads.
 ghost use Rattle.std.specs.Prelude.{◌≡◌, ◌<◌, ◌≤◌, ℕ, true, Some, nat_eq, slice_get, IfSome};
 ghost use Rattle.std.specs.List.{filter};
 ghost use Rattle.ob_rows.specs.Tables.{rows_in};
@@ -8,7 +8,7 @@ ghost use Rattle.ob_targets.specs.Targets.{selectors_of};
 
 use ob_rows::{Selector, Table};
 
-/// The first place from this one on whose selector is of this designator or a later one. Nothing is promised of it.
+/// The first index from `from` on whose selector belongs to this designator or a later one. It has no contract: callers check the index.
 fn place_from(selectors: &[Selector], from: usize, head: u32) -> usize {
     let mut at = from;
     'selectors: while at < selectors.len() && selectors[at].of < head {
@@ -17,7 +17,7 @@ fn place_from(selectors: &[Selector], from: usize, head: u32) -> usize {
     at
 }
 
-/// The first place from this one on whose selector is of a later designator. Nothing is promised of it.
+/// The first index from `from` on whose selector belongs to a later designator. It has no contract: callers check the index.
 fn place_behind(selectors: &[Selector], from: usize, head: u32) -> usize {
     let mut at = from;
     'selectors: while at < selectors.len() && selectors[at].of <= head {
@@ -26,7 +26,7 @@ fn place_behind(selectors: &[Selector], from: usize, head: u32) -> usize {
     at
 }
 
-/// Whether all selectors before a place are of earlier designators.
+/// Whether all selectors before an index belong to earlier designators. Selectors are sorted by head, so one comparison suffices.
 fn are_before(selectors: &[Selector], at: usize, head: u32) -> bool
     requires { RiseBy (λ (s : Row). s.of) selectors.now }
     ensures { result ≡ true → (i : ℕ) (s : Row) → i < at → slice_get selectors.now i ≡ Some s → s.of < head }
@@ -40,7 +40,7 @@ fn are_before(selectors: &[Selector], at: usize, head: u32) -> bool
     }
 }
 
-/// Whether no selector from a place on is of an earlier designator.
+/// Whether no selector from an index on belongs to an earlier designator. Selectors are sorted by head, so one comparison suffices.
 fn are_from(selectors: &[Selector], at: usize, head: u32) -> bool
     requires { RiseBy (λ (s : Row). s.of) selectors.now }
     ensures { result ≡ true → (i : ℕ) (s : Row) → at ≤ i → slice_get selectors.now i ≡ Some s → head ≤ s.of }
@@ -51,7 +51,7 @@ fn are_from(selectors: &[Selector], at: usize, head: u32) -> bool
     }
 }
 
-/// Whether no selector before a place is of a later designator.
+/// Whether no selector before an index belongs to a later designator. Selectors are sorted by head, so one comparison suffices.
 fn are_up_to(selectors: &[Selector], end: usize, head: u32) -> bool
     requires { RiseBy (λ (s : Row). s.of) selectors.now }
     ensures { result ≡ true → (i : ℕ) (s : Row) → i < end → slice_get selectors.now i ≡ Some s → s.of ≤ head }
@@ -65,7 +65,7 @@ fn are_up_to(selectors: &[Selector], end: usize, head: u32) -> bool
     }
 }
 
-/// Whether all selectors from a place on are of later designators.
+/// Whether all selectors from an index on belong to later designators. Selectors are sorted by head, so one comparison suffices.
 fn are_behind(selectors: &[Selector], end: usize, head: u32) -> bool
     requires { RiseBy (λ (s : Row). s.of) selectors.now }
     ensures { result ≡ true → (i : ℕ) (s : Row) → end ≤ i → slice_get selectors.now i ≡ Some s → head < s.of }
@@ -76,7 +76,7 @@ fn are_behind(selectors: &[Selector], end: usize, head: u32) -> bool
     }
 }
 
-/// The selectors from one place to another, if they are all those of the designator with this head.
+/// The selectors from index `at` to index `end`, if these are all selectors of the designator with this head.
 fn group_there(selectors: &[Selector], at: usize, end: usize, head: u32) -> Option<&[Selector]>
     requires { RiseBy (λ (s : Row). s.of) selectors.now }
     ensures { IfSome result (λ g. g.now ≡ filter (λ (s : Row). nat_eq s.of head) selectors.now) }
@@ -95,7 +95,8 @@ fn group_there(selectors: &[Selector], at: usize, end: usize, head: u32) -> Opti
     }
 }
 
-/// The selectors of the designator with this head. They are looked for behind those of the last one.
+/// The selectors of the designator with this head. The search begins after the selectors of the last request; a wrong guess costs a binary
+/// search.
 pub(crate) fn selectors_near<'a>(table: &'a Table, near: &mut usize, head: u32) -> &'a [Selector]
     ensures { result.now ≡ selectors_of (rows_in table.now) head }
 {

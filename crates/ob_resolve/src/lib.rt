@@ -1,6 +1,9 @@
-//! What each identifier of a module refers to, and its role there.
-//! Stands on `ob_targets` for the rules, on `ob_types` for modules and their types, and on `type_search`.
-//! Its contract: `references` answers all identifiers in order, each with exactly the target and the role that the rules give it.
+//! Finds what each identifier of a module denotes, and in which role.
+//! A pass over each list of the module table gives the syntactic positions of tokens and the targets of uses and selectors.
+//! Each identifier then gets its target from these lists.
+//! Depends on `ob_targets` for the rules, on `ob_types` for modules and their types, and on `ob_scan` and `ob_rows` for tokens and tables.
+//! It also depends on `type_search` to follow the types of designators.
+//! The main call is `references`. It promises all identifiers in order, each with exactly the target and the role that the rules give it.
 #![tactic(auto)]
 
 mod found;

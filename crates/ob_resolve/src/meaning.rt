@@ -1,4 +1,4 @@
-//! What names stand for, what is known of that, and their roles.
+//! The targets of names, what is known of a target, and the roles of uses.
 ghost use Rattle.std.specs.Prelude.{◌≡◌};
 ghost use Rattle.ob_targets.specs.Targets.{declared_target, used_target, exported_target, second_target, end_target, field_target, known_of, typed, holds_value, use_role, value_role};
 ghost use Rattle.ob_targets.specs.Steps.{guard_of};
@@ -11,7 +11,7 @@ use ob_targets::{Known, Target, is_predeclared};
 use ob_types::{Field, Node, Types};
 use type_search::Shape;
 
-/// What a declaration is to the uses that mean it.
+/// The target of the uses that mean a declaration: the module for an import item's alias, otherwise the declaration itself.
 fn declared_target(types: &Types<'_>, declared: u32) -> Target
     ensures { result ≡ declared_target types.now declared }
 {
@@ -21,7 +21,7 @@ fn declared_target(types: &Types<'_>, declared: u32) -> Target
     }
 }
 
-/// What a use stands for that means this. It is laid out where all uses are gone through.
+/// The target of a use whose meaning is already known. Inlined into the loop over all uses.
 #[inline(always)]
 fn target_meant(types: &Types<'_>, used: u32, meant: Option<u32>) -> Target
     requires { meant ≡ meaning types.now used }
@@ -39,21 +39,21 @@ fn target_meant(types: &Types<'_>, used: u32, meant: Option<u32>) -> Target
     }
 }
 
-/// What a use stands for.
+/// The target of a use.
 pub(crate) fn used_target(types: &Types<'_>, used: u32) -> Target
     ensures { result ≡ used_target types.now used }
 {
     target_meant(types, used, types.meaning(used))
 }
 
-/// The same, without a search where uses are asked for in order.
+/// The target of a use, for uses that are requested in order: the search begins at the hint `near`.
 pub(crate) fn used_near(types: &Types<'_>, near: &mut usize, used: u32) -> Target
     ensures { result ≡ used_target types.now used }
 {
     target_meant(types, used, types.meaning_near(near, used))
 }
 
-/// What a name behind the dot stands for that a module's alias stands before.
+/// The target of a name after the alias of an import item and a dot.
 pub(crate) fn exported_target(types: &Types<'_>, item: u32, name: u32) -> Target
     ensures { result ≡ exported_target types.now item name }
 {
@@ -69,7 +69,7 @@ pub(crate) fn exported_target(types: &Types<'_>, item: u32, name: u32) -> Target
     }
 }
 
-/// What the second identifier of a qualident stands for, by what the first does.
+/// The target of the second identifier of a qualident, by the target of the first.
 pub(crate) fn second_target(types: &Types<'_>, name: u32, first: Target) -> Target
     ensures { result ≡ second_target types.now name first }
 {
@@ -84,7 +84,7 @@ pub(crate) fn second_target(types: &Types<'_>, name: u32, first: Target) -> Targ
     }
 }
 
-/// What the name behind END stands for.
+/// The target of the name after END, by the token that its procedure declares, or `None` for the module's end.
 pub(crate) fn end_target(of: Option<u32>) -> Target
     ensures { result ≡ end_target of }
 {
@@ -94,7 +94,7 @@ pub(crate) fn end_target(of: Option<u32>) -> Target
     }
 }
 
-/// What a field's name stands for.
+/// The target of a name that denotes this field.
 pub(crate) fn field_target(field: Field) -> Target
     ensures { result ≡ field_target field }
 {
@@ -110,7 +110,7 @@ pub(crate) fn field_target(field: Field) -> Target
     }
 }
 
-/// Whether what is declared as this holds a value.
+/// Whether a declaration of this kind holds a value.
 fn holds_value(sort: Sort) -> bool
     ensures { result ≡ holds_value sort }
 {
@@ -120,7 +120,7 @@ fn holds_value(sort: Sort) -> bool
     }
 }
 
-/// What is known of what is declared as this, with this type.
+/// What is known of a declaration of this kind and type.
 fn typed(sort: Option<Sort>, node: Option<Node>) -> Known
     ensures { result ≡ typed sort node }
 {
@@ -139,7 +139,7 @@ fn typed(sort: Option<Sort>, node: Option<Node>) -> Known
     }
 }
 
-/// What is known of an identifier of the module that is declared as this. Only what holds a value has its type looked up.
+/// What is known of a declaration of the module, by its kind. The type is looked up only if the declaration holds a value.
 fn known_here(types: &Types<'_>, sort: Option<Sort>, declared: u32) -> Known
     ensures { result ≡ typed sort (form_of types.now declared) }
 {
@@ -155,7 +155,7 @@ fn known_here(types: &Types<'_>, sort: Option<Sort>, declared: u32) -> Known
     }
 }
 
-/// What is known of a target. It is laid out where selectors are gone through.
+/// What is known of a target. Inlined into the loop over all selectors.
 #[inline(always)]
 pub(crate) fn known_of(types: &Types<'_>, sorts: &[Option<Sort>], target: Target) -> Known
     requires { AreSorts types.now sorts.now }
@@ -184,7 +184,7 @@ pub(crate) fn known_of(types: &Types<'_>, sorts: &[Option<Sort>], target: Target
     }
 }
 
-/// The type whose name stands alone between parentheses, if it is one.
+/// What is known after parentheses: the type, if their only content is its name (a type guard).
 pub(crate) fn guard_of(types: &Types<'_>, guard: Option<TypeName>) -> Known
     ensures { result ≡ guard_of types.now guard }
 {
@@ -204,7 +204,7 @@ pub(crate) fn guard_of(types: &Types<'_>, guard: Option<TypeName>) -> Known
     }
 }
 
-/// The role of a use of what is declared as this.
+/// The role of a use of a declaration of this kind.
 fn value_role(sort: Option<Sort>, written: bool) -> u8
     ensures { result ≡ value_role sort written }
 {
@@ -220,7 +220,7 @@ fn value_role(sort: Option<Sort>, written: bool) -> u8
     }
 }
 
-/// The role of a use of a target.
+/// The role of a use, by its target and by whether it is written.
 pub(crate) fn use_role(
     types: &Types<'_>,
     sorts: &[Option<Sort>],

@@ -12,8 +12,7 @@ use ob_types::Types;
 use std::alloc::{AllocError, Global};
 use std::marker::Model;
 
-/// The references of a module: all its identifiers in order, each with what it stands for and its role. A contract sees the
-/// list.
+/// The references of a module: all its identifiers in order, each with its target and its role. In contracts it is the list of references.
 #[derive(Drop)]
 pub struct Refs {
     rows: Vec<Reference>,
@@ -29,15 +28,17 @@ impl Model for Refs {
 }
 
 impl Refs {
-    /// The references as a slice.
+    /// Returns the references as a slice.
     pub fn as_slice(&self) -> &[Reference]
+        // The slice has exactly the references of the list.
         ensures { result.now ≡ self.now }
     {
         self.rows.as_slice()
     }
 
-    /// The numbers of the tokens that stand for nothing, in order.
+    /// Returns the numbers of the tokens that denote nothing, in order. Fails with `AllocError` if an allocation fails.
     pub fn unresolved(&self) -> Result<Vec<u32>, AllocError>
+        // With `Ok` the list has exactly the token numbers of the references whose target is `Unresolved`, in order.
         ensures { IfOk result (λ v. v.items ≡ unresolved self.now) }
     {
         self.rows
@@ -55,7 +56,8 @@ fn is_identifier(kind: Kind) -> bool
     matches!(kind, Kind::Ident)
 }
 
-/// The place of a token as a number of 32 bits: no place is beyond the token's offset.
+/// A token's index as a number of 32 bits. It fits, because the starts of tokens are increasing offsets of 32 bits: no index is above its
+/// token's start.
 fn token_number(tokens: &[Token], place: usize) -> u32
     requires within { place < length tokens.now }
     requires ascend { AscendBy (λ (t : TokenSeen). t.start) tokens.now }
@@ -65,9 +67,12 @@ fn token_number(tokens: &[Token], place: usize) -> u32
     place as u32
 }
 
-/// What each identifier of a module stands for, and its role: a declaration, an import, written, read, or any other use
-/// (Oberon-07 report, sections 4 to 11; roles as in scip.proto). Refused only where memory runs out.
+/// Finds what each identifier of a module denotes, and its role (Oberon-07 report, sections 4 to 11).
+/// The role is 1 for a declaration, 2 for an import, 4 for a write, 8 for a read, and 0 for any other use (scip.proto, `SymbolRole`).
+/// Fails with `AllocError` if an allocation fails, and never otherwise.
 pub fn references(alloc: Global, types: &Types<'_>) -> Result<Refs, AllocError>
+    // With `Ok` the list has all identifiers of the module, each once and in order, each with the target and the role that the rules give
+    // it.
     ensures exact { IfOk result (AreReferences types.now) }
 {
     types.keeps();

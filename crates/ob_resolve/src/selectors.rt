@@ -1,4 +1,4 @@
-//! What the names behind the dots of designators stand for.
+//! The targets of the names after the dots of designators.
 ghost use Rattle.std.specs.Prelude.{◌≡◌, ◌<◌, IfOk, Some, length};
 ghost use Rattle.ob_rows.specs.declared.rows.Step.TheVariants as steps;
 ghost use Rattle.ob_targets.specs.Steps.{begins_designator, Knows};
@@ -15,14 +15,14 @@ use ob_types::Types;
 use std::alloc::{AllocError, Global};
 use type_search::Finder;
 
-/// What a selector leads to: what its name stands for, if it is a dot and a name, and what is known behind it.
+/// The result of following a selector: the target of its name, `Unresolved` if it has none, and what is known after it.
 #[derive(Clone, Copy, Drop)]
 pub(crate) struct Led {
     pub(crate) target: Target,
     pub(crate) known: Known,
 }
 
-/// Whether the selector at this place is the first one of its designator.
+/// Whether the selector at this index is the first of its designator.
 fn begins_designator(selectors: &[Selector], place: usize, selector: Selector) -> bool
     ensures { result ≡ begins_designator selectors.now place selector }
 {
@@ -35,7 +35,7 @@ fn begins_designator(selectors: &[Selector], place: usize, selector: Selector) -
     }
 }
 
-/// What a dot and a name lead to.
+/// Follows a dot and a name.
 fn led_by_name(
     finder: &mut Finder<'_, Types<'_>>,
     sorts: &[Option<Sort>],
@@ -53,7 +53,7 @@ fn led_by_name(
     })
 }
 
-/// What a selector leads to.
+/// Follows a selector.
 fn taken(
     finder: &mut Finder<'_, Types<'_>>,
     sorts: &[Option<Sort>],
@@ -76,7 +76,7 @@ fn taken(
     })
 }
 
-/// What is known before the selector at this place, by what is known behind the one before it.
+/// What is known before the selector at this index, by what is known after the selector before it.
 fn known_before(
     types: &Types<'_>,
     sorts: &[Option<Sort>],
@@ -101,7 +101,7 @@ fn known_before(
     }
 }
 
-/// What the names behind the dots of all designators stand for, by the places of their selectors.
+/// The targets of the names of all selectors, by the selectors' indices. Fails with `AllocError` if an allocation fails.
 pub(crate) fn selected_targets(
     alloc: Global,
     types: &Types<'_>,

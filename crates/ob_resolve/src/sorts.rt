@@ -1,4 +1,4 @@
-//! What the module's own identifiers are declared as, found once for all their uses.
+//! The kinds of the module's own declarations, looked up once for all their uses.
 ghost use Rattle.std.specs.Prelude.{◌≡◌, IfOk, None, length, replicate};
 ghost use Rattle.ob_types.specs.World.{sort_of};
 ghost use Rattle.ob_resolve.specs.Sorted.{AreSorts};
@@ -7,7 +7,7 @@ use ob_rows::Sort;
 use ob_types::Types;
 use std::alloc::{AllocError, Global};
 
-/// Keeps what a token is declared as, if it is one of the first.
+/// Stores the kind of a token's declaration, if the token has an element in the list.
 fn keep_sort(types: &Types<'_>, sorts: &mut [Option<Sort>], declared: u32)
     requires { AreSorts types.now sorts.old }
     ensures { AreSorts types.now sorts.new }
@@ -17,7 +17,7 @@ fn keep_sort(types: &Types<'_>, sorts: &mut [Option<Sort>], declared: u32)
     }
 }
 
-/// Keeps what each declared identifier is declared as.
+/// Stores the kind of each declared identifier.
 fn keep_sorts(types: &Types<'_>, sorts: &mut [Option<Sort>])
     requires { sorts.old ≡ replicate (length sorts.old) None }
     ensures { AreSorts types.now sorts.new }
@@ -27,8 +27,8 @@ fn keep_sorts(types: &Types<'_>, sorts: &mut [Option<Sort>])
     }
 }
 
-/// What each of the first tokens, so many, is declared as, by the token. Uses are many more than declarations, and each would
-/// look the same up.
+/// The kinds of the declarations of the first `count` tokens, by token number.
+/// A module has many more uses than declarations, and each use would repeat the lookup.
 pub(crate) fn sorts_of(
     alloc: Global,
     types: &Types<'_>,
@@ -41,7 +41,7 @@ pub(crate) fn sorts_of(
     Ok(sorts)
 }
 
-/// What a token is declared as: what is kept of it, or what the module's rows say.
+/// The kind of a token's declaration: the stored one, or else the one that a lookup in the module table finds.
 pub(crate) fn sort_of(types: &Types<'_>, sorts: &[Option<Sort>], declared: u32) -> Option<Sort>
     requires { AreSorts types.now sorts.now }
     ensures { result ≡ sort_of types.now declared }

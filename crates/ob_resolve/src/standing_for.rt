@@ -1,4 +1,4 @@
-//! What one identifier stands for, by where it stands.
+//! The reference of one identifier, by its syntactic position.
 ghost use Rattle.std.specs.Prelude.{◌≡◌, ◌<◌, ℕ, length};
 ghost use Rattle.ob_rows.specs.Order.{AscendBy};
 ghost use Rattle.ob_rows.specs.declared.rows.Import.{Import as ImportRow};
@@ -15,7 +15,8 @@ use ob_rows::Import;
 use ob_targets::{Reference, Standing, Target};
 use ob_types::Types;
 
-/// The place of an import item as a number of 32 bits: no place is beyond its alias's token.
+/// An import item's index as a number of 32 bits. It fits, because aliases are increasing token numbers of 32 bits: no index is above its
+/// alias.
 fn item_number(imports: &[Import], place: usize) -> u32
     requires within { place < length imports.now }
     requires ascend { AscendBy (λ (i : ImportRow). i.alias) imports.now }
@@ -25,7 +26,7 @@ fn item_number(imports: &[Import], place: usize) -> u32
     place as u32
 }
 
-/// The module that the import item at this place names.
+/// The module that the import item at this index names, as a target.
 fn module_at(types: &Types<'_>, place: usize) -> Target
     requires { place < length types.now.rows.imports }
     ensures { result ≡ targets.«Module» place }
@@ -35,7 +36,7 @@ fn module_at(types: &Types<'_>, place: usize) -> Target
     Target::Module(item_number(table.imports(), place))
 }
 
-/// The identifier of an import item.
+/// The reference of an identifier in an import item.
 fn imported(types: &Types<'_>, number: u32, item: usize) -> Reference
     requires { standing types.now.rows number ≡ standings.Item item }
     ensures { IsReference types.now number result }
@@ -47,7 +48,7 @@ fn imported(types: &Types<'_>, number: u32, item: usize) -> Reference
     }
 }
 
-/// The name behind END.
+/// The reference of the name after END.
 fn ending(types: &Types<'_>, number: u32, end: usize) -> Reference
     requires { standing types.now.rows number ≡ standings.End end }
     ensures { IsReference types.now number result }
@@ -60,7 +61,7 @@ fn ending(types: &Types<'_>, number: u32, end: usize) -> Reference
     }
 }
 
-/// An identifier that is looked up.
+/// The reference of an identifier that is looked up.
 fn used(types: &Types<'_>, found: &Found, number: u32, place: usize, written: bool) -> Reference
     requires found { IsFound types.now found.now }
     requires written { written ≡ is_written types.now.rows number }
@@ -74,7 +75,7 @@ fn used(types: &Types<'_>, found: &Found, number: u32, place: usize, written: bo
     }
 }
 
-/// A name behind a dot in a designator, by its selector.
+/// The reference of a name after a dot in a designator, by the index of its selector.
 fn selected(
     types: &Types<'_>,
     found: &Found,
@@ -95,7 +96,7 @@ fn selected(
     }
 }
 
-/// A name behind a dot in a qualident, by the use before the dot.
+/// The reference of a name after a dot in a qualident, by the index of the use before the dot.
 fn second(types: &Types<'_>, found: &Found, number: u32, first: usize) -> Reference
     requires found { IsFound types.now found.now }
     requires stands { standing types.now.rows number ≡ standings.Second first }
@@ -111,7 +112,7 @@ fn second(types: &Types<'_>, found: &Found, number: u32, first: usize) -> Refere
     }
 }
 
-/// What the identifier of this token stands for, and its role.
+/// The reference of the identifier with this token number: its target and its role.
 pub(crate) fn referred(types: &Types<'_>, found: &Found, number: u32) -> Reference
     requires found { IsFound types.now found.now }
     requires within { number < length types.now.tokens }

@@ -1,4 +1,4 @@
-//! Where each identifier stands, by its token.
+//! The syntactic positions of all identifiers, by token number.
 ghost use Rattle.std.specs.Prelude.{◌≡◌, ◌<◌, ℕ, Bool, IfOk, Some, slice_get};
 ghost use Rattle.ob_rows.specs.Tables.{rows_in};
 ghost use Rattle.ob_targets.specs.Standing.{is_token, is_alias, is_imported_name, is_declared, is_end_name, is_use, is_selected, is_second, name_of, standing, standing_or};
@@ -10,7 +10,7 @@ use ob_rows::{Declared, End, Import, Selector, Step, Table, Used};
 use ob_targets::Standing;
 use std::alloc::{AllocError, Global};
 
-/// Rows of one kind, in each of which an identifier stands.
+/// A kind of table entries, each of which has an identifier or none.
 trait Places {
     type Row: Copy + Drop;
 
@@ -18,11 +18,11 @@ trait Places {
 
     ghost at: { ℕ → StandingSeen };
 
-    /// The identifier, if the row has one.
+    /// The token number of the entry's identifier, if it has one.
     fn number(row: Self::Row) -> Option<u32>
         ensures { (k : ℕ) → has k row ≡ is_token k result };
 
-    /// Where it stands, by the row's place.
+    /// The identifier's syntactic position, by the index of the entry.
     fn standing(place: usize) -> Standing
         ensures { result ≡ at place };
 }
@@ -153,7 +153,7 @@ impl Places for SecondNames {
     }
 }
 
-/// The name that a selector selects, if it is a dot and a name.
+/// The token number of the name that a selector selects, if the selector is a dot and a name.
 pub(crate) fn name_of(step: Step) -> Option<u32>
     ensures { result ≡ name_of step }
 {
@@ -165,7 +165,8 @@ pub(crate) fn name_of(step: Step) -> Option<u32>
     }
 }
 
-/// Marks each identifier that stands in one of these rows with the first one's place.
+/// Records the syntactic positions of the identifiers of these entries. The loop runs backward, so of several entries with one identifier
+/// the first counts.
 fn mark<P: Places>(marks: &mut [Standing], rows: &[P::Row])
     ensures { IsMarked P.has P.at rows.now marks.old marks.new }
 {
@@ -180,7 +181,8 @@ fn mark<P: Places>(marks: &mut [Standing], rows: &[P::Row])
     }
 }
 
-/// Marks where identifiers stand: each kind of rows goes before those that were marked earlier.
+/// Records the syntactic positions of all identifiers. A later pass overwrites the positions of earlier ones, so the passes run in
+/// ascending priority.
 fn mark_all(marks: &mut [Standing], table: &Table)
     ensures { (k : ℕ) (s : StandingSeen) → slice_get marks.old k ≡ Some s → slice_get marks.new k ≡ Some (standing_or (rows_in table.now) k s) }
 {
@@ -196,7 +198,8 @@ fn mark_all(marks: &mut [Standing], table: &Table)
     }
 }
 
-/// Where each token stands as an identifier, for so many tokens.
+/// The syntactic positions of the first `count` tokens, `Nowhere` for a token that no entry has. Fails with `AllocError` if an allocation
+/// fails.
 pub(crate) fn standings(
     alloc: Global,
     table: &Table,

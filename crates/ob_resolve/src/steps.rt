@@ -1,4 +1,4 @@
-//! Steps along a designator.
+//! What is known after the selectors of a designator.
 ghost use Rattle.std.specs.Prelude.{◌≡◌, IfOk};
 ghost use Rattle.type_search.specs.Searches.{HasElement, HasTarget};
 ghost use Rattle.ob_types.specs.Same.{same};
@@ -12,7 +12,7 @@ use ob_types::{Node, Types};
 use std::alloc::AllocError;
 use type_search::Finder;
 
-/// What a field's name stands for at a type.
+/// The target of a field's name at a type, `Unresolved` if the type has no field of this name.
 fn field_at(finder: &mut Finder<'_, Types<'_>>, node: Node, name: u32) -> Result<Target, AllocError>
     ensures types { finder.new ≡ finder.old }
     ensures selects { IfOk result (Selects finder.old (knowns.Typed node) name) }
@@ -24,7 +24,7 @@ fn field_at(finder: &mut Finder<'_, Types<'_>>, node: Node, name: u32) -> Result
     }
 }
 
-/// What a name behind a dot stands for.
+/// The target of the name after a dot, by what is known before the dot.
 pub(crate) fn selected(
     finder: &mut Finder<'_, Types<'_>>,
     known: Known,
@@ -40,7 +40,7 @@ pub(crate) fn selected(
     }
 }
 
-/// What is known of an element of what is known.
+/// What is known of an element, by what is known of the array.
 fn element_of(finder: &mut Finder<'_, Types<'_>>, known: Known) -> Result<Known, AllocError>
     ensures types { finder.new ≡ finder.old }
     ensures follows { IfOk result (Follows (HasElement same (shape finder.old)) known) }
@@ -55,7 +55,7 @@ fn element_of(finder: &mut Finder<'_, Types<'_>>, known: Known) -> Result<Known,
     }
 }
 
-/// What is known behind so many expressions between brackets.
+/// What is known after `count` index expressions, by what is known before them.
 pub(crate) fn elements_of(
     finder: &mut Finder<'_, Types<'_>>,
     known: Known,
@@ -71,7 +71,7 @@ pub(crate) fn elements_of(
     Ok(at)
 }
 
-/// What is known of the target of what is known.
+/// What is known of a pointer's target, by what is known of the pointer.
 pub(crate) fn target_of(
     finder: &mut Finder<'_, Types<'_>>,
     known: Known,

@@ -1,4 +1,4 @@
-//! What the uses of a module stand for, found once for all that ask for it.
+//! The targets of a module's uses, found once for all lookups.
 ghost use Rattle.std.specs.Prelude.{◌≡◌, IfOk, IfSome};
 ghost use Rattle.ob_targets.specs.Targets.{used_target};
 ghost use Rattle.ob_resolve.specs.Used.{AreUsed};
@@ -8,7 +8,7 @@ use ob_targets::{Standing, Target};
 use ob_types::Types;
 use std::alloc::{AllocError, Global};
 
-/// What all uses stand for, by their places. They are looked up in order, so none of them is searched for.
+/// The targets of all uses, by their indices. The uses are looked up in order, so a hint replaces each search.
 pub(crate) fn used_targets(alloc: Global, types: &Types<'_>) -> Result<Vec<Target>, AllocError>
     ensures { IfOk result (λ v. AreUsed types.now v.items) }
 {
@@ -21,7 +21,7 @@ pub(crate) fn used_targets(alloc: Global, types: &Types<'_>) -> Result<Vec<Targe
     Ok(targets)
 }
 
-/// What is kept of a use, if the row at this place is of it.
+/// The stored target of a use, if the entry at this index has its token number.
 fn kept_at(types: &Types<'_>, used: &[Target], at: usize, number: u32) -> Option<Target>
     requires { AreUsed types.now used.now }
     ensures { IfSome result (λ t. t ≡ used_target types.now number) }
@@ -34,7 +34,7 @@ fn kept_at(types: &Types<'_>, used: &[Target], at: usize, number: u32) -> Option
     }
 }
 
-/// What a use stands for: what is kept of it at this place, or what its name means.
+/// The target of a use: the stored one at this index, or else the one that a lookup of its meaning finds.
 pub(crate) fn used_at(types: &Types<'_>, used: &[Target], at: usize, number: u32) -> Target
     requires { AreUsed types.now used.now }
     ensures { result ≡ used_target types.now number }
@@ -45,7 +45,7 @@ pub(crate) fn used_at(types: &Types<'_>, used: &[Target], at: usize, number: u32
     }
 }
 
-/// What a use stands for, by where its token stands.
+/// The target of a use, by the syntactic position of its token.
 pub(crate) fn used_by(
     types: &Types<'_>,
     standings: &[Standing],

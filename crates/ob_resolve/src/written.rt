@@ -1,4 +1,4 @@
-//! The names that are written.
+//! The names that are written: by assignments, and by FOR statements.
 ghost use Rattle.std.specs.Prelude.{◌≡◌, ◌<◌, ℕ, IfOk, Some, false, length, replicate, slice_get};
 ghost use Rattle.ob_rows.specs.Tables.{rows_in};
 ghost use Rattle.ob_resolve.specs.Marked.{with_mark};
@@ -10,7 +10,7 @@ use crate::standings::name_of;
 use ob_rows::{Designator, Selector, Table};
 use std::alloc::{AllocError, Global};
 
-/// The last name of a designator with this head and these selectors.
+/// The last name of the designator with this head and these selectors.
 fn last_name(head: u32, selectors: &[Selector]) -> u32
     ensures { result ≡ last_name head selectors.now }
 {
@@ -23,7 +23,7 @@ fn last_name(head: u32, selectors: &[Selector]) -> u32
     last
 }
 
-/// The name that a designator writes, if it is written; designators are asked for in order.
+/// The name that a designator writes, if it is written. Designators are requested in the order of their heads.
 fn written_by(table: &Table, near: &mut usize, designator: Designator) -> Option<u32>
     ensures { (k : ℕ) → writes (rows_in table.now) k designator ≡ is_token k result }
 {
@@ -37,7 +37,7 @@ fn written_by(table: &Table, near: &mut usize, designator: Designator) -> Option
     }
 }
 
-/// Marks a name, if there is one among these tokens.
+/// Sets the flag of this token, if there is one and the list has an element for it.
 fn mark_name(written: &mut [bool], name: Option<u32>)
     ensures { written.new ≡ with_mark name written.old }
 {
@@ -48,7 +48,7 @@ fn mark_name(written: &mut [bool], name: Option<u32>)
     }
 }
 
-/// Marks the names that are written.
+/// Sets the flags of all names that are written.
 fn mark_written(written: &mut [bool], table: &Table)
     requires { written.old ≡ replicate (length written.old) false }
     ensures { (k : ℕ) → k < length written.old → slice_get written.new k ≡ Some (is_written (rows_in table.now) k) }
@@ -61,7 +61,7 @@ fn mark_written(written: &mut [bool], table: &Table)
     }
 }
 
-/// Whether each of the first tokens, so many, is a name that is written.
+/// Whether each of the first `count` tokens is a name that is written, by token number. Fails with `AllocError` if an allocation fails.
 pub(crate) fn written_names(
     alloc: Global,
     table: &Table,
