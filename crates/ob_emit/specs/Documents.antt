@@ -14,33 +14,34 @@ use Rattle.scip_symbol.specs.SymbolTexts.{PlainSymbol, plain_text}
 use Rattle.scip_index.specs.Plain.{PlainDocument, PlainOccurrence, PlainSymbol as SymbolRow}
 use Rattle.ob_emit.specs.Symbols.{symbol_of}
 
--- ---- places
+-- ---- locations
 
--- how many lines end before an offset
+-- the line of an offset, from 0: the number of line ends before it
 unfoldable pub line_number : List ℕ → ℕ → ℕ
 line_number bytes offset = count_by (ends_line bytes) (range_with_len 0 offset)
 
--- how far an offset stands behind the last line end before it
+-- the column of an offset, from 0: the number of bytes between the last line end before it and the offset
 unfoldable pub column_of : List ℕ → ℕ → ℕ
 column_of bytes zero = 0
 column_of bytes (suc offset) = if ends_line bytes offset then 0 else column_of bytes offset + 1
 
--- a range on one line has three numbers, one over more lines four: line and column of the start, line, column of the end
+-- the numbers of a range: line and column of the start, line and column of the end; on one line the second line number is left out
 abbrev pub range_by : ℕ → ℕ → ℕ → ℕ → List ℤ
 range_by line column last end = if line == last then pos line ∷ pos column ∷ pos end ∷ [] else pos line ∷ pos column ∷ pos last ∷ pos end ∷ []
 
--- from the start of a token to the end of another
+-- the range from the start of one token to the end of another
 abbrev pub span_range : List ℕ → Token → Token → List ℤ
 span_range bytes first last = range_by (line_number bytes first.start) (column_of bytes first.start) (line_number bytes last.end) (column_of bytes last.end)
 
+-- the range from the start of the token with one number to the end of the token with another
 abbrev pub span_of : World → ℕ → ℕ → List ℤ
 span_of w first last = span_range w.bytes (token_at w.tokens first) (token_at w.tokens last)
 
--- where the token of this number stands
+-- the range of the token with this number
 abbrev pub range_of : World → ℕ → List ℤ
 range_of w k = span_of w k k
 
--- where the construct stands that declares this; a module goes from MODULE to its full stop, which is its last token
+-- the range of the construct that declares a target; the module itself goes from MODULE to its full stop, which is the last token
 abbrev pub construct_range : World → Target → List ℤ
 construct_range w (targets.Declared k) = option_map_or (λ (by : Declarer). span_of w by.first by.last) (declarer_of w k) []
 construct_range w (targets.Imported i d) = []
@@ -50,25 +51,24 @@ construct_range w (targets.«Module» item) = []
 construct_range w targets.Predeclared = []
 construct_range w targets.Unresolved = []
 
--- where the whole declaration stands, if this identifier is declared here
+-- the range of the construct that declares the target, if the reference is a declaration, and otherwise no range
 abbrev pub enclosing_range : World → Reference → List ℤ
 enclosing_range w r = if r.role == 1 then construct_range w r.target else []
 
 -- ---- the document
 
--- where an identifier stands, with the symbol of what it stands for, its role, and where what it declares stands; a predeclared or
--- unresolved one is left out
+-- the occurrence of a reference: its range, symbol string, role and enclosing range; None if its target has no symbol
 abbrev pub occurrence : World → List ℕ → Reference → Option PlainOccurrence
 occurrence w package_name r =
     option_map (λ (s : PlainSymbol). record { range = range_of w r.number; symbol = plain_text s; symbol_roles = pos r.role; enclosing_range = enclosing_range w r }) (symbol_of w package_name r.target)
 
--- the symbol of what an identifier declares, with the identifier as its name
+-- the symbol information of a reference that is a declaration, with the identifier as its display name
 abbrev pub symbol_row : World → List ℕ → Reference → Option SymbolRow
 symbol_row w package_name r =
     if r.role == 1 then option_map (λ (s : PlainSymbol). record { symbol = plain_text s; display_name = text w r.number }) (symbol_of w package_name r.target)
     else None
 
--- the document at this path with these occurrences and symbols; positions count bytes of UTF-8
+-- the document at this path with these occurrences and symbols; its language is Oberon, and its columns count bytes of UTF-8
 abbrev pub filed : List ℕ → List PlainOccurrence → List SymbolRow → PlainDocument
 filed path occurrences symbols = record {
   relative_path = path;
@@ -78,6 +78,6 @@ filed path occurrences symbols = record {
   position_encoding = pos 1;
 }
 
--- the document of a module at this path: the occurrences of its identifiers and what they declare, each in the order of the identifiers
+-- the document of a module at this path: the occurrences and the declared symbols, each in the order of the references
 abbrev pub document_of : World → List ℕ → List ℕ → List Reference → PlainDocument
 document_of w path package_name refs = filed path (filter_map (occurrence w package_name) refs) (filter_map (symbol_row w package_name) refs)

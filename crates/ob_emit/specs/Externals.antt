@@ -1,4 +1,4 @@
--- The symbols that are declared outside of a tree (scip.proto, `Index.external_symbols`).
+-- The external symbols of a tree (scip.proto, `Index.external_symbols`).
 use Rattle.std.specs.Prelude.{◌↔◌, ℕ, List, [], ◌∷◌, ◌++◌, map, Option, None, Contains, slice_get, if◌then◌else◌}
 use Rattle.std.specs.Option.{option_map, option_and_then, is_none}
 use Rattle.std.specs.List.{filter_map}
@@ -16,17 +16,17 @@ use Rattle.scip_symbol.specs.declared.kind.DescriptorKind.TheVariants.{Term}
 use Rattle.ob_emit.specs.Named.{IsName}
 use Rattle.ob_emit.specs.Symbols.{descriptor, external_symbol, global, module_path, module_symbol}
 
--- a symbol with a name to show
+-- symbol information with this display name
 abbrev pub shown : List ℕ → PlainSymbol → SymbolRow
 shown name s = record { symbol = plain_text s; display_name = name }
 
--- a module that isn't in the tree, by the import item that names it
+-- the symbol information of the module that an import item names, if the module isn't in the tree
 abbrev pub external_module : World → ℕ → Option SymbolRow
 external_module w item =
     if is_none (home_of w item) then option_and_then (λ (i : Import). option_map (shown (text w i.imported)) (module_symbol w [] item)) (slice_get w.rows.imports item)
     else None
 
--- what stands for something outside: a module that isn't in the tree, with its name, or a name of such a module, with the name itself
+-- the symbol information of a target that isn't in the tree: of a module, with its name, or of a name of a module, with the name itself
 abbrev pub external_row : World → Target → Option SymbolRow
 external_row w (targets.Declared k) = None
 external_row w (targets.Imported i d) = None
@@ -36,21 +36,22 @@ external_row w (targets.«Module» item) = external_module w item
 external_row w targets.Predeclared = None
 external_row w targets.Unresolved = None
 
--- those of a module
+-- the symbol information of the targets of a module's references that aren't in the tree, in the order of the references
 abbrev pub externals_in : World → List Reference → List SymbolRow
 externals_in w refs = filter_map (λ (r : Reference). external_row w r.target) refs
 
--- of some rows those of each symbol once, by the texts of their symbols
+-- the second list has exactly the elements of the first one, sorted by symbol string, each once
 pub record AreExternals (of rows : List SymbolRow) : Type 0 where
   pub ordered : IsStrictlySortedBy (slice_cmp nat_cmp) (map (λ (x : SymbolRow). x.symbol) rows)
   pub each : (x : SymbolRow) → Contains rows x ↔ Contains of x
 
--- ---- what rows of external symbols are, whatever modules they come from
+-- ---- external symbols of any modules
 
--- a module with its name, or a name of such a module with itself
+-- the symbol information of a module, with its name, or of a name of a module, with the name itself
 pub data IsExternalRow : SymbolRow → Type 0 where
   of_module : (n : List ℕ) → IsName n → IsExternalRow (shown n (global [] (module_path n)))
   of_name : (n name : List ℕ) → IsName n → IsName name → IsExternalRow (shown name (global [] (module_path n ++ descriptor Term name ∷ [])))
 
+-- each element is the symbol information of a module, or of a name of a module
 abbrev pub AreExternalRows : List SymbolRow → Type 0
 AreExternalRows rows = (x : SymbolRow) → Contains rows x → IsExternalRow x

@@ -1,7 +1,7 @@
--- In which line an offset stands.
+-- The line of an offset, by the starts of the lines.
 use Rattle.std.specs.Prelude.{ℕ, ◌+◌, ◌≤◌, ◌<◌, List, length, slice_index}
 
--- an offset stands in a line, by where the lines begin
+-- the offset is in this line, by the starts of all lines
 pub record IsInLine (starts : List ℕ) (line offset : ℕ) : Type 0 where
   pub within : line < length starts
   pub begun : slice_index starts line ≤ offset

@@ -1,4 +1,4 @@
--- What the texts of symbols are made from.
+-- The symbol strings that are stored, and the data from which they are made.
 use Rattle.std.specs.Prelude.{◌≡◌, ◌<◌, ℕ, List, [], ◌∷◌, ◌++◌, length, map, Option, Some, None, Bool, true, false, slice_get, nat_eq, ◌&&◌, String, Contains}
 use Rattle.std.specs.List.{flat_map}
 use Rattle.std.specs.Option.{option_map, option_eq}
@@ -24,77 +24,78 @@ use Rattle.ob_emit.specs.Symbols.{PathStep, descriptor, global, imported_symbol,
 use Rattle.ob_emit.specs.Externals.{external_module, external_row, externals_in, shown}
 use Rattle.ob_emit.specs.Named.{IsName}
 
--- a step as clauses see it
+-- a step as contracts describe it: its descriptor, without a disambiguator, and its owner
 abbrev pub step_told : StepRow → PathStep
 step_told r = record { own = descriptor r.kind r.name.now; owner = r.owner }
 
--- the names of all steps are names
+-- the name in the descriptor of each step is an identifier
 abbrev pub AreStepNames : (ℕ → Option PathStep) → Type 0
 AreStepNames steps = (k : ℕ) (s : PathStep) → steps k ≡ Some s → IsName (s.own).name
 
--- owners stand before what they own
+-- each owner has a smaller number than the field that it owns
 abbrev pub AreBefore : (ℕ → Option PathStep) → Type 0
 AreBefore steps = (k o : ℕ) (s : PathStep) → steps k ≡ Some s → s.owner ≡ Some o → o < k
 
--- the text of a path
+-- the string of a path: the plain strings of its descriptors, concatenated
 abbrev pub path_text : List PlainDescriptor → List ℕ
 path_text ds = flat_map plain_descriptor_text ds
 
--- the text has gained that of the path, if there is one
+-- with true the string has grown by that of the path, and with false there is no path
 abbrev pub IsPushed : List ℕ → List ℕ → Option (List PlainDescriptor) → Bool → Type 0
 IsPushed old new ds false = ds ≡ None
 IsPushed old new ds true = option_map (λ (path : List PlainDescriptor). old ++ path_text path) ds ≡ Some new
 
--- the texts of the first declarations of a module
+-- the list has the symbol strings of the first declarations of a module, as many as the given number
 pub record AreMade (w : World) (package_name : List ℕ) (count : ℕ) (made : List (Option (List ℕ))) : Type 0 where
   pub as_many : length made ≡ count
   pub each : (i : ℕ) (d : Declared) → i < count → slice_get w.rows.declared i ≡ Some d → slice_get made i ≡ Some (option_map plain_text (symbol_at w package_name i d))
 
--- what stands before the descriptors of a symbol
+-- the prefix of the symbol strings of a package, up to the descriptors
 abbrev pub front_text : List ℕ → List ℕ
 front_text package_name = parts_text scheme [] package_name []
 
--- what stands there where the tree is in this package
+-- the prefixes are those for a tree in this package, and for no package
 pub record AreFronts (package_name : List ℕ) (f : Fronts) : Type 0 where
   pub tree : string_bytes f.tree ≡ front_text package_name
   pub outside : string_bytes f.outside ≡ front_text []
 
--- ---- texts by what they stand for
+-- ---- symbol strings by target
 
--- each text is the one that its key has
+-- each string in the table is the one that its key has
 abbrev pub AreTextsByKey : {K S : Type 0} → (K → K → Bool) → (K → Option (List ℕ)) → IndexMap K (Option (String Global)) S → Type 0
 AreTextsByKey same text_of texts = (key : _) (text : Option (String Global)) → get same texts key ≡ Some text → option_map string_bytes text ≡ text_of key
 
--- texts of what other modules declare, with the places of the module and of the declaration
+-- each element of the list has the symbol string of the declaration that its indices name
 abbrev pub AreImported : World → List ℕ → List ImportedText → Type 0
 AreImported w package_name texts = (slot : ℕ) (row : ImportedText) → slice_get texts slot ≡ Some row → option_map string_bytes row.text ≡ option_map plain_text (imported_symbol w package_name row.reached row.declaration)
 
--- texts of modules, in the order of the import items that name them
+-- each element of the list is the symbol string of the module that the import item at its index names
 abbrev pub AreModules : World → List ℕ → List (Option (String Global)) → Type 0
 AreModules w package_name texts = (item : ℕ) (text : Option (String Global)) → slice_get texts item ≡ Some text → option_map string_bytes text ≡ option_map plain_text (module_symbol w package_name item)
 
--- the symbol of a name of a module that isn't in the tree, by the import item that names the module and the name's text
+-- the symbol of a name of a module that isn't in the tree, by the index of the import item that names the module and by the name's bytes
 abbrev pub named_symbol : World → ℕ → List ℕ → Option PlainSymbol
 named_symbol w item name = option_map (λ (i : Import). global [] (module_path (text w i.imported) ++ descriptor Term name ∷ [])) (slice_get w.rows.imports item)
 
--- the place of an import item and a name
+-- a key: the index of an import item, and a name of its module
 abbrev pub NameKey : Type 0
 NameKey = ℕ × Bor (List ℕ)
 
+-- whether two keys have the same index and the same name
 abbrev pub same_name : NameKey → NameKey → Bool
 same_name a b = nat_eq a.0 b.0 && bytes_eq a.1.now b.1.now
 
--- texts of names of modules that aren't in the tree, by the places of the import items and by the names
+-- the table has symbol strings of names of modules that aren't in the tree, by import item and name
 abbrev pub AreExternal : {S : Type 0} → World → IndexMap NameKey (Option (String Global)) S → Type 0
 AreExternal w texts = AreTextsByKey same_name (λ (key : NameKey). option_map plain_text (named_symbol w key.0 key.1.now)) texts
 
--- the texts of what stands outside of a module, in this package
+-- the strings are those of the targets outside of the module, in this package
 pub record AreOuter (w : World) (package_name : List ℕ) (t : Outer) : Type 0 where
   pub imported : AreImported w package_name ((t.imported).texts).items
   pub modules : AreModules w package_name (t.modules).items
   pub names : AreExternal w t.names
 
--- the texts of a module's symbols in this package
+-- the strings are those of the module's targets, in this package
 pub record AreSymbolTexts (w : World) (package_name : List ℕ) (t : Texts) : Type 0 where
   pub fronts : AreFronts package_name t.fronts
   pub own : string_bytes t.own ≡ plain_text (global package_name (module_path (text w own_name)))
@@ -102,21 +103,22 @@ pub record AreSymbolTexts (w : World) (package_name : List ℕ) (t : Texts) : Ty
   pub places : (t.places).declared.now ≡ w.rows.declared
   pub outer : AreOuter w package_name (t.outer).value
 
--- ---- what stands outside, each once
+-- ---- external symbols, each once
 
--- the place of an import item, with a name of its module, or with none for the module itself
+-- a key: the index of an import item, with a name of its module, or without one for the module itself
 abbrev pub OutsideKey : Type 0
 OutsideKey = ℕ × Option (Bor (List ℕ))
 
+-- whether two keys have the same index and the same name, or no name
 abbrev pub same_outside : OutsideKey → OutsideKey → Bool
 same_outside a b = nat_eq a.0 b.0 && option_eq (λ (m n : Bor (List ℕ)). bytes_eq m.now n.now) a.1 b.1
 
--- the row of what has this key
+-- the symbol information of the external symbol with this key
 abbrev pub outside_row : World → OutsideKey → Option SymbolRow
 outside_row w (item, None) = external_module w item
 outside_row w (item, Some name) = option_map (shown name.now) (named_symbol w item name.now)
 
--- some of the references, whose rows are those of all
+-- some of the references, which have the symbol information of all external targets
 pub record AreEnough (w : World) (refs some : List Reference) : Type 0 where
   pub among : (r : Reference) → Contains some r → Contains refs r
   pub each : (r : Reference) (x : SymbolRow) → Contains refs r → external_row w r.target ≡ Some x → Contains (externals_in w some) x

@@ -1,4 +1,4 @@
--- The identifiers of a module, and those that others see, are names.
+-- The names of a module, and those that other modules see, are identifiers.
 use Rattle.std.specs.Prelude.{◌≡◌, ℕ, List, true, Contains}
 use Rattle.ob_scan.specs.Tokens.{is_name}
 use Rattle.ob_scan.specs.Texts.{text_at}
@@ -8,20 +8,21 @@ use Rattle.ob_types.specs.World.{World, text}
 use Rattle.ob_targets.specs.declared.target.Reference.{Reference}
 use Rattle.ob_targets.specs.declared.target.Target.TheVariants as targets
 
+-- the bytes are an identifier
 abbrev pub IsName : List ℕ → Type 0
 IsName bytes = is_name bytes ≡ true
 
--- what others see of a module has names
+-- the module's name and the names of its declarations, as its interface has them, are identifiers
 pub record HasNames (m : ModuleInterface) : Type 0 where
   pub own : IsName m.name
   pub declarations : (d : Declaration) → Contains m.declarations d → IsName d.name
 
--- a module's own name, what it declares and what its import items name are names, and so are those of the modules that it reaches
+-- the module's own name, what it declares and what its import items name are identifiers, and so are the names in the reached interfaces
 pub record HaveNames (w : World) : Type 0 where
   pub here : AreNames (text_at w.bytes w.tokens) w.rows
   pub reached : (m : ModuleInterface) → Contains w.reached m → HasNames m
 
--- references are those of names, and so is what stands for a name of an external module
+-- the token of each reference is an identifier, and so is each token that denotes a name of an external module
 pub record AreOfNames (w : World) (refs : List Reference) : Type 0 where
   pub own : (r : Reference) → Contains refs r → IsName (text w r.number)
   pub external : (r : Reference) → Contains refs r → (item name : ℕ) → r.target ≡ targets.External item name → IsName (text w name)

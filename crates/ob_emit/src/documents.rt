@@ -1,4 +1,4 @@
-//! The document of a module.
+//! The document of a module, as a message.
 ghost use Rattle.std.specs.Prelude.{◌≡◌, ◌<◌, ◌^◌, ◌↔◌, ℕ, List, IfOk, Err, length, map, true};
 ghost use Rattle.std.specs.List.{filter_map};
 ghost use Rattle.std.specs.Option.{option_map};
@@ -23,14 +23,14 @@ use ob_types::Types;
 use scip_index::{Document, Occurrence, SymbolInfo};
 use std::alloc::{AllocError, Global};
 
-/// Whether no symbol's text can hold this package.
+/// Whether no symbol string can contain this package: it is `.` or begins with a space.
 pub(crate) fn is_bad(package_name: &str) -> bool
     ensures { result ≡ is_wrong_part package_name.now }
 {
     package_name == "." || package_name.starts_with(' ')
 }
 
-/// Where an identifier stands, with the symbol of what it stands for, if that has one, and where what it declares stands.
+/// The occurrence of a reference, if its target has a symbol: its range, symbol string and role, and the range of the whole declaration.
 fn occurrence_of(
     alloc: Global,
     types: &Types<'_>,
@@ -56,7 +56,7 @@ fn occurrence_of(
     }))
 }
 
-/// The occurrences of identifiers, in their order.
+/// The occurrences of references, in their order.
 fn occurrences(
     alloc: Global,
     types: &Types<'_>,
@@ -79,7 +79,7 @@ fn occurrences(
     Ok(found)
 }
 
-/// The symbol of what an identifier declares, if it declares something that has one.
+/// The symbol information of the declaration at a reference, if the reference is a declaration and has a symbol.
 fn symbol_row(
     alloc: Global,
     types: &Types<'_>,
@@ -104,7 +104,7 @@ fn symbol_row(
     }))
 }
 
-/// The symbols of what identifiers declare, in their order.
+/// The symbol information of all declarations among the references, in their order.
 fn symbols(
     alloc: Global,
     types: &Types<'_>,
@@ -124,7 +124,7 @@ fn symbols(
     Ok(found)
 }
 
-/// The document at this path that has these occurrences and symbols.
+/// The document at this path with these occurrences and symbols.
 fn filed(
     alloc: Global,
     path: &str,
@@ -144,7 +144,7 @@ fn filed(
     })
 }
 
-/// The document of a module at this path, with the texts of its symbols.
+/// The document of a module at this path, from the strings of its symbols.
 fn document_with(
     alloc: Global,
     path: &str,
@@ -163,7 +163,7 @@ fn document_with(
     filed(alloc, path, occurrences, symbols)
 }
 
-/// The document of a module at this path, in a package that no symbol's text refuses.
+/// The document of a module at this path, in a package that symbol strings can contain.
 fn document_in(
     alloc: Global,
     path: &str,
@@ -181,9 +181,11 @@ fn document_in(
     document_with(alloc, path, types, refs, &texts)
 }
 
-/// The document of a module at this path (scip.proto, `Document`): where its identifiers stand, with the symbols of what they stand for
-/// and their roles, the whole declarations of those that are declared, and the symbols that the module declares. Lines and columns count from 0, columns in bytes. BadPackage is answered
-/// where the package is `.` or begins with a space, Memory where a growth of memory is refused.
+/// Makes the document of a module at this path from its references (scip.proto, `Document`): its occurrences, and the symbols that it
+/// declares.
+/// An occurrence has its range, its symbol string, its role, and for a declaration the range of the whole declaration.
+/// Lines and columns count from 0, columns in bytes.
+/// Fails with `BadPackage` if the package is `.` or begins with a space, and with `Memory` if an allocation fails.
 pub fn document(
     alloc: Global,
     path: &str,
@@ -191,15 +193,18 @@ pub fn document(
     refs: &[Reference],
     package_name: &str,
 ) -> Result<Document, EmitFault>
-    // The tokens stand in the bytes, of which there are less than 2 GiB.
+    // The tokens are ranges of the bytes: none is empty, and each ends before the next begins.
     requires in_text { AreInText types.now.bytes types.now.tokens }
+    // The module has fewer than 2^31 bytes.
     requires short { length types.now.bytes < 2 ^ 31 }
-    // What is declared, imported and reached has names, and so have the references.
+    // The module's own name, what it declares and imports, and the names in the reached interfaces are identifiers.
     requires named { HaveNames types.now }
+    // The bytes of each reference's token, and of each external name, are an identifier.
     requires of_names { AreOfNames types.now refs.now }
-    // It is the module's document.
+    // With `Ok` the document is exactly the module's: its path, an occurrence for each reference that has a symbol, and the declared
+    // symbols.
     ensures exact { IfOk result (λ d. plain_document d ≡ document_of types.now path.now package_name.now refs.now) }
-    // BadPackage is answered exactly where the package is `.` or begins with a space.
+    // The result is `BadPackage` if and only if the package is `.` or begins with a space.
     ensures bad_package { (result ≡ Err BadPackage) ↔ (is_wrong_part package_name.now ≡ true) }
 {
     if is_bad(package_name) {

@@ -1,4 +1,4 @@
-//! Why a module has no document.
+//! Why a document can't be made.
 
 use std::alloc::AllocError;
 use thiserror::Error;
@@ -6,10 +6,10 @@ use thiserror::Error;
 /// Why a document can't be made.
 #[derive(Clone, Copy, Debug, Error)]
 pub enum EmitFault {
-    /// The package is `.` or begins with a space, which no symbol's text can hold.
+    /// The package is `.` or begins with a space, so no symbol string can contain it.
     #[error("the package is '.' or begins with a space")]
     BadPackage,
-    /// A growth of memory was refused.
+    /// An allocation failed.
     #[error("memory ran out")]
     Memory,
 }

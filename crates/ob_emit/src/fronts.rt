@@ -1,4 +1,4 @@
-//! What stands before the descriptors of symbols.
+//! The prefixes of symbol strings, up to the descriptors.
 ghost use Rattle.std.specs.Prelude.{◌≡◌, IfOk, List, ℕ};
 ghost use Rattle.std.specs.String.{string_bytes};
 ghost use Rattle.ob_emit.specs.Made.{front_text, AreFronts};
@@ -8,17 +8,17 @@ use ob_types::Types;
 use scip_symbol::write_parts;
 use std::alloc::{AllocError, Global};
 
-/// The scheme of all symbols here.
+/// The scheme of all symbols of this program.
 const SCHEME: &str = "scip-oberon";
 
-/// What stands before the descriptors of symbols in the tree's package and outside.
+/// The prefixes of symbol strings, up to the descriptors: in the tree's package, and outside of the tree, without a package.
 #[derive(Drop)]
 pub(crate) struct Fronts {
     pub(crate) tree: String,
     pub(crate) outside: String,
 }
 
-/// What stands before the descriptors of a package's symbols.
+/// The prefix of the symbol strings of a package: scheme, manager, package and version.
 pub(crate) fn front_text(alloc: Global, package_name: &str) -> Result<String, AllocError>
     ensures { IfOk result (λ text. string_bytes text ≡ front_text package_name.now) }
 {
@@ -26,7 +26,7 @@ pub(crate) fn front_text(alloc: Global, package_name: &str) -> Result<String, Al
 }
 
 impl Fronts {
-    /// What stands there where the tree is in this package.
+    /// The prefixes for a tree in this package.
     pub(crate) fn new(alloc: Global, package_name: &str) -> Result<Fronts, AllocError>
         ensures { IfOk result (AreFronts package_name.now) }
     {
@@ -36,7 +36,7 @@ impl Fronts {
         })
     }
 
-    /// What stands before the descriptors of the module that an import item names.
+    /// The prefix for the module that an import item names.
     pub(crate) fn front_of(&self, types: &Types<'_>, item: u32) -> &str
         ensures { (package_name : List ℕ) → AreFronts package_name self.now → result.now ≡ front_text (package_of types.now package_name item) }
     {

@@ -1,5 +1,4 @@
-//! The texts of the symbols of what other modules declare, each made once. Where one stands is a hint, that is tried against the places
-//! that are kept with it: those that were met last are remembered, so that most aren't sought among all.
+//! The symbol strings of declarations of other modules, each made once and found through a cache.
 ghost use Rattle.std.specs.Prelude.{◌≡◌, ◌<◌, [], List, ℕ, IfOk, IfSome, OnOk};
 ghost use Rattle.std.specs.Option.{option_map};
 ghost use Rattle.std.specs.String.{string_bytes};
@@ -15,7 +14,7 @@ use ob_types::Types;
 use std::alloc::{AllocError, Global};
 use std::collections::BTreeMap;
 
-/// The text of a declaration of a module that is reached, with the places of both; what has no symbol has none.
+/// The symbol string of a declaration of a reached module, with the indices of both; `None` if the declaration has no symbol.
 #[derive(Drop)]
 pub(crate) struct ImportedText {
     pub(crate) reached: u32,
@@ -23,41 +22,41 @@ pub(crate) struct ImportedText {
     pub(crate) text: Option<String>,
 }
 
-/// Where texts stand, by both places in one number. The first are in a table, and all behind these in order, where a look-up takes no more
-/// steps for numbers that an author chose so that they fall together in a table.
+/// A map from the key of a declaration to the index of its string. The first keys are in a hash table.
+/// The others are in a B-tree: there a module's author can't make lookups slow by a choice of keys that collide.
 #[derive(Drop)]
 struct Slots {
     few: IndexMap<u64, usize>,
     more: BTreeMap<u64, usize>,
 }
 
-/// Such texts, and where they stand.
+/// Symbol strings of declarations of reached modules, with a map and a cache of their indices.
 #[derive(Drop)]
 pub(crate) struct ImportedTexts {
     pub(crate) texts: Vec<ImportedText>,
     slots: Slots,
-    /// Of those that were met last, by some bits of both places.
+    /// A direct-mapped cache of the indices found last, by some bits of both indices of the declaration. Each is checked before use.
     recent: Vec<usize>,
 }
 
-/// How many are remembered.
+/// The number of cache entries.
 const RECENT: usize = 128;
 
-/// The most that stand in the table: so many that fall together are looked up in some hundred steps.
+/// The maximum number of keys in the hash table. If all of them collide, a lookup takes some hundred steps.
 const FEW: usize = 1024;
 
-/// Both places in one number.
+/// The key of a declaration: both indices in one number.
 fn key_of(reached: u32, declaration: u32) -> u64 {
     u64::from(reached) * 4_294_967_296 + u64::from(declaration)
 }
 
-/// Where it is remembered.
+/// The cache entry of a declaration.
 fn spot_of(reached: u32, declaration: u32) -> usize {
     reached.wrapping_mul(31).wrapping_add(declaration) as usize % RECENT
 }
 
 impl Slots {
-    /// Nothing stands anywhere.
+    /// The empty map.
     fn none(alloc: Global) -> Slots {
         Slots {
             few: IndexMap::new(alloc),
@@ -65,7 +64,7 @@ impl Slots {
         }
     }
 
-    /// Where a text stands.
+    /// The index of the string with this key.
     fn get(&self, key: u64) -> Option<usize> {
         match self.few.get(&key) {
             Some(slot) => Some(*slot),
@@ -73,7 +72,7 @@ impl Slots {
         }
     }
 
-    /// Notes where a text stands.
+    /// Stores the index of a string under its key.
     fn insert(&mut self, key: u64, slot: usize) -> Result<(), AllocError> {
         if self.few.len() < FEW {
             self.few.insert(key, slot)?;
@@ -85,7 +84,7 @@ impl Slots {
 }
 
 impl ImportedTexts {
-    /// No texts.
+    /// No strings. All cache entries are 0.
     pub(crate) fn new(alloc: Global) -> Result<ImportedTexts, AllocError>
         ensures { IfOk result (λ t. t.texts.items ≡ []) }
     {
@@ -96,7 +95,7 @@ impl ImportedTexts {
         })
     }
 
-    /// The text that stands there, if it is this declaration's.
+    /// The string at this index, if it is that of this declaration.
     pub(crate) fn at(&self, slot: usize, reached: u32, declaration: u32) -> Option<&Option<String>>
         ensures { (w : World) (package_name : List ℕ) → AreImported w package_name self.now.texts.items →
             IfSome result (λ text. option_map string_bytes text.now ≡ option_map plain_text (imported_symbol w package_name reached declaration)) }
@@ -111,12 +110,12 @@ impl ImportedTexts {
         Some(&row.text)
     }
 
-    /// Where it stands, if it is kept.
+    /// The index of this declaration's string, if the map has it.
     fn slot_of(&self, reached: u32, declaration: u32) -> Option<usize> {
         self.slots.get(key_of(reached, declaration))
     }
 
-    /// Where it may stand, as it is remembered.
+    /// The index in this declaration's cache entry. It may be that of another declaration.
     fn recent_slot(&self, reached: u32, declaration: u32) -> usize {
         match self.recent.get(spot_of(reached, declaration)) {
             Some(slot) => *slot,
@@ -124,7 +123,7 @@ impl ImportedTexts {
         }
     }
 
-    /// The text of this declaration, if it is kept.
+    /// The string of this declaration, if it is stored.
     pub(crate) fn kept(&self, reached: u32, declaration: u32) -> Option<&Option<String>>
         ensures { (w : World) (package_name : List ℕ) → AreImported w package_name self.now.texts.items →
             IfSome result (λ text. option_map string_bytes text.now ≡ option_map plain_text (imported_symbol w package_name reached declaration)) }
@@ -133,7 +132,7 @@ impl ImportedTexts {
         self.at(slot, reached, declaration)
     }
 
-    /// Remembers where it stands.
+    /// Stores the index of this declaration's string in the cache.
     fn remember(&mut self, reached: u32, declaration: u32, slot: usize)
         ensures { self.new.texts ≡ self.old.texts }
     {
@@ -142,7 +141,7 @@ impl ImportedTexts {
         }
     }
 
-    /// Adds the text of a declaration, and tells where it stands.
+    /// Makes and stores the string of a declaration, and returns its index.
     fn add(
         &mut self,
         alloc: Global,
@@ -166,7 +165,7 @@ impl ImportedTexts {
         Ok(slot)
     }
 
-    /// Where the text of a declaration stands among all; it is added if it isn't kept.
+    /// The index of a declaration's string, by the map. Makes and stores the string if the map doesn't have it.
     fn sought(
         &mut self,
         alloc: Global,
@@ -185,7 +184,7 @@ impl ImportedTexts {
         }
     }
 
-    /// Where the text of a declaration stands; it is added if it isn't kept.
+    /// The index of a declaration's string, by the cache or else by the map. Makes and stores the string if neither has it.
     pub(crate) fn meet(
         &mut self,
         alloc: Global,

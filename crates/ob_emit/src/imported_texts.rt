@@ -1,4 +1,4 @@
-//! The texts of the symbols of what other modules declare.
+//! The symbol strings of declarations of other modules.
 ghost use Rattle.std.specs.Prelude.{◌≡◌, ℕ, List, IfOk};
 ghost use Rattle.std.specs.Option.{option_map};
 ghost use Rattle.std.specs.String.{string_bytes};
@@ -11,7 +11,7 @@ use crate::path::path_text;
 use ob_types::Types;
 use std::alloc::{AllocError, Global};
 
-/// The text of the symbol of a declaration of a module that is reached, by the places of both.
+/// The symbol string of a declaration of a reached module, by the indices of both; `front` is the prefix of the tree's package.
 pub(crate) fn imported_text(
     alloc: Global,
     types: &Types<'_>,

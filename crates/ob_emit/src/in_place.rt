@@ -1,5 +1,4 @@
-//! Records written where they stand, without a buffer: their length is put in its place once it is known. What `push_message` and
-//! `put_packed` of `proto_wire` put, byte for byte.
+//! Length-delimited fields appended without a buffer, byte for byte as `push_message` and `put_packed` of `proto_wire` append them.
 ghost use Rattle.std.specs.Prelude.{◌≡◌, ◌<◌, ◌+◌, ◌++◌, ◌∷◌, [], ℕ, List, OnOk, length, vec_len};
 ghost use Rattle.proto_wire.specs.Varints.{varint};
 ghost use Rattle.proto_wire.specs.Writing.{packed_fields, packing, payload_field, spelled, spelled_fields, text_fields};
@@ -7,7 +6,8 @@ ghost use Rattle.proto_wire.specs.Writing.{packed_fields, packing, payload_field
 use proto_wire::{Scratch, Written, push_message, push_varint};
 use std::alloc::AllocError;
 
-/// Puts the length of what stands behind a key and one free byte, of which the key stands at this place.
+/// Stores the length `size` of a payload in the free byte after its key, which is at index `start`. Inserts a second byte if the length
+/// needs two.
 fn settle(out: &mut Vec<u8>, start: usize, size: usize) -> Result<(), AllocError>
     requires there { start + 1 < vec_len out.old }
     requires few { size < 16384 }
@@ -23,7 +23,7 @@ fn settle(out: &mut Vec<u8>, start: usize, size: usize) -> Result<(), AllocError
     Ok(())
 }
 
-/// Puts a message behind the bytes as a field of this number, as `push_message` does.
+/// Appends a message as a field of this number, as `push_message` does. Stores the message's length once its bytes are appended.
 pub(crate) fn push_in_place<M: Written>(
     scratch: &mut Scratch,
     out: &mut Vec<u8>,
@@ -34,7 +34,7 @@ pub(crate) fn push_in_place<M: Written>(
     requires few { field < 16 }
     ensures { OnOk result (out.new.items ≡ out.old.items ++ spelled (payload_field field (M.written message.now))) }
 {
-    /// From this length on a message goes through a buffer.
+    /// A message of this length or more is written through a buffer.
     const LONG: usize = 16_384;
     let start = out.len();
     out.extend_from_slice(&[field as u8 * 8 + 2, 0])?;
@@ -47,7 +47,7 @@ pub(crate) fn push_in_place<M: Written>(
     push_message(scratch, out, field, message)
 }
 
-/// Puts the bytes of a text behind the others as a field of this number, as `put_text` does.
+/// Appends bytes as a field of this number, unless they are empty, as `put_text` does.
 pub(crate) fn put_bytes(out: &mut Vec<u8>, field: u32, bytes: &[u8]) -> Result<(), AllocError>
     requires some { 0 < field }
     requires few { field < 16 }
@@ -61,7 +61,7 @@ pub(crate) fn put_bytes(out: &mut Vec<u8>, field: u32, bytes: &[u8]) -> Result<(
     out.extend_from_slice(bytes)
 }
 
-/// Numbers in a row, each a varint.
+/// Numbers of a packed field, each a varint.
 #[derive(Clone, Copy)]
 struct Numbers<'a> {
     numbers: &'a [i32],
@@ -80,7 +80,7 @@ impl Written for Numbers<'_> {
     }
 }
 
-/// Puts numbers behind the bytes as one packed field of this number, as `put_packed` does.
+/// Appends numbers as one packed field of this number, unless there are none, as `put_packed` does.
 pub(crate) fn put_numbers(
     scratch: &mut Scratch,
     out: &mut Vec<u8>,

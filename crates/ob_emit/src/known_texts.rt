@@ -1,4 +1,4 @@
-//! The texts of symbols that are kept already, lent and not copied.
+//! Symbol strings that are already stored, borrowed and not copied.
 ghost use Rattle.std.specs.Prelude.{◌≡◌, ℕ, List, IfSome};
 ghost use Rattle.std.specs.Option.{option_map};
 ghost use Rattle.std.specs.String.{string_bytes};
@@ -10,7 +10,7 @@ use crate::own_texts::Texts;
 use ob_targets::Target;
 use ob_types::Types;
 
-/// A text, if there is one.
+/// Borrows a string, if there is one.
 fn lent(text: &Option<String>) -> Option<&str>
     ensures { option_map (λ t. t.now) result ≡ option_map string_bytes text.now }
 {
@@ -21,7 +21,7 @@ fn lent(text: &Option<String>) -> Option<&str>
 }
 
 impl Texts<'_> {
-    /// The text of the symbol of what this token declares, if it has one; its place is looked for at the slot first.
+    /// The symbol string of what this token declares, if it has one. The lookup of the declaration begins at index `slot`.
     fn known_declared(&self, types: &Types<'_>, slot: usize, number: u32) -> Option<&str>
         ensures { (package_name : List ℕ) → AreSymbolTexts types.now package_name self.now →
             option_map (λ t. t.now) result ≡ option_map plain_text (declared_symbol types.now package_name number) }
@@ -36,7 +36,7 @@ impl Texts<'_> {
         }
     }
 
-    /// The text of the symbol of a declaration of a module that is reached, if it has one, where that is known.
+    /// The symbol string of a declaration of a reached module, if it is stored at index `slot`; `Some(None)` if it has no symbol.
     fn known_imported(
         &self,
         types: &Types<'_>,
@@ -54,7 +54,7 @@ impl Texts<'_> {
         }
     }
 
-    /// That of the module that an import item names.
+    /// The symbol string of the module that an import item names, if it is stored; `Some(None)` if it has no symbol.
     fn known_module(&self, types: &Types<'_>, item: u32) -> Option<Option<&str>>
         ensures { (package_name : List ℕ) → AreSymbolTexts types.now package_name self.now →
             IfSome result (λ text. option_map (λ t. t.now) text ≡ option_map plain_text (module_symbol types.now package_name item)) }
@@ -65,7 +65,7 @@ impl Texts<'_> {
         }
     }
 
-    /// That of a name of a module that isn't in the tree.
+    /// The symbol string of a name of a module that isn't in the tree, if it is stored; `Some(None)` if it has no symbol.
     fn known_external<'s>(
         &'s self,
         types: &Types<'_>,
@@ -81,9 +81,9 @@ impl Texts<'_> {
         }
     }
 
-    /// The text of the symbol of what an identifier stands for, if that has one, where it is known: what `symbol` answers, without
-    /// a copy. Of what another module declares it is known if it stands at this slot, as `meet` tells; what the module itself declares
-    /// is looked for there first.
+    /// The symbol string of a target, if it is stored; `Some(None)` if the target has no symbol. `symbol` returns a copy of this string.
+    /// `slot` is the index that `meet` returned. A declaration of another module is looked up at this index alone, one of the module itself
+    /// there first.
     pub(crate) fn known<'s>(
         &'s self,
         types: &'s Types<'_>,

@@ -1,4 +1,4 @@
-//! Laws of what callers of documents know. Each function is a law: its body is empty, and its contract is proved.
+//! Laws of symbols and documents, proved as contracts of functions with an empty body.
 ghost use Rattle.std.specs.Prelude.{◌≡◌, ◌≢◌, ◌<◌, ◌^◌, ℕ, Contains, List, [], Some, length, slice_get, false, true};
 ghost use Rattle.std.specs.Option.{is_some};
 ghost use Rattle.ob_scan.specs.declared.token.Token.{Token};
@@ -22,62 +22,82 @@ ghost use Rattle.ob_emit.specs.Documents.{enclosing_range};
 ghost use Rattle.ob_emit.specs.Named.{HaveNames, AreOfNames, HasNames, IsName};
 ghost use Rattle.ob_emit.specs.Symbols.{declared_symbol, imported_symbol, is_of_another_module, stands_for_something, symbol_of};
 
-/// The scopes of a module say that it has names, and those of the modules that it reaches that these have.
+/// The names in the table of a module that has scopes are identifiers, and so are those in its interface.
 pub fn names_of_scopes()
+    // If a module has scopes, and the names in the interfaces that it reaches are identifiers, so are the names in its table.
     ensures here { (w : World) (s : ModuleScopes) → AreScopes w.bytes w.tokens w.rows s → ((m : ModuleInterface) → Contains w.reached m → HasNames m) → HaveNames w }
+    // If a module has scopes, the names in its interface are identifiers.
     ensures there { (bytes : List ℕ) (ts : List Token) (rows : Rows) (s : ModuleScopes) → AreScopes bytes ts rows s → HasNames (interface_of bytes ts rows) }
 {}
 
-/// The references of a module whose text spells its tokens are those of names.
+/// If the bytes of a module spell its tokens, the token of each of its references is an identifier.
 pub fn names_of_references()
+    // The bytes of each reference's token, and of each external name, are an identifier.
     ensures { (w : World) (refs : List Reference) → Spells w.bytes w.tokens → AreReferences w refs → AreOfNames w refs }
 {}
 
-/// What a tree's rows and its scopes say: its module declares nothing twice, and no declaration's type holds two records.
+/// In a module whose table is that of a tree, and which has scopes, no name is declared twice in one block or record.
+/// No declaration's type holds two records.
 pub fn trees_declare_once()
+    // `DeclaresOnce` holds for a module with a tree's table, with scopes, and with fewer than 2^64 declared identifiers.
     ensures { (w : World) (m : Module) (s : ModuleScopes) → w.rows ≡ rows_of m → AreScopes w.bytes w.tokens w.rows s → length w.rows.declared < 2 ^ 64 → DeclaresOnce w }
 {}
 
-/// What an identifier stands for has a symbol with a text, of which the plain one is written, where names are names and the package can
-/// stand in a symbol. Fewer than 2^64 identifiers are declared. So no two of the symbols here have one text (`different_texts` of
-/// `scip_symbol`).
+/// The symbol of a target has a string, if names are identifiers, the package is valid, and fewer than 2^64 identifiers are declared.
+/// Documents contain the plain one. So no two of these symbols have one string (`different_texts` of `scip_symbol`).
+/// A valid package isn't `.` and doesn't begin with a space.
 pub fn symbols_have_texts()
+    // If names are identifiers, the package is valid and fewer than 2^64 identifiers are declared, the plain string of a target's symbol is
+    // a string of that symbol.
     ensures { (w : World) (package_name : List ℕ) (t : Target) (s : PlainSymbol) → HaveNames w → is_wrong_part package_name ≡ false → length w.rows.declared < 2 ^ 64
         → ((item name : ℕ) → t ≡ External item name → IsName (text w name)) → symbol_of w package_name t ≡ Some s → SymbolText s (plain_text s) }
 {}
 
-/// A definition that has a symbol has the range of the construct that declares it.
+/// A declaration that has a symbol has the range of the construct that declares it.
 pub fn definitions_have_ranges()
+    // A reference of role 1 whose target has a symbol has an enclosing range that isn't empty.
     ensures { (w : World) (package_name : List ℕ) (refs : List Reference) (r : Reference) (s : PlainSymbol) → AreReferences w refs → Contains refs r → r.role ≡ 1
         → symbol_of w package_name r.target ≡ Some s → enclosing_range w r ≢ [] }
 {}
 
-/// Two declarations, fields too, have one symbol only where they are in modules of different names and both are local: so in a
-/// tree, whose modules have names of their own, each global symbol is that of one declaration, and each local one that of one in its
-/// document. Import items have no symbol of their own. The same is so of the texts that documents and questions hold, where names are names
-/// and the package can stand in a symbol.
+/// Two declarations, also fields, have one symbol only if they are in modules of different names and both symbols are local.
+/// The modules of a tree have different names. So each global symbol is that of one declaration of the tree, and each local one that of one
+/// declaration of its document.
+/// Import items have no symbol of their own.
+/// The symbol strings in documents and queries differ like the symbols, if names are identifiers and the package is valid.
 pub fn one_declaration()
+    // In a module that declares nothing twice, two tokens whose declarations have one symbol are equal.
     ensures here { (w : World) (package_name : List ℕ) (k j : ℕ) (s : PlainSymbol) → DeclaresOnce w → declared_symbol w package_name k ≡ Some s → declared_symbol w package_name j ≡ Some s → k ≡ j }
+    // Declarations of modules of different names have one symbol only if it is local.
     ensures elsewhere { (w v : World) (package_name : List ℕ) (k j : ℕ) (s : PlainSymbol) → (text w own_name ≡ text v own_name → ⊥) → declared_symbol w package_name k ≡ Some s → declared_symbol v package_name j ≡ Some s → IsLocal s }
+    // In a module that declares nothing twice, with identifiers as names and a valid package, two tokens whose declarations have one symbol
+    // string are equal.
     ensures text_here { (w : World) (package_name : List ℕ) (k j : ℕ) (s t : PlainSymbol) → DeclaresOnce w → HaveNames w → is_wrong_part package_name ≡ false
         → declared_symbol w package_name k ≡ Some s → declared_symbol w package_name j ≡ Some t → plain_text s ≡ plain_text t → k ≡ j }
+    // In modules of different names that declare nothing twice, with identifiers as names and a valid package, two declarations have one
+    // symbol string only if both symbols are local.
     ensures text_elsewhere { (w v : World) (package_name : List ℕ) (k j : ℕ) (s t : PlainSymbol) → (text w own_name ≡ text v own_name → ⊥) → DeclaresOnce w → HaveNames w → DeclaresOnce v → HaveNames v
         → is_wrong_part package_name ≡ false → declared_symbol w package_name k ≡ Some s → declared_symbol v package_name j ≡ Some t → plain_text s ≡ plain_text t → IsLocal s × IsLocal t }
 {}
 
-/// What other modules see of a module, fields too, has there the symbol that it has in its own module: so what one file defines is found
-/// from any other. The rows of that module are those of its tree, in order.
+/// A declaration in a module's interface, also a field, has for other modules the symbol that it has in its own module.
+/// So what one file defines is found from any other. The module's table is that of its tree, with sorted entries.
 pub fn one_symbol()
+    // The symbol that another module gives the declaration at an index of the interface is that of the token that it declares.
     ensures { (w v : World) (m : Module) (package_name : List ℕ) (i d k : ℕ) (it : Declaration) → v.rows ≡ rows_of m → AreRowsInOrder v.rows → slice_get w.reached i ≡ Some (interface_of v.bytes v.tokens v.rows)
         → slice_get (seen_tokens v) d ≡ Some k → declaration_there w i d ≡ Some it → imported_symbol w package_name i d ≡ declared_symbol v package_name k }
 {}
 
-/// What an identifier of a tree stands for has a symbol, but for predeclared names and nothing: so the document of a module, which leaves
-/// out what has none, leaves out no other identifier. What another module of the tree declares, fields too, is there, by the places of both,
-/// and has a symbol. The rows of both are those of their trees, in order.
+/// Each identifier of a tree has a symbol, unless it is predeclared or unresolved.
+/// So a module's document, which leaves out identifiers without a symbol, leaves out no others.
+/// What another module of the tree declares, also a field, is in that module's interface, and has a symbol.
+/// The tables of both modules are those of their trees, with sorted entries.
 pub fn some_symbol()
+    // A reference to anything but a declaration of another module has a symbol if and only if it is neither predeclared nor unresolved.
     ensures here { (w : World) (m : Module) (refs : List Reference) (package_name : List ℕ) (r : Reference) → w.rows ≡ rows_of m → AreRowsInOrder w.rows → AreScopes w.bytes w.tokens w.rows w.scopes
         → AreReferences w refs → Contains refs r → is_of_another_module r.target ≡ false → is_some (symbol_of w package_name r.target) ≡ stands_for_something r.target }
+    // If a reference denotes a declaration of another module, the interface has that declaration at its index, and the reference has a
+    // symbol.
     ensures there { (w v : World) (m n : Module) (refs : List Reference) (package_name : List ℕ) (r : Reference) (i d : ℕ) → w.rows ≡ rows_of m → AreRowsInOrder w.rows → AreScopes w.bytes w.tokens w.rows w.scopes
         → v.rows ≡ rows_of n → AreRowsInOrder v.rows → AreReferences w refs → Contains refs r → r.target ≡ Imported i d → slice_get w.reached i ≡ Some (interface_of v.bytes v.tokens v.rows)
         → (it : Declaration) × (declaration_there w i d ≡ Some it) × (is_some (symbol_of w package_name r.target) ≡ true) }

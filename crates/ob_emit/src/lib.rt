@@ -1,7 +1,9 @@
-//! The document of a module in a SCIP index, as a message or as the bytes of its record, and the symbols that are declared outside of its tree.
-//! Stands on `ob_targets` and `ob_types` for what identifiers stand for, on `scip_symbol`, `proto_wire` and `scip_index`, on `indexmap` and `text_hash` for texts by
-//! their targets and for what was met, with `thiserror` for its fault.
-//! Its contract: a document is exactly what this project's names and the targets of the module's identifiers say, or the package is no package.
+//! The SCIP document of a module, as a message or as the bytes of its record, and the external symbols that it uses (scip.proto).
+//! `document_record` writes each occurrence from its reference, without making a message; each symbol string is made once.
+//! Depends on `ob_targets`, `ob_types` and the crates below them for references and tables, and on `scip_symbol` for symbol strings.
+//! It also depends on `scip_index` and `proto_wire` for the format; `indexmap`, `text_hash` and `thiserror` serve tables and the error.
+//! The main call is `document_record`. It promises exactly the document that the references and the rules for symbols determine.
+//! It rejects a package if and only if no symbol string can contain it.
 #![tactic(auto)]
 
 mod documents;

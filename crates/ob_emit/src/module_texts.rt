@@ -1,4 +1,4 @@
-//! The texts of the symbols of modules, and of names of modules that aren't in the tree.
+//! The symbol strings of modules, and of names of modules that aren't in the tree.
 ghost use Rattle.std.specs.Prelude.{◌≡◌, ◌++◌, ℕ, List, IfOk, []};
 ghost use Rattle.std.specs.Option.{option_map};
 ghost use Rattle.std.specs.String.{string_bytes};
@@ -14,7 +14,7 @@ use ob_types::Types;
 use scip_symbol::{DescriptorKind, push_step};
 use std::alloc::{AllocError, Global};
 
-/// The text of a module's symbol.
+/// The symbol string of a module with this prefix and name.
 pub(crate) fn module_text(alloc: Global, front: &str, name: &[u8]) -> Result<String, AllocError>
     requires { IsName name.now }
     ensures { IfOk result (λ text. string_bytes text ≡ front.now ++ path_text (module_path name.now)) }
@@ -25,7 +25,7 @@ pub(crate) fn module_text(alloc: Global, front: &str, name: &[u8]) -> Result<Str
     Ok(out)
 }
 
-/// The text of the symbol of the module that an import item names.
+/// The symbol string of the module that an import item names.
 pub(crate) fn item_text(
     alloc: Global,
     types: &Types<'_>,
@@ -47,7 +47,7 @@ pub(crate) fn item_text(
     Ok(Some(text))
 }
 
-/// The text of the symbol of a name of a module that isn't in the tree, behind what stands before the descriptors there.
+/// The symbol string of a name of a module that isn't in the tree; `outside` is the prefix without a package.
 pub(crate) fn external_text(
     alloc: Global,
     types: &Types<'_>,

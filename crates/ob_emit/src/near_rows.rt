@@ -1,4 +1,4 @@
-//! The rows of a walk through a module in order: each is sought first where the last one was found, and behind it.
+//! Table lookups in a pass over a module in order: each begins at the entry that was found last.
 ghost use Rattle.std.specs.Prelude.{◌≡◌, ◌==◌, find, Contains, IfNone, IfSome};
 ghost use Rattle.ob_rows.specs.declared.rows.Declared.{Declared};
 ghost use Rattle.ob_rows.specs.declared.rows.Declarer.{Declarer};
@@ -9,10 +9,10 @@ ghost use Rattle.ob_types.specs.World.{declarer_of};
 use ob_rows::{Declared, Declarer, Keyed, Table, place_of};
 use ob_types::Types;
 
-/// At so many rows it is looked first.
+/// The number of entries that are tried before the binary search.
 const NEAR: usize = 4;
 
-/// Where a walk found a line, an identifier and a construct last. Hints alone: any place will do.
+/// The line, the identifier and the construct that a pass found last. They are hints: the results don't depend on them.
 #[derive(Clone, Copy, Drop)]
 pub(crate) struct Near {
     pub(crate) line: u32,
@@ -21,7 +21,7 @@ pub(crate) struct Near {
 }
 
 impl Near {
-    /// Where a walk begins.
+    /// The hints at the start of a pass.
     pub(crate) fn new() -> Near {
         Near {
             line: 0,
@@ -31,7 +31,7 @@ impl Near {
     }
 }
 
-/// The place of the row of this number, looked for first at this place and behind it.
+/// The index of the entry with this number. Tries some entries from index `near` on, then a binary search.
 fn row_place_near<T: Keyed>(rows: &[T], near: usize, number: u32) -> Option<usize>
     requires { AscendBy T.number_in rows.now }
     ensures found { IfSome result (IsPlaceBy T.number_in rows.now number) }
@@ -47,7 +47,7 @@ fn row_place_near<T: Keyed>(rows: &[T], near: usize, number: u32) -> Option<usiz
     place_of(rows, number)
 }
 
-/// The row of this number, sought first near the place of the last one.
+/// The entry with this number. The search begins at index `near`, where the index of the entry is then stored.
 fn row_near<'r, T: Keyed>(rows: &'r [T], near: &mut usize, number: u32) -> Option<&'r T>
     requires { AscendBy T.number_in rows.now }
     ensures found { IfSome result (λ row. Contains rows.now row.now) }
@@ -59,7 +59,7 @@ fn row_near<'r, T: Keyed>(rows: &'r [T], near: &mut usize, number: u32) -> Optio
     Some(&rows[at])
 }
 
-/// The construct that declares and begins with this token, sought first near the place of the last one.
+/// The construct that declares and begins with this token. The search begins at index `near`.
 pub(crate) fn declarer_near(table: &Table, near: &mut usize, first: u32) -> Option<Declarer>
     ensures { result ≡ find (λ (by : Declarer). by.first == first) (rows_in table.now).declarers }
 {
@@ -67,7 +67,7 @@ pub(crate) fn declarer_near(table: &Table, near: &mut usize, first: u32) -> Opti
     row_near(table.declarers(), near, first).copied()
 }
 
-/// The row of the identifier that this token declares, sought first near the place of the last one.
+/// The entry of the identifier that this token declares. The search begins at index `near`.
 fn declared_near(table: &Table, near: &mut usize, number: u32) -> Option<Declared>
     ensures { result ≡ find (λ (d : Declared). d.number == number) (rows_in table.now).declared }
 {
@@ -75,7 +75,7 @@ fn declared_near(table: &Table, near: &mut usize, number: u32) -> Option<Declare
     row_near(table.declared(), near, number).copied()
 }
 
-/// The construct that declares this token, sought first near what a walk found last.
+/// The construct that declares this token. The searches begin at what the pass found last.
 pub(crate) fn declarer_of_near(types: &Types<'_>, near: &mut Near, number: u32) -> Option<Declarer>
     ensures { result ≡ declarer_of types.now number }
 {

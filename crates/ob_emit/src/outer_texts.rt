@@ -1,4 +1,4 @@
-//! The texts of the symbols of what references stand for outside of a module, each made once.
+//! The symbol strings of the targets outside of a module, each made once.
 ghost use Rattle.std.specs.Prelude.{◌≡◌, ℕ, List, IfOk, OnOk, []};
 ghost use Rattle.ob_targets.specs.declared.target.Target.TheVariants.{External};
 ghost use Rattle.ob_types.specs.World.{text};
@@ -14,18 +14,19 @@ use ob_types::Types;
 use std::alloc::{AllocError, Global};
 use text_hash::Seed;
 
-/// The texts of what references stand for outside of the module; what has no symbol has none.
+/// The symbol strings of targets outside of the module; `None` for a target without a symbol.
 #[derive(Drop)]
 pub(crate) struct Outer<'a> {
-    /// Those of what other modules declare.
+    /// The strings of declarations of other modules.
     pub(crate) imported: ImportedTexts,
-    /// Those of modules, in the order of the import items that name them.
+    /// The strings of modules, by the indices of the import items that name them.
     pub(crate) modules: Vec<Option<String>>,
-    /// Those of names of modules that aren't in the tree, by the place of the import item that names the module and the name.
+    /// The strings of names of modules that aren't in the tree, by the index of the import item that names the module and the name.
     pub(crate) names: IndexMap<(u32, &'a [u8]), Option<String>, Seed>,
 }
 
-/// The seed of a table of modules that aren't in the tree, by their import items, and of names of such: the module's author chooses both.
+/// The seed of a hash table of external modules and their names. The module's author chooses the keys, so a large table's seed depends on
+/// the bytes.
 pub(crate) fn outside_seed(types: &Types<'_>, refs: &[Reference]) -> Seed {
     let mut most = types.table().imports().len();
     for reference in refs {
@@ -36,7 +37,7 @@ pub(crate) fn outside_seed(types: &Types<'_>, refs: &[Reference]) -> Seed {
     Seed::for_keys(types.bytes(), most)
 }
 
-/// The texts of the modules that import items name, in order.
+/// The symbol strings of the modules that import items name, in order.
 fn module_texts(
     alloc: Global,
     types: &Types<'_>,
@@ -53,7 +54,7 @@ fn module_texts(
     Ok(texts)
 }
 
-/// Adds the text of a name of a module that isn't in the tree, if it isn't there yet.
+/// Stores the symbol string of a name of a module that isn't in the tree, unless it is stored already. Returns 0, as no index is needed.
 fn add_name<'a>(
     alloc: Global,
     types: &Types<'a>,
@@ -74,7 +75,7 @@ fn add_name<'a>(
 }
 
 impl<'a> Outer<'a> {
-    /// The texts of modules alone, with a table of the others that is seeded so, boxed, so that they are handed on as one pointer.
+    /// The strings of modules, and empty tables for the others, with this seed. The result is boxed, so that it moves as one pointer.
     pub(crate) fn new(
         alloc: Global,
         types: &Types<'a>,
@@ -92,8 +93,8 @@ impl<'a> Outer<'a> {
         Ok(Box::new(alloc, texts)?)
     }
 
-    /// Adds the text of what this stands for, if that is declared outside of the module and isn't there yet, and tells where it
-    /// stands.
+    /// Stores the symbol string of a target that is declared outside of the module, unless it is stored already.
+    /// Returns the index of the string for a declaration of another module, and otherwise 0.
     pub(crate) fn meet(
         &mut self,
         alloc: Global,

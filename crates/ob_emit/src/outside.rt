@@ -1,4 +1,4 @@
-//! The symbols that are declared outside of a tree.
+//! The external symbols of a tree.
 ghost use Rattle.std.specs.Prelude.{◌≡◌, IfOk, map, Some, None, []};
 ghost use Rattle.std.specs.Option.{option_and_then, option_map};
 ghost use Rattle.std.specs.String.{string_bytes};
@@ -21,7 +21,7 @@ use ob_types::Types;
 use scip_index::SymbolInfo;
 use std::alloc::{AllocError, Global};
 
-/// A symbol with a name to show.
+/// The symbol information of a symbol string with this display name.
 fn shown(alloc: Global, symbol: String, name: &[u8]) -> Result<SymbolInfo, AllocError>
     requires { IsName name.now }
     ensures { IfOk result (λ s. plain_symbol s ≡ record { symbol = string_bytes symbol; display_name = name.now }) }
@@ -32,7 +32,7 @@ fn shown(alloc: Global, symbol: String, name: &[u8]) -> Result<SymbolInfo, Alloc
     })
 }
 
-/// A module that isn't in the tree, by the import item that names it.
+/// The symbol information of the module that an import item names, if the module isn't in the tree.
 fn external_module(
     alloc: Global,
     types: &Types<'_>,
@@ -54,7 +54,7 @@ fn external_module(
     Ok(Some(shown(alloc, symbol, name)?))
 }
 
-/// A name of a module that isn't in the tree.
+/// The symbol information of a name of a module that isn't in the tree.
 fn external_name(
     alloc: Global,
     types: &Types<'_>,
@@ -74,7 +74,7 @@ fn external_name(
     Ok(Some(shown(alloc, symbol, name)?))
 }
 
-/// What stands for something outside.
+/// The symbol information of a target that isn't in the tree.
 fn external_row(
     alloc: Global,
     types: &Types<'_>,
@@ -97,8 +97,9 @@ fn external_row(
     }
 }
 
-/// What tells apart what stands outside: the place of an import item, with a name of its module, or without one for the module itself;
-/// a module of the tree has none, so that it isn't looked up.
+/// The key of a target that isn't in the tree: the index of an import item, with a name of its module, or without one for the module
+/// itself.
+/// A module of the tree has no key, so no symbol string is made for it.
 fn outside_key<'a>(types: &Types<'a>, target: Target) -> Option<(u32, Option<&'a [u8]>)>
     ensures { option_and_then (outside_row types.now) result ≡ external_row types.now target }
 {
@@ -116,7 +117,7 @@ fn outside_key<'a>(types: &Types<'a>, target: Target) -> Option<(u32, Option<&'a
     }
 }
 
-/// The first reference to each module that is imported, and to each name of one that isn't in the tree.
+/// The first reference to each external module, by import item, and to each name of an external module.
 fn first_uses(
     alloc: Global,
     types: &Types<'_>,
@@ -136,7 +137,7 @@ fn first_uses(
     Ok(found)
 }
 
-/// What stands for something outside, in the order of the references.
+/// The symbol information of the targets that aren't in the tree, in the order of the references.
 fn external_rows(
     alloc: Global,
     types: &Types<'_>,
@@ -156,7 +157,7 @@ fn external_rows(
     Ok(found)
 }
 
-/// Puts rows in the order of their symbols, each once.
+/// Sorts symbol information by symbol string, and removes repeated symbols.
 fn put_in_order(rows: &mut Vec<SymbolInfo>)
     requires { AreExternalRows (map plain_symbol rows.old.items) }
     ensures { AreExternals (map plain_symbol rows.old.items) (map plain_symbol rows.new.items) }
@@ -165,19 +166,21 @@ fn put_in_order(rows: &mut Vec<SymbolInfo>)
     rows.dedup_by(|a, b| a.symbol == b.symbol);
 }
 
-/// The external symbols that a module refers to (scip.proto, `Index.external_symbols`): the modules that aren't in the tree, and their
-/// names, by the texts of their symbols, each once. AllocError is answered where a growth of memory is refused.
+/// Finds the external symbols that a module refers to (scip.proto, `Index.external_symbols`): the modules that aren't in the tree, and
+/// their names.
+/// They are sorted by symbol string, each once. Fails with `AllocError` if an allocation fails.
 pub fn externals(
     alloc: Global,
     types: &Types<'_>,
     refs: &[Reference],
 ) -> Result<Vec<SymbolInfo>, AllocError>
-    // What is declared, imported and reached has names, and so have the references.
+    // The module's own name, what it declares and imports, and the names in the reached interfaces are identifiers.
     requires named { HaveNames types.now }
+    // The bytes of each reference's token, and of each external name, are an identifier.
     requires of_names { AreOfNames types.now refs.now }
-    // They are those of the references.
+    // With `Ok` the list has exactly the external symbols of the references, sorted by symbol string, each once.
     ensures exact { IfOk result (λ v. AreExternals (externals_in types.now refs.now) (map plain_symbol v.items)) }
-    // Each is a module or a name of one.
+    // With `Ok` each element is the symbol information of a module, or of a name of a module.
     ensures rows { IfOk result (λ v. AreExternalRows (map plain_symbol v.items)) }
 {
     let uses = first_uses(alloc, types, refs)?;
@@ -186,10 +189,11 @@ pub fn externals(
     Ok(rows)
 }
 
-/// The external symbols that several modules refer to, of those of each, one list behind the other: by the texts of their symbols, each
-/// once.
+/// Merges the external symbols of several modules, given as one list. Sorts them by symbol string, each once.
 pub fn all_externals(mut rows: Vec<SymbolInfo>) -> Vec<SymbolInfo>
+    // Each element is the symbol information of a module, or of a name of a module.
     requires { AreExternalRows (map plain_symbol rows.items) }
+    // The result has exactly the elements of the list, sorted by symbol string, each once.
     ensures { AreExternals (map plain_symbol rows.items) (map plain_symbol result.items) }
 {
     put_in_order(&mut rows);

@@ -1,4 +1,4 @@
-//! The module's own declarations, by their tokens.
+//! The module's own declarations, by token number.
 ghost use Rattle.std.specs.Prelude.{◌≡◌, ◌==◌, find, slice_get};
 ghost use Rattle.std.specs.Option.{option_map};
 ghost use Rattle.ob_rows.specs.declared.rows.Declared.{Declared};
@@ -21,7 +21,7 @@ fn declarer_from(table: &Table, first: u32) -> Option<Declarer>
     table.declarer(first).copied()
 }
 
-/// The row of the identifier that this token declares.
+/// The entry of the identifier that this token declares.
 fn declared_at(table: &Table, number: u32) -> Option<Declared>
     ensures { result ≡ find (λ (d : Declared). d.number == number) (rows_in table.now).declared }
 {
@@ -29,14 +29,14 @@ fn declared_at(table: &Table, number: u32) -> Option<Declared>
     table.declaration(number).copied()
 }
 
-/// The import item at a place.
+/// The import item at this index.
 pub(crate) fn import_at<'a>(types: &Types<'a>, item: u32) -> Option<&'a Import>
     ensures { option_map (λ i. i.now) result ≡ slice_get types.now.rows.imports item }
 {
     types.table().imports().get(item as usize)
 }
 
-/// Whether an identifier is declared in another block than the module's. Its construct is sought first near the place of the last one.
+/// Whether an identifier is declared in another block than the module's. The search for its construct begins at index `near`.
 pub(crate) fn is_local(types: &Types<'_>, near: &mut usize, declared: &Declared) -> bool
     ensures { result ≡ is_local types.now declared.now }
 {
@@ -54,7 +54,7 @@ pub(crate) fn declarer_of(types: &Types<'_>, number: u32) -> Option<Declarer>
     declarer_from(types.table(), declared.declared_by)
 }
 
-/// What a construct of the module's block declares with this token.
+/// The path step of a token that a construct declares, if the construct is in the module's block.
 fn own_step<'a>(types: &Types<'a>, number: u32, by: Declarer) -> Option<StepRow<'a>>
     ensures { option_map step_told result ≡ own_step types.now number by }
 {

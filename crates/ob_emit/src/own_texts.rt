@@ -1,4 +1,4 @@
-//! The texts of a module's symbols, each made once.
+//! The symbol strings of a module's targets, each made once.
 ghost use Rattle.std.specs.Prelude.{◌≡◌, ◌++◌, IfOk, OnOk, Some, take, length, map, count_by, codes};
 ghost use Rattle.std.specs.Fmt.{decimal};
 ghost use Rattle.std.specs.Option.{option_map};
@@ -22,24 +22,24 @@ use ob_targets::{Reference, Target};
 use ob_types::Types;
 use std::alloc::{AllocError, Global};
 
-/// The texts of a module's symbols in a package, and what others are made of.
+/// The symbol strings of a module's targets in a package, and the prefixes from which further ones are made.
 #[derive(Drop)]
 pub(crate) struct Texts<'a> {
     pub(crate) fronts: Fronts,
-    /// The text of the module itself.
+    /// The string of the module itself.
     pub(crate) own: String,
-    /// The texts of what the module declares, by place; an import item has none.
+    /// The strings of the module's declarations, by index; `None` for an import item.
     pub(crate) declared: Vec<Option<String>>,
-    /// The places of what the module declares, by tokens.
+    /// The indices of the module's declarations, by token number.
     pub(crate) places: RowPlaces<'a>,
     pub(crate) outer: Box<Outer<'a>>,
 }
 
-/// The text of a local symbol.
+/// The string of the local symbol with this number.
 fn local_text(alloc: Global, number: usize) -> Result<String, AllocError>
     ensures { IfOk result (λ text. string_bytes text ≡ codes "local " ++ decimal number) }
 {
-    /// Room for the word and for a number of 32 bits.
+    /// The capacity for `local `, and for a number of 32 bits.
     const ROOM: usize = 16;
     let mut text = String::with_capacity(alloc, ROOM)?;
     text.push_str("local ")?;
@@ -47,7 +47,7 @@ fn local_text(alloc: Global, number: usize) -> Result<String, AllocError>
     Ok(text)
 }
 
-/// The text of a declaration of the module's block.
+/// The symbol string of a declaration in the module's block.
 fn block_text(
     alloc: Global,
     types: &Types<'_>,
@@ -66,7 +66,7 @@ fn block_text(
     )
 }
 
-/// The text of the symbol of a declaration, before which so many local ones stand, told whether it is local.
+/// The symbol string of a declaration, by whether it is local and by the number of local declarations before it.
 fn row_text(
     alloc: Global,
     types: &Types<'_>,
@@ -87,7 +87,7 @@ fn row_text(
     }
 }
 
-/// The texts of the symbols that a module declares, in order.
+/// The symbol strings of the module's declarations, in order.
 fn declared_texts(
     alloc: Global,
     types: &Types<'_>,
@@ -110,7 +110,7 @@ fn declared_texts(
     Ok(texts)
 }
 
-/// The places of what a module declares, by tokens.
+/// The indices of the module's declarations, by token number.
 fn places_in<'a>(alloc: Global, types: &Types<'a>) -> Result<RowPlaces<'a>, AllocError>
     ensures { IfOk result (λ p. p.declared.now ≡ types.now.rows.declared) }
 {
@@ -120,7 +120,8 @@ fn places_in<'a>(alloc: Global, types: &Types<'a>) -> Result<RowPlaces<'a>, Allo
 }
 
 impl<'a> Texts<'a> {
-    /// The texts of the symbols in a package that a module with these references has, whatever they are.
+    /// The symbol strings that a module has whatever its references are: those of modules and of its own declarations.
+    /// The references only determine the seed of a hash table.
     pub(crate) fn begun(
         alloc: Global,
         types: &Types<'a>,
@@ -145,8 +146,9 @@ impl<'a> Texts<'a> {
         })
     }
 
-    /// Adds the text of what this stands for, if that is declared outside of the module and isn't there yet, and tells where it
-    /// stands, or where the declaration does that the module itself has.
+    /// Stores the symbol string of a target that is declared outside of the module, unless it is stored already.
+    /// Returns the index of the string, or the index of the declaration for a target that the module itself declares. It is the hint for
+    /// `known`.
     pub(crate) fn meet(
         &mut self,
         alloc: Global,
@@ -164,7 +166,7 @@ impl<'a> Texts<'a> {
         }
     }
 
-    /// The texts of the symbols in a package that a module with these references needs.
+    /// The symbol strings of all targets of a module's references.
     pub(crate) fn new(
         alloc: Global,
         types: &Types<'a>,

@@ -1,4 +1,4 @@
-//! The texts of paths.
+//! The symbol strings of paths of descriptors.
 ghost use Rattle.std.specs.Prelude.{◌≡◌, ◌++◌, IfOk};
 ghost use Rattle.std.specs.Option.{option_map};
 ghost use Rattle.std.specs.String.{string_bytes};
@@ -12,7 +12,7 @@ use crate::steps::Nested;
 use scip_symbol::{DescriptorKind, push_step};
 use std::alloc::{AllocError, Global};
 
-/// A name as text.
+/// The bytes of a name as a string. An identifier is ASCII, so the conversion can't fail.
 pub(crate) fn name_of(bytes: &[u8]) -> &str
     requires { IsName bytes.now }
     ensures { result.now ≡ bytes.now }
@@ -23,7 +23,7 @@ pub(crate) fn name_of(bytes: &[u8]) -> &str
     }
 }
 
-/// Room for a symbol's text with this front and a name of the module, so that it mostly needn't grow.
+/// The initial capacity of a symbol string with this prefix and a name of this module, so that the string rarely has to grow.
 pub(crate) fn room_for(front: &str, module_name: &[u8]) -> usize {
     const NAME: usize = 24;
     front
@@ -32,8 +32,8 @@ pub(crate) fn room_for(front: &str, module_name: &[u8]) -> usize {
         .saturating_add(NAME)
 }
 
-/// Puts the descriptors of what this number declares: those of its owner or of the module, and its own. Tells whether there are any;
-/// where there are none nothing is put.
+/// Appends the descriptors of the declaration with this number: those of its owner or else of the module, and its own.
+/// Returns whether it has descriptors; if not, nothing is appended.
 pub(crate) fn push_path<S: Nested>(
     out: &mut String,
     module_name: &[u8],
@@ -61,7 +61,7 @@ pub(crate) fn push_path<S: Nested>(
     Ok(found)
 }
 
-/// The text of a symbol with this front and the path of what this number declares, if that has one.
+/// The symbol string with this prefix and the path of the declaration with this number, if it has a path.
 pub(crate) fn path_text<S: Nested>(
     alloc: Global,
     front: &str,

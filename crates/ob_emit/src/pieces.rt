@@ -1,4 +1,4 @@
-//! The pieces of a document as bytes: its occurrences and its symbols, each written from what is borrowed.
+//! Occurrences and symbol information, written as bytes from borrowed data.
 ghost use Rattle.std.specs.Prelude.{◌≡◌, ◌<◌, ◌++◌, OnOk};
 ghost use Rattle.proto_wire.specs.Writing.{packed_fields, spelled_fields};
 ghost use Rattle.scip_index.specs.Written.{written_occurrence, written_symbol};
@@ -18,14 +18,14 @@ pub(crate) struct Place<'a> {
     pub(crate) enclosing_range: Range,
 }
 
-/// A symbol and the name to show for it (scip.proto, `SymbolInformation`).
+/// A symbol string with its display name (scip.proto, `SymbolInformation`).
 #[derive(Clone, Copy)]
 pub(crate) struct Shown<'a> {
     pub(crate) symbol: &'a str,
     pub(crate) display_name: &'a [u8],
 }
 
-/// Puts the numbers of a range behind the bytes, unless there are none.
+/// Appends the numbers of a range as a packed field, unless there are none.
 fn put_range(
     scratch: &mut Scratch,
     out: &mut Vec<u8>,

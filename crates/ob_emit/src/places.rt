@@ -1,4 +1,4 @@
-//! Where identifiers stand, as numbers that take no memory: what `ranges` answers, without a list for each.
+//! The ranges of identifiers and constructs as numbers, without the allocations of `ranges`.
 ghost use Rattle.std.specs.Prelude.{◌≡◌, ◌≤◌, ◌<◌, ◌^◌, ℕ, List, length};
 ghost use Rattle.ob_scan.specs.Position.{line_starts};
 ghost use Rattle.ob_scan.specs.Spelling.{AreInText};
@@ -12,18 +12,18 @@ use ob_scan::Position;
 use ob_targets::{Reference, Target};
 use ob_types::Types;
 
-/// The numbers of a range.
+/// The numbers of a range (scip.proto, `Occurrence.range`), lines and columns from 0.
 #[derive(Clone, Copy)]
 pub(crate) enum Range {
-    /// There is none.
+    /// No range.
     Nowhere,
-    /// The line, and the columns of the start and of the end.
+    /// On one line: the line, and the columns of the start and of the end.
     OnLine([i32; 3]),
-    /// The line and the column of the start, and those of the end.
+    /// Over several lines: line and column of the start, line and column of the end.
     OverLines([i32; 4]),
 }
 
-/// The line and the column of a start, and those of an end.
+/// The line and the column of a start, and the line (`last`) and the column (`end`) of an end.
 #[derive(Clone, Copy)]
 pub(crate) struct Span {
     pub(crate) line: u32,
@@ -32,7 +32,7 @@ pub(crate) struct Span {
     pub(crate) end: u32,
 }
 
-/// A range as numbers.
+/// The range with this start and end.
 pub(crate) fn range_by(span: &Span) -> Range
     requires { SpanFits span.now }
     ensures { numbers_of result ≡ numbers_in span.now }
@@ -45,7 +45,7 @@ pub(crate) fn range_by(span: &Span) -> Range
     }
 }
 
-/// The line and the column of an offset, sought first near the line that was found last.
+/// The line and the column of an offset. The search begins at the line `near`, where the line is then stored.
 fn place_near(lines: &LineTable, near: &mut u32, offset: u32) -> Position
     ensures line { (bytes : List ℕ) → lines.now ≡ line_starts bytes → offset ≤ length bytes → result.line ≡ line_number bytes offset }
     ensures column { (bytes : List ℕ) → lines.now ≡ line_starts bytes → offset ≤ length bytes → result.column ≡ column_of bytes offset }
@@ -53,7 +53,7 @@ fn place_near(lines: &LineTable, near: &mut u32, offset: u32) -> Position
     lines.position_near(near, offset)
 }
 
-/// From the start of a token to the end of another, sought first near a line.
+/// From the start of one token to the end of another. The search begins at the line `near`.
 fn span_of(types: &Types<'_>, lines: &LineTable, near: &mut u32, first: usize, last: usize) -> Span
     requires in_text { AreInText types.now.bytes types.now.tokens }
     requires short { length types.now.bytes < 2 ^ 31 }
@@ -73,7 +73,7 @@ fn span_of(types: &Types<'_>, lines: &LineTable, near: &mut u32, first: usize, l
     }
 }
 
-/// The range of the construct that declares a target, sought first near what a walk found last.
+/// The range of the construct that declares a target. The searches begin at what the pass found last.
 fn construct_range(types: &Types<'_>, lines: &LineTable, near: &mut Near, target: Target) -> Range
     requires in_text { AreInText types.now.bytes types.now.tokens }
     requires short { length types.now.bytes < 2 ^ 31 }
@@ -101,7 +101,7 @@ fn construct_range(types: &Types<'_>, lines: &LineTable, near: &mut Near, target
     }
 }
 
-/// The range of the whole declaration, if an identifier is declared here, sought first near what a walk found last.
+/// The range of the whole declaration, if the reference is a declaration. The searches begin at what the pass found last.
 pub(crate) fn enclosing_range(
     types: &Types<'_>,
     lines: &LineTable,
@@ -119,7 +119,7 @@ pub(crate) fn enclosing_range(
     construct_range(types, lines, near, reference.target)
 }
 
-/// Where a token stands, sought first near the line that was found last.
+/// From the start to the end of a token. The search begins at the line `near`.
 pub(crate) fn token_span(types: &Types<'_>, lines: &LineTable, near: &mut u32, number: u32) -> Span
     requires in_text { AreInText types.now.bytes types.now.tokens }
     requires short { length types.now.bytes < 2 ^ 31 }

@@ -1,4 +1,4 @@
-//! Where identifiers stand, by lines and columns.
+//! The ranges of identifiers and constructs, in lines and columns.
 ghost use Rattle.std.specs.Prelude.{◌≡◌, ◌≤◌, ◌<◌, ◌^◌, IfOk, length};
 ghost use Rattle.ob_scan.specs.Position.{line_starts};
 ghost use Rattle.ob_scan.specs.Spelling.{AreInText};
@@ -20,7 +20,7 @@ pub(crate) fn place_at(lines: &Lines, offset: u32) -> Position
     lines.position(offset)
 }
 
-/// A range as the numbers of an index.
+/// The numbers of a range (scip.proto, `Occurrence.range`): three for a range on one line, four for one over several.
 fn range_by(
     alloc: Global,
     line: u32,
@@ -41,7 +41,7 @@ fn range_by(
     }
 }
 
-/// Where a token begins and where it ends; both are 0 beyond the last.
+/// The offsets of the start and of the end of a token; both are 0 for a number after the last token.
 pub(crate) fn ends_of(types: &Types<'_>, number: usize) -> (u32, u32)
     ensures start { result.0 ≡ (token_at types.now.tokens number).start }
     ensures end { result.1 ≡ (token_at types.now.tokens number).end }
@@ -52,7 +52,7 @@ pub(crate) fn ends_of(types: &Types<'_>, number: usize) -> (u32, u32)
     }
 }
 
-/// The range from the start of a token to the end of another.
+/// The range from the start of one token to the end of another.
 pub(crate) fn span_of(
     alloc: Global,
     types: &Types<'_>,
@@ -72,7 +72,7 @@ pub(crate) fn span_of(
     range_by(alloc, from.line, from.column, to.line, to.column)
 }
 
-/// The range of the construct that declares a target.
+/// The range of the construct that declares a target, empty if there is none.
 fn construct_range(
     alloc: Global,
     types: &Types<'_>,
@@ -101,7 +101,7 @@ fn construct_range(
     }
 }
 
-/// The range of the whole declaration, if an identifier is declared here.
+/// The range of the whole declaration, if the reference is a declaration, and otherwise an empty range.
 pub(crate) fn enclosing_range(
     alloc: Global,
     types: &Types<'_>,

@@ -1,4 +1,4 @@
-//! The head of a document's record: its key and its length, put in front of bytes that are there already.
+//! The head of a document's record, its key and its length, written before bytes that are already there.
 ghost use Rattle.std.specs.Prelude.{◌≡◌, ◌≤◌, ◌++◌, ℕ, List, IfOk, length, vec_len};
 ghost use Rattle.proto_wire.specs.Writing.{head_of, payload_field, spelled};
 
@@ -6,7 +6,7 @@ use crate::room::cut;
 use proto_wire::push_varint;
 use std::alloc::{AllocError, Global};
 
-/// How many bytes the head of about so many bytes takes: a guess, as the length isn't known yet.
+/// The estimated number of bytes of the head of a document of about `count` bytes, whose exact length isn't known yet.
 pub(crate) fn room_for_head(count: usize) -> usize {
     if count < 16_384 {
         3
@@ -17,11 +17,11 @@ pub(crate) fn room_for_head(count: usize) -> usize {
     }
 }
 
-/// The head of a document of so many bytes.
+/// The head of a document of `count` bytes.
 fn head(alloc: Global, count: usize) -> Result<Vec<u8>, AllocError>
     ensures { IfOk result (λ v. v.items ≡ head_of 2 count) }
 {
-    /// As many bytes as a head takes at most.
+    /// The maximum number of bytes of a head.
     const MOST: usize = 11;
     let mut head = Vec::with_capacity(alloc, MOST)?;
     head.push(18)?;
@@ -29,7 +29,7 @@ fn head(alloc: Global, count: usize) -> Result<Vec<u8>, AllocError>
     Ok(head)
 }
 
-/// Puts these bytes in place of as many at the front.
+/// Overwrites the first bytes with a head.
 fn put_front(bytes: &mut [u8], head: &[u8])
     requires { length head.now ≤ length bytes.old }
     ensures { (front payload : List ℕ) → bytes.old ≡ front ++ payload → length head.now ≡ length front → bytes.new ≡ head.now ++ payload }
@@ -37,7 +37,8 @@ fn put_front(bytes: &mut [u8], head: &[u8])
     bytes[..head.len()].copy_from_slice(head);
 }
 
-/// The record of a document whose bytes stand behind so much room: its head is put there if it fits, so that nothing is copied.
+/// The record of a document whose bytes follow `room` reserved bytes. A head of `room` bytes is written there, so that nothing is copied.
+/// A head of another length requires a copy of the bytes.
 pub(crate) fn record_behind(
     alloc: Global,
     bytes: Vec<u8>,

@@ -1,6 +1,4 @@
-//! The document of a module as the bytes of its record. No message is made on the way: an occurrence is put from numbers and from
-//! the text of its symbol, which is kept once for each target, so that it takes no memory of its own. The bytes are those of what
-//! `documents` answers.
+//! The document of a module as the bytes of its record, written without making a message.
 ghost use Rattle.std.specs.Prelude.{◌≡◌, ◌++◌, ◌<◌, ◌^◌, ◌↔◌, ℕ, List, IfOk, OnOk, Err, length, map, pos, replicate, true};
 ghost use Rattle.std.specs.List.{filter_map};
 ghost use Rattle.std.specs.Option.{option_to_list};
@@ -32,7 +30,7 @@ use ob_types::Types;
 use proto_wire::{Scratch, put_number, put_text};
 use std::alloc::{AllocError, Global};
 
-/// Puts the record of an occurrence of this symbol.
+/// Appends the record of an occurrence with this symbol string.
 fn push_place(
     scratch: &mut Scratch,
     out: &mut Vec<u8>,
@@ -61,7 +59,7 @@ fn push_place(
     push_in_place(scratch, out, 2, &place)
 }
 
-/// Puts the record of an identifier's occurrence, if it has one, where the text of its symbol has to be made.
+/// Appends the record of a reference's occurrence, if it has one. Makes the symbol string, as it isn't stored.
 fn push_unknown(
     alloc: Global,
     scratch: &mut Scratch,
@@ -86,7 +84,7 @@ fn push_unknown(
     }
 }
 
-/// Puts the record of an identifier's occurrence, if it has one, by the texts that are kept.
+/// Appends the record of a reference's occurrence, if it has one. Reads the symbol string from the stored ones; `slot` is the hint for it.
 fn push_kept(
     alloc: Global,
     scratch: &mut Scratch,
@@ -113,7 +111,7 @@ fn push_kept(
     }
 }
 
-/// Puts the record of an identifier's occurrence, if it has one. The text of its symbol is made where it isn't kept yet.
+/// Appends the record of a reference's occurrence, if it has one. Makes and stores the symbol string if it isn't stored yet.
 fn push_occurrence<'a>(
     alloc: Global,
     scratch: &mut Scratch,
@@ -139,7 +137,7 @@ fn push_occurrence<'a>(
     )
 }
 
-/// Puts the records of the occurrences of identifiers, in their order.
+/// Appends the records of the occurrences of references, in their order.
 fn push_occurrences<'a>(
     alloc: Global,
     scratch: &mut Scratch,
@@ -169,7 +167,7 @@ fn push_occurrences<'a>(
     Ok(())
 }
 
-/// Puts the record of a symbol that an identifier declares.
+/// Appends the record of the symbol information of a declaration.
 fn push_shown(
     scratch: &mut Scratch,
     out: &mut Vec<u8>,
@@ -186,7 +184,7 @@ fn push_shown(
     push_in_place(scratch, out, 3, &shown)
 }
 
-/// Puts the record of the symbol of what an identifier declares, if that has one, where its text has to be made.
+/// Appends the record of the symbol information of a declaration, if it has a symbol. Makes the symbol string, as it isn't stored.
 fn push_unknown_symbol(
     alloc: Global,
     scratch: &mut Scratch,
@@ -207,7 +205,7 @@ fn push_unknown_symbol(
     }
 }
 
-/// Puts the record of the symbol of what an identifier declares, if it declares something that has one.
+/// Appends the record of the symbol information of a reference, if it is a declaration and has a symbol.
 fn push_symbol(
     alloc: Global,
     scratch: &mut Scratch,
@@ -231,7 +229,7 @@ fn push_symbol(
     }
 }
 
-/// Puts the records of the symbols of what identifiers declare, in their order.
+/// Appends the records of the symbol information of all declarations among the references, in their order.
 fn push_symbols(
     alloc: Global,
     scratch: &mut Scratch,
@@ -251,7 +249,7 @@ fn push_symbols(
     Ok(())
 }
 
-/// Puts the bytes of a module's document.
+/// Appends the bytes of a module's document.
 fn push_document<'a>(
     alloc: Global,
     out: &mut Vec<u8>,
@@ -276,10 +274,10 @@ fn push_document<'a>(
     put_number(out, 6, 1)
 }
 
-/// Room for an occurrence, so that the bytes mostly needn't be moved as they grow.
+/// The estimated number of bytes of an occurrence. With this capacity the bytes rarely move as they grow.
 const OCCURRENCE: usize = 48;
 
-/// The bytes of a module's document at this path behind so much room, in a package that no symbol's text refuses.
+/// The bytes of a module's document at this path after `room` zeros, in a package that symbol strings can contain.
 fn bytes_behind(
     alloc: Global,
     path: &str,
@@ -302,7 +300,7 @@ fn bytes_behind(
     Ok(bytes)
 }
 
-/// The record of a module's document at this path, in a package that no symbol's text refuses.
+/// The record of a module's document at this path, in a package that symbol strings can contain.
 fn record_in(
     alloc: Global,
     path: &str,
@@ -322,8 +320,9 @@ fn record_in(
     record_behind(alloc, bytes, room)
 }
 
-/// The record of the document that `document` answers, as it stands in an index (scip.proto, `Index.documents`): its key, its
-/// length and its bytes. Refuses as `document` does.
+/// Makes the record of a module's document as an index contains it (scip.proto, `Index.documents`): its key, its length and its bytes.
+/// The document is the one that `document` makes. Here each occurrence is written at once, and no message is made.
+/// Fails with `BadPackage` if the package is `.` or begins with a space, and with `Memory` if an allocation fails.
 pub fn document_record(
     alloc: Global,
     path: &str,
@@ -331,15 +330,17 @@ pub fn document_record(
     refs: &[Reference],
     package_name: &str,
 ) -> Result<Vec<u8>, EmitFault>
-    // The tokens stand in the bytes, of which there are less than 2 GiB.
+    // The tokens are ranges of the bytes: none is empty, and each ends before the next begins.
     requires in_text { AreInText types.now.bytes types.now.tokens }
+    // The module has fewer than 2^31 bytes.
     requires short { length types.now.bytes < 2 ^ 31 }
-    // What is declared, imported and reached has names, and so have the references.
+    // The module's own name, what it declares and imports, and the names in the reached interfaces are identifiers.
     requires named { HaveNames types.now }
+    // The bytes of each reference's token, and of each external name, are an identifier.
     requires of_names { AreOfNames types.now refs.now }
-    // It is the record of the module's document.
+    // With `Ok` the bytes are exactly the record of the module's document: its key, its length and its written form.
     ensures exact { IfOk result (λ v. v.items ≡ document_part (document_of types.now path.now package_name.now refs.now)) }
-    // BadPackage is answered exactly where the package is `.` or begins with a space.
+    // The result is `BadPackage` if and only if the package is `.` or begins with a space.
     ensures bad_package { (result ≡ Err BadPackage) ↔ (is_wrong_part package_name.now ≡ true) }
 {
     if is_bad(package_name) {

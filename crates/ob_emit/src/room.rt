@@ -1,18 +1,19 @@
-//! Room for the bytes of a document. A small one grows by doubling. A large one has room at once for all that is left, by the lengths
-//! of the texts that are kept, as its bytes stand twice while they are moved. All of it is a hint: where it is refused nothing fails.
+//! The capacity for a document's bytes: a hint, so a failed reservation is no error.
 ghost use Rattle.std.specs.Prelude.{◌≡◌};
 
 use crate::own_texts::Texts;
 use ob_targets::{Reference, Target};
 use ob_types::Types;
 
-/// From this length on a document is a large one.
+/// A document of this many bytes or more is a large one.
+/// A small one grows by doubling. A large one reserves all that is left at once, because its bytes exist twice while they are moved.
 const LARGE: usize = 262_144;
 
-/// About as many bytes as stand in a record beside its texts, and some more.
+/// The estimated number of bytes of a record without its strings, rounded up.
 const BESIDE: usize = 48;
 
-/// How many bytes a record takes with the text of what this stands for, or this many, where that isn't found by one look.
+/// The estimated number of bytes of the record of a target: by the length of its symbol string, or `mean` if hint 0 doesn't find that
+/// string.
 fn record_size(types: &Types<'_>, texts: &Texts<'_>, target: Target, mean: usize) -> usize {
     match texts.known(types, target, 0) {
         Some(Some(symbol)) => symbol.len().saturating_add(BESIDE),
@@ -21,7 +22,7 @@ fn record_size(types: &Types<'_>, texts: &Texts<'_>, target: Target, mean: usize
     }
 }
 
-/// About as many bytes as the records of these occurrences take, by how many one took in the mean so far.
+/// The estimated number of bytes of the records of these occurrences; `mean` is the mean size of those written so far.
 fn occurrences_size(
     types: &Types<'_>,
     texts: &Texts<'_>,
@@ -35,7 +36,7 @@ fn occurrences_size(
     size
 }
 
-/// About as many bytes as the records of the symbols take that are declared here.
+/// The estimated number of bytes of the records of the symbols that the module declares.
 fn symbols_size(types: &Types<'_>, texts: &Texts<'_>, refs: &[Reference]) -> usize {
     let mut size: usize = 0;
     for reference in refs {
@@ -48,7 +49,7 @@ fn symbols_size(types: &Types<'_>, texts: &Texts<'_>, refs: &[Reference]) -> usi
     size
 }
 
-/// How many references are passed, and how many bytes one of them took at most.
+/// The number of processed references, the maximum number of bytes of one of their records, and whether the last reservation failed.
 #[derive(Clone, Copy)]
 pub(crate) struct Ahead {
     done: usize,
@@ -65,7 +66,7 @@ impl Ahead {
         }
     }
 
-    /// Makes room for what is left, and for so much more that few further looks are needed where some of it is longer.
+    /// Reserves capacity for all that is left, and spare capacity so that few further estimates are needed if some records are longer.
     #[inline(never)]
     fn make_room(
         &mut self,
@@ -86,7 +87,7 @@ impl Ahead {
         self.refused = out.reserve_exact(more).is_err();
     }
 
-    /// Passes a reference whose record begins at this place, and makes room where the next one may have none.
+    /// Counts a reference whose record begins at index `start`, and reserves capacity if the next record might not fit.
     #[inline(always)]
     pub(crate) fn pass(
         &mut self,
@@ -110,7 +111,7 @@ impl Ahead {
     }
 }
 
-/// Makes room for the records of the symbols that are declared here behind those of the occurrences.
+/// Reserves capacity for the records of the declared symbols, which follow those of the occurrences.
 pub(crate) fn room_for_symbols(
     out: &mut Vec<u8>,
     types: &Types<'_>,
@@ -126,7 +127,8 @@ pub(crate) fn room_for_symbols(
     let _hint = out.reserve_exact(more);
 }
 
-/// Cuts the bytes of a document to their length. A large one whose room isn't far greater keeps it, as it would stand twice meanwhile.
+/// Shrinks the capacity of a document's bytes to their length. A large document keeps up to an eighth of its length as spare capacity.
+/// Its bytes would exist twice while it is shrunk.
 pub(crate) fn cut(bytes: &mut Vec<u8>)
     ensures { bytes.new.items ≡ bytes.old.items }
 {

@@ -1,5 +1,4 @@
-//! The places of declarations by their tokens. A search among all rows takes steps by their number; here a mark at each sixteenth token
-//! tells between which rows the token's stands, at most sixteen.
+//! The indices of declarations by token number, found by a stored index for each sixteenth token.
 ghost use Rattle.std.specs.Prelude.{◌≡◌, ◌==◌, ◌<◌, IfNone, IfOk, IfSome, position};
 ghost use Rattle.std.specs.Bool.{OnTrue};
 ghost use Rattle.ob_rows.specs.declared.rows.Declared.{Declared};
@@ -9,25 +8,25 @@ ghost use Rattle.ob_emit.specs.RowsCut.{AreBefore, AreBehind, AreCuts, IsCut};
 use ob_rows::{Declared, place_of};
 use std::alloc::{AllocError, Global};
 
-/// How many tokens stand between two marks.
+/// The number of tokens between two stored indices.
 const STRIDE: usize = 16;
 
-/// How many places are remembered.
+/// The number of cache entries.
 const RECENT: usize = 128;
 
-/// Declarations in the order of their tokens, with marks among them.
+/// Declarations sorted by token number. A lookup compares at most sixteen of them: those between two stored indices.
 #[derive(Drop)]
 pub(crate) struct RowPlaces<'a> {
     pub(crate) declared: &'a [Declared],
-    /// For each stride of tokens the place of the first declaration from there on.
+    /// For each sixteenth token, the index of the first declaration from that token on.
     firsts: Vec<usize>,
-    /// Of those that were met last, by some bits of their tokens. Hints alone.
+    /// A direct-mapped cache of the indices found last, by some bits of the token number. Each is checked before use.
     recent: Vec<usize>,
     ghost ascend: { AscendBy (λ (d : Declared). d.number) declared.now },
     ghost cuts: { AreCuts declared.now firsts.items },
 }
 
-/// The place of the first declaration from a token on, sought from a place on that has none behind it.
+/// The index of the first declaration from a token on, by a linear search from an index before which all declarations are earlier.
 fn first_from(declared: &[Declared], from: usize, number: usize) -> usize
     requires ascend { AscendBy (λ (d : Declared). d.number) declared.now }
     requires before { AreBefore declared.now number from }
@@ -40,7 +39,7 @@ fn first_from(declared: &[Declared], from: usize, number: usize) -> usize
     place
 }
 
-/// The places of the first declarations from each of so many marks on.
+/// For each of the first `count` multiples of the stride, the index of the first declaration from that token on.
 fn firsts_of(alloc: Global, declared: &[Declared], count: usize) -> Result<Vec<usize>, AllocError>
     requires ascend { AscendBy (λ (d : Declared). d.number) declared.now }
     requires few { count < 4294967296 }
@@ -55,7 +54,7 @@ fn firsts_of(alloc: Global, declared: &[Declared], count: usize) -> Result<Vec<u
     Ok(firsts)
 }
 
-/// The place among these of the declaration of this number, if there is one.
+/// The index of the declaration of this token, if there is one, by a linear search between two indices.
 fn place_between(declared: &[Declared], low: usize, high: usize, number: u32) -> Option<usize>
     requires before { AreBefore declared.now number low }
     requires behind { AreBehind declared.now number high }
@@ -73,7 +72,7 @@ fn place_between(declared: &[Declared], low: usize, high: usize, number: u32) ->
 }
 
 impl<'a> RowPlaces<'a> {
-    /// Those of declarations in a text of so many tokens.
+    /// The indices of these declarations, in a source of `tokens` tokens.
     pub(crate) fn new(
         alloc: Global,
         declared: &'a [Declared],
@@ -92,7 +91,7 @@ impl<'a> RowPlaces<'a> {
         })
     }
 
-    /// The marks before and behind a token.
+    /// Two stored indices between which the declaration of a token is, if there is one. `None` if the table ends before the token.
     fn bounds(&self, number: u32) -> Option<(usize, usize)>
         ensures before { IfSome result (λ b. AreBefore self.now.declared.now number b.0) }
         ensures behind { IfSome result (λ b. AreBehind self.now.declared.now number b.1) }
@@ -103,7 +102,8 @@ impl<'a> RowPlaces<'a> {
         Some((low, high))
     }
 
-    /// Where the declaration of this number is sought, and found.
+    /// The index of the declaration of this token, if there is one: between the stored indices, or by a binary search if the table ends
+    /// before the token.
     fn sought(&self, number: u32) -> Option<usize>
         ensures found { IfSome result (IsPlaceBy (λ (d : Declared). d.number) self.now.declared.now number) }
         ensures none { IfNone result (HasNoneBy (λ (d : Declared). d.number) self.now.declared.now number) }
@@ -114,14 +114,14 @@ impl<'a> RowPlaces<'a> {
         }
     }
 
-    /// The place of the declaration of this number, if there is one.
+    /// The index of the declaration of this token, if there is one.
     pub(crate) fn place_of(&self, number: u32) -> Option<usize>
         ensures { result ≡ position (λ (d : Declared). d.number == number) self.now.declared.now }
     {
         self.sought(number)
     }
 
-    /// Whether the declaration of this number stands at this place.
+    /// Whether the declaration at this index is that of this token.
     fn stands_at(&self, place: usize, number: u32) -> bool
         ensures { OnTrue result (IsPlaceBy (λ (d : Declared). d.number) self.now.declared.now number place) }
     {
@@ -131,7 +131,7 @@ impl<'a> RowPlaces<'a> {
         }
     }
 
-    /// The place of the declaration of this number, if there is one, looked for at this place first.
+    /// The index of the declaration of this token, if there is one. Tries index `near` first.
     pub(crate) fn place_from(&self, near: usize, number: u32) -> Option<usize>
         ensures { result ≡ position (λ (d : Declared). d.number == number) self.now.declared.now }
     {
@@ -142,7 +142,7 @@ impl<'a> RowPlaces<'a> {
         }
     }
 
-    /// Remembers where a declaration stands, and tells it; any place where there is none.
+    /// Finds the index of the declaration of this token and stores it in the cache. Returns it, or 0 if there is none.
     fn remember(&mut self, number: u32) -> usize
         ensures { self.new.declared ≡ self.old.declared }
     {
@@ -153,7 +153,7 @@ impl<'a> RowPlaces<'a> {
         place
     }
 
-    /// Where the declaration of this number stands, if there is one: where it is remembered, or else where it is found.
+    /// The index of the declaration of this token, by the cache or else by a lookup. Any index if the token declares nothing.
     pub(crate) fn meet(&mut self, number: u32) -> usize
         ensures { self.new.declared ≡ self.old.declared }
     {

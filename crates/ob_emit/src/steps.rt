@@ -1,4 +1,4 @@
-//! The steps of a path: what stands in a module's block, or in a record there.
+//! The steps of a path of descriptors: declarations in a module's block, and fields of records there.
 ghost use Rattle.std.specs.Prelude.{◌≡◌, ℕ, Option};
 ghost use Rattle.std.specs.Option.{option_map};
 ghost use Rattle.ob_emit.specs.Made.{step_told};
@@ -7,7 +7,7 @@ ghost use Rattle.ob_emit.specs.Symbols.{PathStep, step_in_block, step_in_record,
 use ob_rows::Sort;
 use scip_symbol::DescriptorKind;
 
-/// What is declared: its own descriptor, and of a field the number of its owner.
+/// The last step of a declaration's path: the kind and the name of its own descriptor, and for a field the number of its owner.
 #[derive(Clone, Copy, Drop)]
 pub(crate) struct StepRow<'a> {
     pub(crate) kind: DescriptorKind,
@@ -15,16 +15,16 @@ pub(crate) struct StepRow<'a> {
     pub(crate) owner: Option<u32>,
 }
 
-/// A module whose declarations are told by numbers.
+/// A module that numbers its declarations, for example by token or by index in an interface.
 pub(crate) trait Nested {
     ghost steps_in: { Self → ℕ → Option PathStep };
 
-    /// What the module declares by this number in its block or in a record there.
+    /// The last step of the path of the declaration with this number, if it is in the module's block or a field of a record there.
     fn step(&self, number: u32) -> Option<StepRow<'_>>
         ensures { option_map step_told result ≡ steps_in self.now number };
 }
 
-/// What a declaration's descriptor is; an import item has none.
+/// The kind of a declaration's descriptor; `None` for an import item.
 fn kind_of(sort: Sort) -> Option<DescriptorKind>
     ensures { result ≡ kind_of sort }
 {
@@ -38,7 +38,7 @@ fn kind_of(sort: Sort) -> Option<DescriptorKind>
     }
 }
 
-/// What stands in the block itself.
+/// The step of a declaration in the module's block.
 pub(crate) fn step_in_block(sort: Sort, name: &[u8]) -> Option<StepRow<'_>>
     ensures { option_map step_told result ≡ step_in_block sort name.now }
 {
@@ -50,7 +50,7 @@ pub(crate) fn step_in_block(sort: Sort, name: &[u8]) -> Option<StepRow<'_>>
     })
 }
 
-/// A field, whose owner stands before it.
+/// The step of a field; `None` unless its owner has a smaller number. So the recursion along owners ends.
 pub(crate) fn step_in_record(number: u32, name: &[u8], owner: Option<u32>) -> Option<StepRow<'_>>
     ensures { option_map step_told result ≡ step_in_record number name.now owner }
 {

@@ -1,4 +1,4 @@
-//! The texts of symbols.
+//! The symbol strings of targets: copies of the stored ones, or new ones.
 ghost use Rattle.std.specs.Prelude.{◌≡◌, ℕ, List, IfOk};
 ghost use Rattle.std.specs.Option.{option_map};
 ghost use Rattle.std.specs.String.{string_bytes};
@@ -16,7 +16,7 @@ use ob_targets::Target;
 use ob_types::Types;
 use std::alloc::{AllocError, Global};
 
-/// A text, if there is one, once more.
+/// Copies a string, if there is one.
 fn copied(text: &Option<String>) -> Result<Option<String>, AllocError>
     ensures { IfOk result (λ more. option_map string_bytes more ≡ option_map string_bytes text.now) }
 {
@@ -27,7 +27,7 @@ fn copied(text: &Option<String>) -> Result<Option<String>, AllocError>
 }
 
 impl Texts<'_> {
-    /// The text of the symbol of what this token declares.
+    /// The symbol string of what this token declares.
     fn declared(
         &self,
         alloc: Global,
@@ -47,7 +47,7 @@ impl Texts<'_> {
         }
     }
 
-    /// The text of the symbol of a declaration of a module that is reached, by the places of both.
+    /// The symbol string of a declaration of a reached module, by the indices of both.
     fn imported(
         &self,
         alloc: Global,
@@ -71,7 +71,7 @@ impl Texts<'_> {
         }
     }
 
-    /// The text of the symbol of the module that an import item names.
+    /// The symbol string of the module that an import item names.
     fn module(
         &self,
         alloc: Global,
@@ -88,7 +88,7 @@ impl Texts<'_> {
         }
     }
 
-    /// The text of the symbol of a name of a module that isn't in the tree.
+    /// The symbol string of a name of a module that isn't in the tree.
     fn external(
         &self,
         alloc: Global,
@@ -107,7 +107,7 @@ impl Texts<'_> {
         }
     }
 
-    /// The text of the symbol of what an identifier stands for, if that has one.
+    /// The symbol string of a target, if it has a symbol.
     pub(crate) fn symbol(
         &self,
         alloc: Global,

@@ -1,4 +1,4 @@
-//! Lines told from where the last one was.
+//! Line lookups that begin at the line that was found last.
 ghost use Rattle.std.specs.Prelude.{◌≡◌, ◌≤◌, ◌<◌, ℕ, List, false, length, leb, IfOk};
 ghost use Rattle.std.specs.Bool.{OnTrue};
 ghost use Rattle.ob_scan.specs.Position.{line_starts, IsLineTable, IsPosition};
@@ -8,7 +8,8 @@ use ob_scan::{Lines, Position, lines};
 use std::alloc::{AllocError, Global};
 use std::marker::Model;
 
-/// Where the lines of a text begin, stepped through: an offset near the last one is mostly in its line or in one of the next.
+/// The starts of the lines of a source. In a pass over the tokens an offset is mostly in the line of the offset before it, or in one of the
+/// next.
 #[derive(Drop)]
 pub(crate) struct LineTable {
     lines: Lines,
@@ -22,7 +23,7 @@ impl Model for LineTable {
     ghost view = { λ t. t.lines };
 }
 
-/// The table of the lines of a text.
+/// The table of the lines of a source.
 pub(crate) fn line_table(alloc: Global, bytes: &[u8]) -> Result<LineTable, AllocError>
     ensures { IfOk result (λ t. t ≡ line_starts bytes.now) }
 {
@@ -31,7 +32,7 @@ pub(crate) fn line_table(alloc: Global, bytes: &[u8]) -> Result<LineTable, Alloc
     })
 }
 
-/// Whether an offset stands in this line.
+/// Whether an offset is in this line.
 fn is_in(starts: &[u32], line: usize, offset: u32) -> bool
     requires { line < length starts.now }
     ensures { OnTrue result (IsInLine starts.now line offset) }
@@ -45,7 +46,7 @@ fn is_in(starts: &[u32], line: usize, offset: u32) -> bool
     }
 }
 
-/// The line of an offset, sought among all.
+/// The line of an offset, by a binary search.
 fn sought(starts: &[u32], offset: u32) -> usize
     requires { IsLineTable starts.now }
     ensures { IsInLine starts.now result offset }
@@ -57,12 +58,12 @@ fn sought(starts: &[u32], offset: u32) -> usize
     ) - 1
 }
 
-/// The line of an offset, sought first in this line and some behind it.
+/// The line of an offset. Tries line `near` and some lines after it, then a binary search.
 fn line_near(starts: &[u32], near: usize, offset: u32) -> usize
     requires { IsLineTable starts.now }
     ensures { IsInLine starts.now result offset }
 {
-    /// How many lines further it pays to look.
+    /// The number of lines that are tried before the binary search.
     const NEAR: usize = 8;
     for line in near..near.saturating_add(NEAR).min(starts.len()) {
         if is_in(starts, line, offset) {
@@ -73,7 +74,7 @@ fn line_near(starts: &[u32], near: usize, offset: u32) -> usize
 }
 
 impl LineTable {
-    /// The line and the column of an offset in the text that these are the lines of, sought first near the line that was found last.
+    /// The line and the column of an offset in the source with these lines. Tries line `near` first, and stores the line there.
     pub(crate) fn position_near(&self, near: &mut u32, offset: u32) -> Position
         ensures { (bytes : List ℕ) → self.now ≡ line_starts bytes → offset ≤ length bytes → IsPosition bytes offset result.line result.column }
     {

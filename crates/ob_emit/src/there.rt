@@ -1,4 +1,4 @@
-//! The declarations of a module that is reached, by their places in its interface.
+//! The declarations of a reached module, by their indices in its interface.
 ghost use Rattle.std.specs.Prelude.{◌≡◌};
 ghost use Rattle.std.specs.Option.{option_map};
 ghost use Rattle.ob_interface.specs.Answered.{declaration_told};
@@ -8,7 +8,7 @@ ghost use Rattle.ob_emit.specs.Symbols.{step_there, steps_there};
 use crate::steps::{Nested, StepRow, step_in_block, step_in_record};
 use ob_interface::{Declaration, Interface};
 
-/// What a declaration is to paths.
+/// The path step of a declaration of an interface.
 fn step_there<'a>(interface: &'a Interface, place: u32, it: &Declaration<'a>) -> Option<StepRow<'a>>
     ensures { option_map step_told result ≡ step_there interface.now place (declaration_told it.now) }
 {

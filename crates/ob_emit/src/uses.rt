@@ -1,5 +1,4 @@
-//! Occurrences that declare nothing and take few bytes, as most do. Their lengths are known before they are written, so that they are
-//! put where they stand; what `pieces` puts, byte for byte.
+//! Short occurrences that declare nothing, as most are, appended without a buffer and byte for byte as `pieces` writes them.
 ghost use Rattle.std.specs.Prelude.{◌≡◌, ◌++◌, ◌<◌, ◌==◌, ◌+◌, ◌∷◌, [], OnOk, length, pos, if◌then◌else◌};
 ghost use Rattle.std.specs.Bool.{OnTrue};
 ghost use Rattle.proto_wire.specs.Writing.{number_fields, payload_field, spelled, spelled_fields};
@@ -9,7 +8,8 @@ ghost use Rattle.ob_emit.specs.Places.{front_of, use_told, IsShort};
 use crate::places::Span;
 use std::alloc::AllocError;
 
-/// Whether an occurrence takes so few bytes.
+/// Whether an occurrence is short: it declares nothing, and its line, columns, symbol string and role take few bytes.
+/// Then the length of its record is known before it is written.
 pub(crate) fn is_short(span: &Span, symbol: &str, role: u8) -> bool
     ensures { OnTrue result (IsShort span.now (length symbol.now) role) }
 {
@@ -37,7 +37,8 @@ pub(crate) fn is_short(span: &Span, symbol: &str, role: u8) -> bool
     role != 1
 }
 
-/// Puts what stands in front of a symbol of so many bytes, where so many stand behind the range.
+/// Appends the bytes of a short occurrence's record that precede the symbol string of `size` bytes; `rest` bytes follow the field of the
+/// range.
 #[tactic(auto, using(crate::proofs::ShortUses::front_low, crate::proofs::ShortUses::front_high))]
 fn push_front(
     out: &mut Vec<u8>,
@@ -78,14 +79,14 @@ fn push_front(
     }
 }
 
-/// How many bytes a role takes.
+/// The number of bytes of a role's field.
 fn role_size(role: u8) -> u8
     ensures { result ≡ (if role == 0 then 0 else 2) }
 {
     if role == 0 { 0 } else { 2 }
 }
 
-/// Puts a role, if there is one.
+/// Appends the field of a role, unless the role is 0.
 fn push_role(out: &mut Vec<u8>, role: u8) -> Result<(), AllocError>
     requires { role < 128 }
     ensures { OnOk result (out.new.items ≡ out.old.items ++ spelled_fields (number_fields 3 (pos role))) }
@@ -96,7 +97,7 @@ fn push_role(out: &mut Vec<u8>, role: u8) -> Result<(), AllocError>
     out.extend_from_slice(&[24, role])
 }
 
-/// Puts the record of such an occurrence.
+/// Appends the record of a short occurrence.
 pub(crate) fn push_use(
     out: &mut Vec<u8>,
     span: &Span,
