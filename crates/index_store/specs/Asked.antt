@@ -1,4 +1,4 @@
--- What the private functions of a store give to a question.
+-- What the private functions of a store return.
 use Rattle.std.specs.Prelude.{Bool, true, false, not, ◌&&◌, ◌||◌, ℕ, List, [], ◌∷◌, fold, Option, Some, None, if◌then◌else◌}
 use Rattle.std.specs.Str.{bytes_eq}
 use Rattle.scip_index.specs.Plain.{PlainIndex}
@@ -9,26 +9,28 @@ use Rattle.index_store.specs.Queries.{PlainPlace, definitions, references}
 use Rattle.index_store.specs.Spans.{is_in, is_nearer}
 use Rattle.index_store.specs.Stores.{Mentioned}
 
--- the nearer of two that cover the position; of two that are equally near the one that came first
+-- the nearer of two elements that cover a position; of two equally near ones the first
 abbrev pub nearer_of : {A : Type 0} → (A → Span) → Option A → A → A
 nearer_of span None row = row
 nearer_of span (Some other) row = if is_nearer (span row) (span other) then row else other
 
--- the nearest so far, and one more
+-- the nearest element so far, or the next element if it covers the position and is nearer
 abbrev pub nearer : {A : Type 0} → (A → Span) → Position → Option A → A → Option A
 nearer span at best row = if is_in at (span row) then Some (nearer_of span best row) else best
 
+-- the span of an entry of a path
 abbrev pub covering_span : Covering → Span
 covering_span c = c.span
 
--- the nearest of the rows
+-- the nearest of the entries that cover the position; of several equally near ones the first
 abbrev pub nearest : List Covering → Position → Option Covering
 nearest rows at = fold (nearer covering_span at) None rows
 
--- definitions or references are asked for, of all paths or of one
+-- the entry is one of those looked up: definitions or else references, in the documents of one path or else in all documents
 abbrev pub is_asked : Bool → Bool → List ℕ → Mentioned → Bool
 is_asked defines local path m = (if defines then m.defines else not m.defines) && (not local || bytes_eq m.path path)
 
+-- the location of an entry, if the entry is one of those looked up
 abbrev pub place_asked : Bool → Bool → List ℕ → Mentioned → List PlainPlace
 place_asked defines local path m = if is_asked defines local path m then record { path = m.path; span = m.span } ∷ [] else []
 

@@ -1,4 +1,4 @@
--- Questions to the list of all occurrences of all documents, in the index's order.
+-- Queries, as properties of the list of all occurrences of all documents, in the index's order.
 use Rattle.std.specs.Prelude.{◌≡◌, ◌≢◌, ℕ, ◌%◌, ◌==◌, ◌&&◌, ◌||◌, Bool, true, false, not, nat_eq, List, [], ◌∷◌, ◌++◌, map, filter, Option, Some, None, Result, Ok, Err, Contains}
 use Rattle.std.specs.List.{flat_map, starts_with}
 use Rattle.std.specs.Int.{w32, cast_unsigned}
@@ -16,35 +16,37 @@ pub record PlacedOccurrence : Type 0 where
   pub path : List ℕ
   pub occurrence : PlainOccurrence
 
+-- an occurrence of a document with this path
 abbrev pub found_at : List ℕ → PlainOccurrence → PlacedOccurrence
 found_at path occurrence = record { path = path; occurrence = occurrence }
 
+-- the occurrences of a document, with its path
 abbrev pub found_in : PlainDocument → List PlacedOccurrence
 found_in document = map (found_at document.relative_path) document.occurrences
 
--- all occurrences of all documents
+-- all occurrences of all documents, in the index's order
 abbrev pub all_found : PlainIndex → List PlacedOccurrence
 all_found index = flat_map found_in index.documents
 
--- some document has this path
+-- a document of the index has this path
 abbrev pub HasPath : PlainIndex → List ℕ → Type 0
 HasPath index path = Contains (map (λ document. document.relative_path) index.documents) path
 
--- what is answered, with the value seen so
+-- a result with the view of its value
 abbrev pub answered : {A B E : Type 0} → (A → B) → Result A E → Result B E
 answered seen (Ok x) = Ok (seen x)
 answered seen (Err e) = Err e
 
--- ---- what stands at a position
+-- ---- the symbol at a position
 
--- the occurrence has a symbol, is in this document, and the position is in its span
+-- the occurrence is in a document of this path, has a symbol, and has this span, which contains the position
 pub record Covers (path : List ℕ) (at : Position) (f : PlacedOccurrence) (span : Span) : Type 0 where
   pub here : f.path ≡ path
   pub some : f.occurrence.symbol ≢ []
   pub placed : span_of f.occurrence.range ≡ Some span
   pub inside : is_in at span ≡ true
 
--- of the covering ones the one that no other is nearer than, and the first of those
+-- the nearest occurrence that covers the position: no other covering one is nearer, and none before it is equally near
 pub record IsNearest (found : List PlacedOccurrence) (path : List ℕ) (at : Position) (f : PlacedOccurrence) (span : Span) : Type 0 where
   pub before : List PlacedOccurrence
   pub after : List PlacedOccurrence
@@ -53,16 +55,16 @@ pub record IsNearest (found : List PlacedOccurrence) (path : List ℕ) (at : Pos
   pub first : (g : PlacedOccurrence) (other : Span) → Contains before g → Covers path at g other → is_nearer span other ≡ true
   pub latest : (g : PlacedOccurrence) (other : Span) → Contains after g → Covers path at g other → is_nearer other span ≡ false
 
--- none covers the position
+-- no occurrence covers the position
 abbrev pub NoneCovers : List PlacedOccurrence → List ℕ → Position → Type 0
 NoneCovers found path at = (g : PlacedOccurrence) (other : Span) → Contains found g → Covers path at g other → ⊥
 
--- the symbol of the nearest one, or none where none covers
+-- the symbol of the nearest occurrence that covers the position, or none if no occurrence covers it
 abbrev pub IsSymbolAt : List PlacedOccurrence → List ℕ → Position → Option (List ℕ) → Type 0
 IsSymbolAt found path at None = NoneCovers found path at
 IsSymbolAt found path at (Some symbol) = (f : PlacedOccurrence) × (span : Span) × IsNearest found path at f span × (f.occurrence.symbol ≡ symbol)
 
--- what a store answers, which no refusal of memory keeps from it
+-- the result of a store's lookup at a position: the symbol or none, or `NoDocument` if no document has the path; never `Memory`
 abbrev pub IsSymbolAnswer : PlainIndex → List ℕ → Position → Result (Option (List ℕ)) StoreFault → Type 0
 IsSymbolAnswer index path at (Ok symbol) = HasPath index path × IsSymbolAt (all_found index) path at symbol
 IsSymbolAnswer index path at (Err faults.NoDocument) = HasPath index path → ⊥
@@ -74,45 +76,49 @@ IsSymbolAnswer index path at (Err faults.Memory) = ⊥
 abbrev pub local_front : List ℕ
 local_front = 108 ∷ 111 ∷ 99 ∷ 97 ∷ 108 ∷ 32 ∷ []
 
+-- the symbol string begins with "local ", so the symbol is one of a single document
 abbrev pub is_local : List ℕ → Bool
 is_local symbol = starts_with nat_eq symbol local_front
 
--- a local symbol is sought in the documents of its path alone
+-- the occurrence has the symbol and, if the symbol is local, is in a document of the path
 abbrev pub is_sought : List ℕ → List ℕ → PlacedOccurrence → Bool
 is_sought path symbol f = bytes_eq f.occurrence.symbol symbol && (not (is_local symbol) || bytes_eq f.path path)
 
--- the lowest bit of the roles is set
+-- the occurrence has the definition role, the lowest bit of `symbol_roles`
 abbrev pub is_definition : PlainOccurrence → Bool
 is_definition o = cast_unsigned w32 o.symbol_roles % 2 == 1
 
--- a path with a span of it
+-- a location: a path with a span
 pub record PlainPlace : Type 0 where
   pub path : List ℕ
   pub span : Span
 
+-- a location with the bytes of its path
 abbrev pub plain_place : Place → PlainPlace
 plain_place p = record { path = p.path.now; span = record { start = p.start; end = p.end } }
 
--- the place of an occurrence, where its range is one
+-- the location of a span, if there is one, in a document of this path
 abbrev pub place_given : List ℕ → Option Span → List PlainPlace
 place_given path None = []
 place_given path (Some span) = record { path = path; span = span } ∷ []
 
+-- the location of an occurrence, if its range denotes a span
 abbrev pub place_of : PlacedOccurrence → List PlainPlace
 place_of f = place_given f.path (span_of f.occurrence.range)
 
+-- the locations of the occurrences whose ranges denote spans, in their order
 abbrev pub places_of : List PlacedOccurrence → List PlainPlace
 places_of found = flat_map place_of found
 
--- the places where the symbol is defined, in the index's order
+-- the locations where the symbol is defined, in the index's order
 abbrev pub definitions : PlainIndex → List ℕ → List ℕ → List PlainPlace
 definitions index path symbol = places_of (filter (λ f. is_sought path symbol f && is_definition f.occurrence) (all_found index))
 
--- the places where it occurs and is not defined
+-- the locations where the symbol occurs and isn't defined, in the index's order
 abbrev pub references : PlainIndex → List ℕ → List ℕ → List PlainPlace
 references index path symbol = places_of (filter (λ f. is_sought path symbol f && not (is_definition f.occurrence)) (all_found index))
 
--- what a store answers, unless memory runs out
+-- the result of a store's lookup of a symbol: these locations, `NoDocument` if no document has the path, or `Memory`, of which nothing is claimed
 abbrev pub ArePlacesAnswer : PlainIndex → List ℕ → List PlainPlace → Result (List PlainPlace) StoreFault → Type 0
 ArePlacesAnswer index path wanted (Ok places) = HasPath index path × (places ≡ wanted)
 ArePlacesAnswer index path wanted (Err faults.NoDocument) = HasPath index path → ⊥

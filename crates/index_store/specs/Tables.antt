@@ -1,36 +1,38 @@
--- Rows under texts: the texts once each, in the order in which they come, and for each of them its rows.
+-- Tables from strings to lists of entries: the strings once each, in the order of insertion, and the entries of each.
 use Rattle.std.specs.Prelude.{◌≡◌, ◌⊎◌, ℕ, ◌+◌, List, [], ◌∷◌, ◌++◌, length, map, Option, Some, None, option_map, if◌then◌else◌}
 use Rattle.std.specs.List.{slice_index_or}
 use Rattle.std.specs.Str.{bytes_eq}
 use Rattle.std.specs.String.{string_bytes}
 use Rattle.index_store.specs.declared.table.Table.{Table}
 
+-- the strings of a table, as bytes
 abbrev pub texts_in : {A : Type 0} → Table A → List (List ℕ)
 texts_in table = map string_bytes table.texts.keys
 
+-- the lists of entries of a table, in the order of its strings
 abbrev pub rows_in : {A : Type 0} → Table A → List (List A)
 rows_in table = map (λ rows. rows.items) table.rows.items
 
--- the text of a number
+-- the string at an index; empty beyond the end
 abbrev pub text_at : List (List ℕ) → ℕ → List ℕ
 text_at texts n = slice_index_or texts n []
 
--- the rows of a number
+-- the entries at an index; none beyond the end
 abbrev pub rows_at : {A : Type 0} → List (List A) → ℕ → List A
 rows_at rows n = slice_index_or rows n []
 
--- the number of a text
+-- the index of a string, if the list has it
 abbrev pub text_number : List (List ℕ) → List ℕ → Option ℕ
 text_number [] text = None
 text_number (t ∷ texts) text = if bytes_eq text t then Some 0 else option_map (λ n. n + 1) (text_number texts text)
 
--- the rows under a text
+-- the entries of a string; none if the list doesn't have it
 abbrev pub rows_under : {A : Type 0} → List (List ℕ) → List (List A) → List ℕ → List A
 rows_under [] rows text = []
 rows_under (t ∷ texts) [] text = []
 rows_under (t ∷ texts) (r ∷ rows) text = if bytes_eq text t then r else rows_under texts rows text
 
--- the text was there with this number, or it stands behind the others now, with no rows
+-- n is the index of the string, which either was in the table, then unchanged, or is now its last string, with no entries
 abbrev pub IsEntered : {A : Type 0} → List (List ℕ) → List (List A) → List ℕ → List (List ℕ) → List (List A) → ℕ → Type 0
 IsEntered texts rows text more_texts more_rows n =
     ((text_number texts text ≡ Some n) × (more_texts ≡ texts) × (more_rows ≡ rows))

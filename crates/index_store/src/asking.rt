@@ -1,4 +1,4 @@
-//! Questions to the bytes of an index.
+//! Queries on the bytes of an index, with their results written as lines.
 ghost use Rattle.std.specs.Prelude.{◌≡◌, ◌↔◌, ◌++◌, codes, map, option_copied, true, IfErr, IfOk, OnOk};
 ghost use Rattle.std.specs.String.{string_bytes};
 ghost use Rattle.std.specs.Str.{IsUtf8};
@@ -25,16 +25,16 @@ use scip_index::check;
 use std::alloc::{AllocError, Global};
 use text_escape::{PlaceStyle, escaped};
 
-/// Which places of a symbol are asked for.
+/// Which occurrences of a symbol a query returns.
 #[derive(Clone, Copy, Debug, PartialEq, Eq)]
 pub enum Which {
-    /// Those where it is defined.
+    /// Occurrences that have the definition role.
     Definitions,
-    /// Those where it is used and not defined.
+    /// Occurrences that don't have the definition role.
     References,
 }
 
-/// Refuses bytes that mean no index, with their first fault.
+/// Checks that the bytes encode an index. Fails with their first fault if they don't.
 fn check_index(alloc: Global, bytes: &[u8]) -> Result<(), QueryFault>
     ensures means { OnOk result ((index : PlainIndex) × Means bytes.now index) }
     ensures fault { IfErr result (IsRefusedIndex bytes.now) }
@@ -43,7 +43,7 @@ fn check_index(alloc: Global, bytes: &[u8]) -> Result<(), QueryFault>
     Ok(())
 }
 
-/// The places of a symbol that are asked for.
+/// The locations of a symbol's definitions or references.
 fn places_of<'a>(
     alloc: Global,
     bytes: &'a [u8],
@@ -60,7 +60,7 @@ fn places_of<'a>(
     }
 }
 
-/// Puts the lines of the places that bytes tell which mean an index.
+/// Writes the lines of the definitions or references of the symbol at a position, in bytes that encode an index.
 fn put_answer<S: Sink>(
     alloc: Global,
     bytes: &[u8],
@@ -82,11 +82,14 @@ fn put_answer<S: Sink>(
     Ok(())
 }
 
-/// Reads an index and writes a line for each place of the symbol at a position of a document, as `PATH:LINE:COL-LINE:COL` in this
-/// style: the places where it is defined, or those where it is used and not defined, in the index's order. The position counts from
-/// 0 in each style. If no symbol covers it, nothing is written. The symbol is that of the covering occurrence that starts last, then
-/// ends first, then comes first; one whose text begins with `local ` is looked up in the documents of the path alone.
-/// Returns the first fault of the bytes, then `NoDocument` if no document has the path, `Device` or `Memory`.
+/// Checks the bytes of an index and writes a line `PATH:LINE:COL-LINE:COL` in this style for each definition, or for each reference, of the
+/// symbol at a position of a document.
+/// The lines are in the index's order. The line and column of `at` are zero-based in each style.
+/// The symbol is that of the covering occurrence that starts last, then ends first, then comes first. If none covers the position, nothing
+/// is written.
+/// A symbol whose string begins with `local ` is looked up in the documents of the path alone.
+/// Fails with the first fault of the bytes, then with `NoDocument` if no document has the path, with `Device` if the sink fails, and with
+/// `Memory` if an allocation fails.
 pub fn query<S: Sink>(
     alloc: Global,
     index: &[u8],
@@ -96,16 +99,18 @@ pub fn query<S: Sink>(
     style: PlaceStyle<'_>,
     sink: &mut S,
 ) -> Result<(), QueryFault>
-    // What was read, and the lines that the sink took; after a refusal of the input it took nothing.
+    // With `Ok` the sink took exactly the lines of these locations, according to the index that the bytes encode. After `Device` or
+    // `Memory` it has at most a prefix of them, after another error none.
+    // The other errors are the first fault of the bytes, and `NoDocument` if the bytes encode an index in which no document has the path.
     ensures run { IsQueryRun (style_of style.entry) index.now path.now at which (S.taken sink.old) (S.taken sink.new) result }
-    // Device is answered where the sink counted a failure, and nowhere else.
+    // The sink counts a failure if and only if the result is `Device`.
     ensures failures { S.failures sink.new ≡ failures_by is_device result (S.failures sink.old) }
 {
     check_index(alloc, index)?;
     put_answer(alloc, index, path, at, which, style, sink)
 }
 
-/// Whether a document of the index that the bytes mean has the path.
+/// Whether a document of the index that the bytes encode has the path.
 fn has_path(bytes: &[u8], path: &str) -> bool
     requires means { (index : PlainIndex) × Means bytes.now index }
     ensures exact { (index : PlainIndex) → Means bytes.now index → (result ≡ true) ↔ HasPath index path.now }
@@ -113,7 +118,7 @@ fn has_path(bytes: &[u8], path: &str) -> bool
     has_document(Inside { start: 0, bytes }, path.as_bytes())
 }
 
-/// Refuses a path that no document has, if one is given.
+/// Fails with `NoDocument` if a path is given and no document has it.
 fn check_path(bytes: &[u8], path: Option<&str>) -> Result<(), QueryFault>
     requires means { (index : PlainIndex) × Means bytes.now index }
     ensures has { (index : PlainIndex) → Means bytes.now index → OnOk result (HasGivenPath index (option_copied path.entry)) }
@@ -126,7 +131,7 @@ fn check_path(bytes: &[u8], path: Option<&str>) -> Result<(), QueryFault>
     }
 }
 
-/// Puts the lines of the definitions of bytes that mean an index.
+/// Writes the lines of the definitions in bytes that encode an index.
 fn put_listed<S: Sink>(
     alloc: Global,
     bytes: &[u8],
@@ -143,10 +148,12 @@ fn put_listed<S: Sink>(
     Ok(())
 }
 
-/// Reads an index and writes a line for each definition, as `PATH:LINE:COL-LINE:COL SYMBOL` in this style, in the index's order: for each
-/// occurrence that has the definition role, a symbol and a place; without a path those of symbols that don't begin with `local `, with
-/// one those of the documents of that path, local ones too. Control characters are written out.
-/// Refuses with the first fault of the bytes, then with `NoDocument` where no document has the path, and with `Device` or `Memory`.
+/// Checks the bytes of an index and writes a line `PATH:LINE:COL-LINE:COL SYMBOL` in this style for each definition, in the index's order.
+/// A definition is an occurrence with the definition role, a symbol, and a range that denotes a span.
+/// Without a path, these are the definitions of all documents whose symbol string doesn't begin with `local `. With a path, these are all
+/// definitions in the documents of that path. Control characters are escaped.
+/// Fails with the first fault of the bytes, then with `NoDocument` if no document has the path, with `Device` if the sink fails, and with
+/// `Memory` if an allocation fails.
 pub fn put_symbols<S: Sink>(
     alloc: Global,
     index: &[u8],
@@ -154,16 +161,19 @@ pub fn put_symbols<S: Sink>(
     style: PlaceStyle<'_>,
     sink: &mut S,
 ) -> Result<(), QueryFault>
-    // What was read, and the lines that the sink took; after a refusal of the input it took nothing.
+    // With `Ok` the sink took exactly the lines of these definitions, according to the index that the bytes encode. After `Device` or
+    // `Memory` it has at most a prefix of them, after another error none.
+    // The other errors are the first fault of the bytes, and `NoDocument` if the bytes encode an index in which no document has the given
+    // path.
     ensures run { IsSymbolsRun (style_of style.entry) index.now (option_copied path.entry) (S.taken sink.old) (S.taken sink.new) result }
-    // Device is answered where the sink counted a failure, and nowhere else.
+    // The sink counts a failure if and only if the result is `Device`.
     ensures failures { S.failures sink.new ≡ failures_by is_device result (S.failures sink.old) }
 {
     check_index(alloc, index)?;
     put_listed(alloc, index, path, style, sink)
 }
 
-/// The line of a symbol.
+/// The line of a symbol string, with its control characters escaped.
 fn symbol_line(alloc: Global, symbol: &[u8]) -> Result<String, AllocError>
     requires text { IsUtf8 symbol.now }
     ensures { IfOk result (λ line. string_bytes line ≡ escaped symbol.now ++ codes "\n") }
@@ -176,7 +186,7 @@ fn symbol_line(alloc: Global, symbol: &[u8]) -> Result<String, AllocError>
     Ok(line)
 }
 
-/// Puts the line of the symbol at a position of bytes that mean an index.
+/// Writes the line of the symbol at a position, in bytes that encode an index.
 fn put_symbol_at<S: Sink>(
     alloc: Global,
     bytes: &[u8],
@@ -196,9 +206,12 @@ fn put_symbol_at<S: Sink>(
     Ok(())
 }
 
-/// Reads an index and puts the symbol at a position of a document, as `query` finds it, as one line, with its control characters written
-/// out; nothing where no symbol covers the position.
-/// Refuses as `query` does.
+/// Checks the bytes of an index and writes the string of the symbol at a position of a document as one line, with its control characters
+/// escaped.
+/// The line and column of `at` are zero-based. The symbol is that of the covering occurrence that starts last, then ends first, then comes
+/// first. If none covers the position, nothing is written.
+/// Fails with the first fault of the bytes, then with `NoDocument` if no document has the path, with `Device` if the sink fails, and with
+/// `Memory` if an allocation fails.
 pub fn put_symbol<S: Sink>(
     alloc: Global,
     index: &[u8],
@@ -206,16 +219,19 @@ pub fn put_symbol<S: Sink>(
     at: Position,
     sink: &mut S,
 ) -> Result<(), QueryFault>
-    // What was read, and the line that the sink took; after a refusal of the input it took nothing.
+    // With `Ok` the sink took exactly the line of this symbol, according to the index that the bytes encode. After `Device` or `Memory` it
+    // has at most a prefix of it, after another error none.
+    // The other errors are the first fault of the bytes, and `NoDocument` if the bytes encode an index in which no document has the path.
     ensures run { IsSymbolRun index.now path.now at (S.taken sink.old) (S.taken sink.new) result }
-    // Device is answered where the sink counted a failure, and nowhere else.
+    // The sink counts a failure if and only if the result is `Device`.
     ensures failures { S.failures sink.new ≡ failures_by is_device result (S.failures sink.old) }
 {
     check_index(alloc, index)?;
     put_symbol_at(alloc, index, path, at, sink)
 }
 
-/// The places of a symbol that is named: of a local one in the documents of the path, and with no path nowhere.
+/// The locations of the definitions or references of a symbol by its string: of a local symbol in the documents of the path, and without a
+/// path nowhere.
 fn places_named<'a>(
     alloc: Global,
     bytes: &'a [u8],
@@ -233,7 +249,7 @@ fn places_named<'a>(
     }
 }
 
-/// Puts the lines of the places of a symbol that is named, of bytes that mean an index.
+/// Writes the lines of the definitions or references of a symbol by its string, in bytes that encode an index.
 fn put_named<S: Sink>(
     alloc: Global,
     bytes: &[u8],
@@ -253,10 +269,13 @@ fn put_named<S: Sink>(
     Ok(())
 }
 
-/// Reads an index and puts a line for each place of a symbol by its text, as `query` does of the symbol at a position, so that another
-/// index's symbol can be asked for. One that begins with `local ` is sought in the documents of the path alone, and with no path nowhere;
-/// of any other a path that is given has to be a document's, and changes nothing else.
-/// Refuses with the first fault of the bytes, then with `NoDocument` where no document has the path, and with `Device` or `Memory`.
+/// Checks the bytes of an index and writes a line `PATH:LINE:COL-LINE:COL` in this style for each definition, or for each reference, of the
+/// symbol with this string.
+/// The lines are in the index's order. So a symbol that was found in another index can be looked up.
+/// A symbol whose string begins with `local ` is looked up in the documents of the path alone, and without a path nowhere. For any other
+/// symbol all documents are searched, and a given path only has to be that of a document.
+/// Fails with the first fault of the bytes, then with `NoDocument` if no document has the path, with `Device` if the sink fails, and with
+/// `Memory` if an allocation fails.
 pub fn query_symbol<S: Sink>(
     alloc: Global,
     index: &[u8],
@@ -266,9 +285,12 @@ pub fn query_symbol<S: Sink>(
     style: PlaceStyle<'_>,
     sink: &mut S,
 ) -> Result<(), QueryFault>
-    // What was read, and the lines that the sink took; after a refusal of the input it took nothing.
+    // With `Ok` the sink took exactly the lines of these locations, according to the index that the bytes encode. After `Device` or
+    // `Memory` it has at most a prefix of them, after another error none.
+    // The other errors are the first fault of the bytes, and `NoDocument` if the bytes encode an index in which no document has the given
+    // path.
     ensures run { IsNamedRun (style_of style.entry) index.now (option_copied path.entry) symbol.now which (S.taken sink.old) (S.taken sink.new) result }
-    // Device is answered where the sink counted a failure, and nowhere else.
+    // The sink counts a failure if and only if the result is `Device`.
     ensures failures { S.failures sink.new ≡ failures_by is_device result (S.failures sink.old) }
 {
     check_index(alloc, index)?;

@@ -1,4 +1,4 @@
-//! Questions to the bytes of an index, with no store: the records are walked, and no message and no table is made.
+//! Queries on the bytes of an index without a store: they walk the records, and build neither messages nor tables.
 ghost use Rattle.std.specs.Prelude.{◌≡◌, ◌<◌, ◌+◌, ◌^◌, ◌++◌, ◌||◌, [], true, IfOk, IfSome, None, OnOk, fold, length, map, option_map, if◌then◌else◌};
 ghost use Rattle.std.specs.Str.{IsUtf8, bytes_eq};
 ghost use Rattle.std.specs.Option.{option_to_list};
@@ -20,14 +20,14 @@ use proto_wire::{
 };
 use std::alloc::{AllocError, Global};
 
-/// A span with its symbol.
+/// A span with its symbol string.
 #[derive(Clone, Copy)]
 pub(crate) struct Near<'a> {
     pub(crate) span: Span,
     pub(crate) symbol: &'a [u8],
 }
 
-/// The span of an occurrence, whose numbers are put in the place of those that are there.
+/// The span of an occurrence, if its range denotes one. `numbers` is scratch space for the numbers of the range.
 fn span_inside(occurrence: Inside<'_>, numbers: &mut Vec<i32>) -> Result<Option<Span>, AllocError>
     requires { occurrence.start + length occurrence.bytes.now < 2 ^ 64 }
     ensures { IfOk result (λ s. s ≡ span_of (occurrence_of (records_of occurrence.entry)).range) }
@@ -36,7 +36,7 @@ fn span_inside(occurrence: Inside<'_>, numbers: &mut Vec<i32>) -> Result<Option<
     Ok(span_of(numbers.as_slice()))
 }
 
-/// The span and the symbol of an occurrence that has both.
+/// The span and the symbol string of an occurrence, if it has both. `numbers` is scratch space for the numbers of the range.
 pub(crate) fn near_inside<'a>(
     occurrence: Inside<'a>,
     numbers: &mut Vec<i32>,
@@ -54,7 +54,7 @@ pub(crate) fn near_inside<'a>(
     }
 }
 
-/// The nearest so far, and one more.
+/// `row` if it covers the position and is nearer than `best`, and otherwise `best`.
 fn nearer_of_two<'a>(at: Position, best: Option<Near<'a>>, row: Near<'a>) -> Option<Near<'a>>
     ensures { option_map said_near result ≡ nearer pair_span at (option_map said_near best.entry) (said_near row.entry) }
 {
@@ -67,7 +67,7 @@ fn nearer_of_two<'a>(at: Position, best: Option<Near<'a>>, row: Near<'a>) -> Opt
     }
 }
 
-/// The nearest so far, and the occurrences of a document; and the document's path: one walk for both.
+/// The nearest of `best` and the occurrences of a document, with the document's path, in one pass.
 fn nearest_and_path<'a>(
     document: Inside<'a>,
     at: Position,
@@ -93,7 +93,7 @@ fn nearest_and_path<'a>(
     }
 }
 
-/// Whether a text of the field is this one.
+/// Whether the string field with this number is `text`. Of several records the last one counts, and without a record the field is empty.
 fn has_text(field: u32, message: Inside<'_>, text: &[u8]) -> bool
     requires { message.start + length message.bytes.now < 2 ^ 64 }
     ensures { result ≡ bytes_eq (latest [] (each_of field bytes_in (records_of message.entry))) text.now }
@@ -101,7 +101,7 @@ fn has_text(field: u32, message: Inside<'_>, text: &[u8]) -> bool
     last_bytes(field, message) == text
 }
 
-/// Whether one of the documents of an index has this path.
+/// Whether a document of the index has this path.
 pub(crate) fn has_document(index: Inside<'_>, path: &[u8]) -> bool
     requires { index.start + length index.bytes.now < 2 ^ 64 }
     ensures { result ≡ has_document path.now (documents_of index.entry) }
@@ -115,15 +115,16 @@ pub(crate) fn has_document(index: Inside<'_>, path: &[u8]) -> bool
     false
 }
 
-/// What is found of a path: whether a document has it, and the nearest there.
+/// The state of a search: whether a document has the path, and the nearest covering occurrence in the documents that have it.
 #[derive(Clone, Copy)]
 struct Search<'a> {
     has_path: bool,
     best: Option<Near<'a>>,
 }
 
-/// The path that a document begins with, where it has less than 128 bytes, as most producers write it. Where a number of the field
-/// stands there it is empty: what a document's path is, is known at its end.
+/// The path in the first record of a document, if that record is of the path's field and its length takes one byte, as most producers write
+/// it.
+/// A varint in that field gives an empty path. The document's last path is the one that counts, and is known only at the document's end.
 fn first_path<'a>(document: Inside<'a>) -> Option<&'a [u8]>
     requires { document.start + length document.bytes.now < 2 ^ 64 }
 {
@@ -134,7 +135,7 @@ fn first_path<'a>(document: Inside<'a>) -> Option<&'a [u8]>
     }
 }
 
-/// Whether a document begins with this path, of less than 128 bytes.
+/// Whether `first_path` returns this path for a document.
 fn begins_with(document: Inside<'_>, path: &[u8]) -> bool
     requires { document.start + length document.bytes.now < 2 ^ 64 }
 {
@@ -144,8 +145,8 @@ fn begins_with(document: Inside<'_>, path: &[u8]) -> bool
     }
 }
 
-/// What was found so far, and what is found in one document more. One that begins with the path, of less than 128 bytes, is walked
-/// once: whether its last path is the same is known at its end.
+/// Extends a search by one document. A document that begins with the path is walked once, which also finds its last path, the one that
+/// counts.
 fn search_document<'a>(
     document: Inside<'a>,
     path: &[u8],
@@ -170,7 +171,7 @@ fn search_document<'a>(
     })
 }
 
-/// The nearest of the occurrences of the documents that have the path.
+/// Searches the documents that have the path for the nearest occurrence that covers the position.
 fn search_documents<'a>(
     alloc: Global,
     index: Inside<'a>,
@@ -193,16 +194,21 @@ fn search_documents<'a>(
     Ok(found)
 }
 
-/// The symbol of the occurrence at a position of a document, as `Store::symbol_at` tells it, of the index that the bytes mean:
-/// whether they mean one is what `scip_index::check` answers. Refuses with `NoDocument` where no document has the path, and with
-/// `Memory`.
+/// The symbol string of the nearest occurrence that covers a position of a document, or `None` if none covers it, in bytes that encode an
+/// index. `Store::symbol_at` returns the same symbol for a store of that index; `scip_index::check` checks whether bytes encode an index.
+/// The nearest covering occurrence is the one that starts last, then ends first, then comes first. The line and column of `at` are
+/// zero-based.
+/// Fails with `NoDocument` if no document has the path, and with `Memory` if an allocation fails.
 pub fn symbol_in_bytes<'a>(
     alloc: Global,
     bytes: &'a [u8],
     path: &str,
     at: Position,
 ) -> Result<Option<&'a [u8]>, StoreFault>
+    // The bytes encode an index.
     requires means { (index : PlainIndex) × Means bytes.now index }
+    // With `Ok` a document has the path, and the result is the symbol of the nearest occurrence that covers the position, or none if none
+    // covers it. With `NoDocument` no document has the path.
     ensures exact { (index : PlainIndex) → Means bytes.now index → IsSymbolFound index path.now at (answered (option_map (λ symbol. symbol.now)) result) }
 {
     let found = search_documents(alloc, Inside { start: 0, bytes }, path, at)?;
@@ -215,12 +221,12 @@ pub fn symbol_in_bytes<'a>(
     }
 }
 
-/// What is asked of a symbol: where it is defined, or else where it is used, and in which documents.
+/// A lookup of a symbol's definitions, or else of its references.
 #[derive(Clone, Copy)]
 struct Sought<'s> {
     symbol: &'s [u8],
     defines: bool,
-    /// Whether the documents of the path alone are looked at.
+    /// Whether only the documents of the path are searched.
     local: bool,
     path: &'s [u8],
 }
@@ -231,7 +237,7 @@ pub(crate) fn is_local(symbol: &[u8]) -> bool
     symbol.starts_with(b"local ")
 }
 
-/// Whether the lowest bit of an occurrence's roles is set.
+/// Whether an occurrence has the definition role, the lowest bit of `symbol_roles`.
 fn is_definition(occurrence: Inside<'_>) -> bool
     requires { occurrence.start + length occurrence.bytes.now < 2 ^ 64 }
     ensures { result ≡ is_definition (occurrence_of (records_of occurrence.entry)) }
@@ -239,10 +245,11 @@ fn is_definition(occurrence: Inside<'_>) -> bool
     last_number(3, occurrence).cast_unsigned() % 2 == 1
 }
 
-/// How many short records are looked at behind the range and the symbol of an occurrence.
+/// An occurrence with this many or more records after its range and its symbol isn't read by `short_symbol`.
 const MOST_BEHIND: usize = 4;
 
-/// Whether what is left of an occurrence is a few short records, and no symbol.
+/// Whether the rest of an occurrence is fewer than `MOST_BEHIND` records, each with a key and a number or length of one byte, and none a
+/// symbol. With `false` the rest may still have no symbol.
 fn lacks_symbol(left: Inside<'_>) -> bool
     requires { left.start + length left.bytes.now < 2 ^ 64 }
     ensures { result ≡ true → each_of 2 bytes_in (records_of left.entry) ≡ [] }
@@ -260,8 +267,8 @@ fn lacks_symbol(left: Inside<'_>) -> bool
     false
 }
 
-/// The symbol of an occurrence that is a range, a symbol and a few records more, each with a key and a length of one byte, as most
-/// producers write them. Of any other occurrence nothing is answered.
+/// The symbol string of an occurrence that is a range, a symbol and fewer than `MOST_BEHIND` other records, each with a key and a number or
+/// length of one byte. Most producers write occurrences in this form. For any other occurrence the result is `None`.
 #[inline(always)]
 fn short_symbol<'a>(occurrence: Inside<'a>) -> Option<&'a [u8]>
     requires { occurrence.start + length occurrence.bytes.now < 2 ^ 64 }
@@ -278,7 +285,7 @@ fn short_symbol<'a>(occurrence: Inside<'a>) -> Option<&'a [u8]>
     }
 }
 
-/// Whether an occurrence of any form is of the symbol and one of those that are asked for, by one walk over its records.
+/// Whether an occurrence of any form has the symbol and the requested role, in one pass over its records.
 fn is_sought_at_all(occurrence: Inside<'_>, sought: Sought<'_>) -> bool
     requires { occurrence.start + length occurrence.bytes.now < 2 ^ 64 }
     ensures { result ≡ is_sought_occurrence sought.entry.defines sought.entry.symbol.now (occurrence_of (records_of occurrence.entry)) }
@@ -287,7 +294,7 @@ fn is_sought_at_all(occurrence: Inside<'_>, sought: Sought<'_>) -> bool
     symbol == sought.symbol && (roles.cast_unsigned() % 2 == 1) == sought.defines
 }
 
-/// Whether an occurrence is of the symbol and one of those that are asked for.
+/// Whether an occurrence has the symbol and the requested role. `short_symbol` saves the general pass over the records of most occurrences.
 fn is_sought(occurrence: Inside<'_>, sought: Sought<'_>) -> bool
     requires { occurrence.start + length occurrence.bytes.now < 2 ^ 64 }
     ensures { result ≡ is_sought_occurrence sought.entry.defines sought.entry.symbol.now (occurrence_of (records_of occurrence.entry)) }
@@ -298,7 +305,7 @@ fn is_sought(occurrence: Inside<'_>, sought: Sought<'_>) -> bool
     }
 }
 
-/// Adds the place of an occurrence, if it is asked for.
+/// Appends the location of an occurrence, if the occurrence is one of those looked up and its range denotes a span.
 fn add_occurrence<'a>(
     occurrence: Inside<'_>,
     path: &'a str,
@@ -321,7 +328,7 @@ fn add_occurrence<'a>(
     Ok(())
 }
 
-/// Adds the places of a document's occurrences that are asked for, and tells its path: one walk for both.
+/// Appends the locations of the occurrences of a document that are looked up, and returns the document's path, in one pass.
 fn add_occurrences<'a, 'd>(
     document: Inside<'d>,
     path: &'a str,
@@ -345,9 +352,10 @@ fn add_occurrences<'a, 'd>(
     }
 }
 
-/// Adds the places of a document that are asked for, where its last path is the one that it begins with, of less than 128 bytes and
-/// UTF-8, and of a local symbol the one that is asked for: then one walk is enough. Whether that is so; else nothing is added, but where
-/// memory was refused some may be.
+/// Appends the locations of a document's occurrences that are looked up, if one pass suffices, and returns whether it did.
+/// One pass suffices if the path that the document begins with is short, is UTF-8 and is also the document's last path. For a local symbol
+/// this has to be the requested path.
+/// If it returns `false`, nothing is appended. After an error some locations may be appended.
 fn add_by_first<'a>(
     document: Inside<'a>,
     sought: Sought<'_>,
@@ -375,7 +383,7 @@ fn add_by_first<'a>(
     Ok(true)
 }
 
-/// Adds the places of a document that are asked for.
+/// Appends the locations of a document's occurrences that are looked up. A second pass is needed only if `add_by_first` returns `false`.
 fn add_document<'a>(
     document: Inside<'a>,
     sought: Sought<'_>,
@@ -398,7 +406,7 @@ fn add_document<'a>(
     Ok(())
 }
 
-/// The places of the documents of an index that are asked for.
+/// The locations of the occurrences of an index that are looked up, in the index's order.
 fn places_sought<'a>(
     alloc: Global,
     index: Inside<'a>,
@@ -416,7 +424,7 @@ fn places_sought<'a>(
     Ok(places)
 }
 
-/// The places of a symbol that are asked for.
+/// The locations of a symbol's definitions, or else of its references.
 fn places_in_bytes<'a>(
     alloc: Global,
     bytes: &'a [u8],
@@ -435,29 +443,39 @@ fn places_in_bytes<'a>(
     places_sought(alloc, Inside { start: 0, bytes }, sought)
 }
 
-/// The places where a symbol is defined, as `Store::definitions` tells them, of the index that the bytes mean: whether they mean one
-/// is what `scip_index::check` answers. A path that no document has is no refusal here, as it is to `symbol_in_bytes`: a symbol whose
-/// text begins with `local ` has no place then, and any other has those of all documents. Fails where memory is refused.
+/// The locations where a symbol is defined, in the index's order, in bytes that encode an index. `Store::definitions` returns the same
+/// locations if a document has the path; `scip_index::check` checks whether bytes encode an index.
+/// A symbol whose string begins with `local ` is looked up in the documents of the path alone, and any other symbol in all documents. If no
+/// document has the path, there is no error, and a local symbol has no location.
+/// Fails with `AllocError` if an allocation fails.
 pub fn definitions_in_bytes<'a>(
     alloc: Global,
     bytes: &'a [u8],
     path: &str,
     symbol: &[u8],
 ) -> Result<Vec<Place<'a>>, AllocError>
+    // The bytes encode an index.
     requires means { (index : PlainIndex) × Means bytes.now index }
+    // With `Ok` the locations are exactly those of the symbol's definitions in the index that the bytes encode, in its order.
     ensures { (index : PlainIndex) → Means bytes.now index → IfOk result (λ places. map plain_place places.items ≡ definitions index path.now symbol.now) }
 {
     places_in_bytes(alloc, bytes, path, symbol, true)
 }
 
-/// The places where a symbol is used and not defined; otherwise as `definitions_in_bytes`.
+/// The locations where a symbol is used and not defined, in the index's order, in bytes that encode an index. `Store::references` returns
+/// the same locations if a document has the path; `scip_index::check` checks whether bytes encode an index.
+/// A symbol whose string begins with `local ` is looked up in the documents of the path alone, and any other symbol in all documents. If no
+/// document has the path, there is no error, and a local symbol has no location.
+/// Fails with `AllocError` if an allocation fails.
 pub fn references_in_bytes<'a>(
     alloc: Global,
     bytes: &'a [u8],
     path: &str,
     symbol: &[u8],
 ) -> Result<Vec<Place<'a>>, AllocError>
+    // The bytes encode an index.
     requires means { (index : PlainIndex) × Means bytes.now index }
+    // With `Ok` the locations are exactly those of the symbol's references in the index that the bytes encode, in its order.
     ensures { (index : PlainIndex) → Means bytes.now index → IfOk result (λ places. map plain_place places.items ≡ references index path.now symbol.now) }
 {
     places_in_bytes(alloc, bytes, path, symbol, false)

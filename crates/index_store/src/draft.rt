@@ -1,4 +1,4 @@
-//! The tables of a store, while they are made of an index.
+//! The builder of a store's tables.
 ghost use Rattle.std.specs.Prelude.{◌≡◌, ◌<◌, ◌++◌, [], ◌∷◌, Some, length, List, None, ℕ, IfErr, OnOk, map};
 ghost use Rattle.std.specs.List.{flat_map};
 ghost use Rattle.proto_wire.specs.Faults.{UnlessMemory};
@@ -17,14 +17,14 @@ use proto_wire::WireFault;
 use scip_index::{Document, IndexReader, Occurrence};
 use std::alloc::{AllocError, Global};
 
-/// The occurrences so far that are places, by their paths and by their symbols.
+/// Builder of a store: the occurrences so far whose range denotes a span, by their document's path and by their symbol string.
 #[derive(Drop)]
 pub(crate) struct Draft {
     pub(crate) by_path: Table<Covering>,
     pub(crate) by_symbol: Table<Mention>,
 }
 
-/// Whether the lowest bit of the roles is set.
+/// Whether an occurrence has the definition role, the lowest bit of `symbol_roles`.
 fn is_definition(occurrence: &Occurrence) -> bool
     ensures { result ≡ is_definition (plain_occurrence occurrence.now) }
 {
@@ -32,7 +32,7 @@ fn is_definition(occurrence: &Occurrence) -> bool
 }
 
 impl Draft {
-    /// Tables with nothing in them.
+    /// A builder with empty tables.
     pub(crate) fn new(alloc: Global) -> Draft
         ensures whole { AreWhole (tables_of result) }
         ensures nothing { Keeps [] [] (tables_of result) }
@@ -43,7 +43,7 @@ impl Draft {
         }
     }
 
-    /// Keeps a mention of this symbol.
+    /// Adds an occurrence to the entries of its symbol, and to those of its path unless its symbol is empty.
     fn add_mention(
         &mut self,
         alloc: Global,
@@ -68,7 +68,7 @@ impl Draft {
         Ok(())
     }
 
-    /// Keeps an occurrence of the document whose path has this number.
+    /// Adds an occurrence of the document whose path has this index, if the occurrence's range denotes a span.
     fn add(&mut self, alloc: Global, path: usize, occurrence: &Occurrence) -> Result<(), AllocError>
         requires whole { AreWhole (tables_of self.old) }
         requires within { path < length (texts_in self.old.by_path) }
@@ -89,7 +89,7 @@ impl Draft {
         }
     }
 
-    /// Keeps the occurrences of a document.
+    /// Adds a document's path and its occurrences.
     fn add_document(&mut self, alloc: Global, document: &Document) -> Result<(), AllocError>
         requires whole { AreWhole (tables_of self.old) }
         ensures whole { OnOk result (AreWhole (tables_of self.new)) }
@@ -102,7 +102,7 @@ impl Draft {
         Ok(())
     }
 
-    /// Keeps the occurrences of documents, where nothing is kept yet.
+    /// Adds the paths and the occurrences of documents to empty tables.
     pub(crate) fn add_documents(
         &mut self,
         alloc: Global,
@@ -119,7 +119,7 @@ impl Draft {
         Ok(())
     }
 
-    /// Keeps the occurrences of the documents that a reader reads, one document at a time, where nothing is kept yet.
+    /// Adds the paths and the occurrences of the documents that a reader reads to empty tables. It holds one document at a time.
     pub(crate) fn add_read(
         &mut self,
         alloc: Global,

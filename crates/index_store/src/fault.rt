@@ -1,15 +1,15 @@
-//! Why a store gives no answer.
+//! The errors of a store.
 
 use std::alloc::AllocError;
 use thiserror::Error;
 
-/// Why a store can't be made, or a question to it has no answer.
+/// Why a store can't be built, or why a query on it fails.
 #[derive(Clone, Copy, Debug, Error)]
 pub enum StoreFault {
     /// No document has the path.
     #[error("no document has this path")]
     NoDocument,
-    /// A growth of memory was refused.
+    /// An allocation failed.
     #[error("memory ran out")]
     Memory,
 }

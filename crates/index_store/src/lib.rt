@@ -1,7 +1,9 @@
-//! Questions to an index: what a position means, where that is defined and used, and what is defined; by a store that is made of it once, or by its bytes alone.
-//! Stands on `scip_index`, on `proto_wire` for the records of bytes, and on `byte_sink` for lines, with `indexmap` for tables and `thiserror` for faults.
-//! Its contract: the answers are exactly those that all occurrences of the index give, in its order, or no document has the path; of the bytes of an
-//! index a sink takes exactly the lines of the places, of the definitions or of the symbol, or they have a first fault.
+//! Queries on a SCIP index: the symbol at a position, the definitions and references of a symbol, and all definitions (scip.proto).
+//! Calls on the bytes of an index walk its records and build nothing; a `Store` is built once, for many queries.
+//! Depends on `scip_index` and `proto_wire` for the format, on `text_escape`, `text_pieces` and `byte_sink` for lines of output.
+//! It also depends on `indexmap` for the tables of a store and on `thiserror` for errors.
+//! The main call is `query`. With success the sink takes exactly the lines of the locations that the index's occurrences determine.
+//! Otherwise it fails with the first fault of the bytes, or with `NoDocument` if no document has the path.
 #![tactic(auto)]
 
 mod asking;

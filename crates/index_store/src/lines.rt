@@ -1,4 +1,4 @@
-//! The lines of places.
+//! The output of locations, a line for each.
 ghost use Rattle.std.specs.Prelude.{◌≡◌, ◌++◌, map, IfErr, OnOk};
 ghost use Rattle.std.specs.String.{string_bytes};
 ghost use Rattle.byte_sink.specs.declared.sink.SinkFault.TheVariants.{Memory};
@@ -13,7 +13,7 @@ use std::alloc::{AllocError, Global};
 use text_escape::{PlaceStyle, PlaceWriter};
 use text_pieces::put_enough;
 
-/// Appends where a place begins and ends.
+/// Appends a location as `PATH:LINE:COL-LINE:COL`.
 pub(crate) fn push_place<'a>(
     writer: &mut PlaceWriter<'a>,
     text: &mut String,
@@ -28,7 +28,7 @@ pub(crate) fn push_place<'a>(
     writer.push_position(text, end.line, end.column)
 }
 
-/// Appends the line of a place.
+/// Appends the line of a location.
 fn push_line<'a>(
     writer: &mut PlaceWriter<'a>,
     text: &mut String,
@@ -42,17 +42,17 @@ fn push_line<'a>(
     text.push('\n').map_err(|_| SinkFault::Memory)
 }
 
-/// Writes a line for each place, in their order and in this style, with the control characters of its path written out. At an error the
-/// sink has taken a prefix of the lines.
+/// Writes a line `PATH:LINE:COL-LINE:COL` in this style for each location, in their order, with the control characters of paths escaped.
+/// Fails with `Device` if the sink fails, and with `Memory` if an allocation fails. The sink has then taken a prefix of the lines.
 pub fn put_lines<S: Sink>(
     alloc: Global,
     style: PlaceStyle<'_>,
     places: &[Place<'_>],
     sink: &mut S,
 ) -> Result<(), SinkFault>
-    // The whole text at Ok, and a prefix of it at an error.
+    // With `Ok` the sink took all of the lines, otherwise a prefix of them.
     ensures puts { Puts (S.taken sink.old) (S.taken sink.new) result (place_lines (style_of style.entry) (map plain_place places.now)) }
-    // Device is returned if the sink counted a failure, and only then.
+    // The sink counts a failure if and only if the result is `Device`.
     ensures failures { S.failures sink.new ≡ failures_after result (S.failures sink.old) }
 {
     let mut writer = PlaceWriter::new(style);

@@ -1,4 +1,4 @@
-//! The nearest occurrence at a position.
+//! The nearest occurrence that covers a position, by the entries of a store.
 ghost use Rattle.std.specs.Prelude.{◌≡◌};
 ghost use Rattle.index_store.specs.Asked.{covering_span, nearer, nearest};
 
@@ -6,7 +6,7 @@ use crate::Position;
 use crate::row::Covering;
 use crate::span::{is_in, is_nearer};
 
-/// The nearest so far, and one more.
+/// `row` if it covers the position and is nearer than `best`, and otherwise `best`.
 fn nearer(at: Position, best: Option<Covering>, row: Covering) -> Option<Covering>
     ensures { result ≡ nearer covering_span at best row }
 {
@@ -19,7 +19,7 @@ fn nearer(at: Position, best: Option<Covering>, row: Covering) -> Option<Coverin
     }
 }
 
-/// The nearest of the rows in whose spans the position is.
+/// The nearest of the entries whose spans contain the position. Of several with equal spans it is the first.
 pub(crate) fn nearest(rows: &[Covering], at: Position) -> Option<Covering>
     ensures { result ≡ nearest rows.now at }
 {

@@ -1,13 +1,13 @@
-//! Places in documents.
+//! Positions and locations in documents.
 
-/// A place between two characters: line and character, each counted from 0.
+/// A position between two characters: its line and its column, both zero-based. The document's `position_encoding` says what columns count.
 #[derive(Clone, Copy)]
 pub struct Position {
     pub line: u32,
     pub column: u32,
 }
 
-/// Part of a document, half open: the position `start` is in it, and `end` isn't. Its path is the store's own, and not copied.
+/// A location: a document's path and a half-open range in the document, with the position `start` and without `end`. The path is borrowed.
 #[derive(Clone, Copy)]
 pub struct Place<'a> {
     pub path: &'a str,

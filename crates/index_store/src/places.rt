@@ -1,4 +1,4 @@
-//! The places of a symbol.
+//! The locations of a symbol, by the entries of a store.
 ghost use Rattle.std.specs.Prelude.{◌≡◌, ◌<◌, All, IfOk, length, map};
 ghost use Rattle.std.specs.List.{flat_map};
 ghost use Rattle.index_store.specs.Asked.{is_asked, place_asked};
@@ -11,11 +11,11 @@ use crate::row::{Covering, Mention};
 use crate::table::Table;
 use std::alloc::{AllocError, Global};
 
-/// What is asked of a symbol: where it is defined, or else where it is used, and in which documents.
+/// A lookup of a symbol's definitions, or else of its references.
 #[derive(Clone, Copy)]
 pub(crate) struct Asked<'a> {
     pub(crate) defines: bool,
-    /// Whether the documents of the path alone are looked at.
+    /// Whether only the documents of the path are searched.
     pub(crate) local: bool,
     pub(crate) path: &'a str,
 }
@@ -45,7 +45,7 @@ fn place_of<'a>(paths: &'a Table<Covering>, mention: Mention) -> Place<'a>
     }
 }
 
-/// The places of the mentions that are asked for, in their order.
+/// The locations of the entries that are looked up, in their order.
 pub(crate) fn places_asked<'a>(
     alloc: Global,
     asked: Asked<'_>,

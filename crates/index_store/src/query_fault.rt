@@ -1,4 +1,4 @@
-//! Why a question has no answer.
+//! The errors of queries, with their texts and exit statuses.
 ghost use Rattle.std.specs.Prelude.{◌≡◌, IfOk};
 ghost use Rattle.std.specs.String.{string_bytes};
 ghost use Rattle.index_store.specs.Faults.{query_fault_text, query_status, wire_fault_text, wire_status};
@@ -9,10 +9,11 @@ use proto_wire::WireFault;
 use std::alloc::{AllocError, Global};
 use thiserror::Error;
 
-/// Why a question to an index has no answer. As `From` makes it, `Wire` holds neither want of memory nor a failed device.
+/// Why a query on an index fails. The `From` implementations convert every failed allocation to `Memory` and every failed sink to `Device`,
+/// so they make no `Wire` of these.
 #[derive(Clone, Copy, Debug, PartialEq, Eq, Error)]
 pub enum QueryFault {
-    /// The bytes mean no index.
+    /// The bytes encode no index. It has their first fault.
     #[error(transparent)]
     Wire(WireFault),
     /// No document has the path.
@@ -21,7 +22,7 @@ pub enum QueryFault {
     /// The sink failed.
     #[error("cannot write")]
     Device,
-    /// A growth of memory was refused.
+    /// An allocation failed.
     #[error("memory ran out")]
     Memory,
 }
@@ -94,9 +95,11 @@ fn wire_fault_text(alloc: Global, fault: WireFault) -> Result<String, AllocError
     }
 }
 
-/// What is told of a fault: its name, and of one of the bytes the offset of its record's key, in bytes from 0.
-/// Fails where memory is refused.
+/// The text of an error. A fault of the bytes is its name and the offset of its record's key, in bytes from 0. `Device` is `cannot write`,
+/// and the others are their names.
+/// Fails with `AllocError` if an allocation fails.
 pub fn query_fault_text(alloc: Global, fault: &QueryFault) -> Result<String, AllocError>
+    // With `Ok` the string is exactly the text of the error.
     ensures { IfOk result (λ t. string_bytes t ≡ query_fault_text fault.now) }
 {
     match fault {
@@ -121,8 +124,9 @@ fn wire_status(fault: WireFault) -> u8
     }
 }
 
-/// The status that a fault ends the program with: 1 for refused input, 3 for a device, 4 for memory.
+/// The exit status of a run that ends with this error: 1 for invalid input, 3 if the sink failed, 4 if an allocation failed.
 pub fn query_status(fault: &QueryFault) -> u8
+    // The result is exactly the exit status of the error.
     ensures { result ≡ query_status fault.now }
 {
     match fault {

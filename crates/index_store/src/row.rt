@@ -1,15 +1,15 @@
-//! What a store keeps of an occurrence.
+//! The entries of a store's tables: what it stores of an occurrence.
 
 use crate::span::Span;
 
-/// An occurrence of a document, with the number of its symbol.
+/// An occurrence by its document's path: its span, and the index of its symbol string.
 #[derive(Clone, Copy)]
 pub(crate) struct Covering {
     pub(crate) span: Span,
     pub(crate) symbol: usize,
 }
 
-/// An occurrence of a symbol, with the number of its document's path.
+/// An occurrence by its symbol string: the index of its document's path, its span, and whether it has the definition role.
 #[derive(Clone, Copy)]
 pub(crate) struct Mention {
     pub(crate) path: usize,

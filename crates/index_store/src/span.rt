@@ -1,17 +1,17 @@
-//! Positions and spans of documents, and which span is nearer.
+//! Spans of documents, and which of two spans is nearer.
 ghost use Rattle.std.specs.Prelude.{◌≡◌};
 ghost use Rattle.index_store.specs.Spans.{is_in, is_before, is_nearer, natural, span_between, span_of};
 
 use crate::Position;
 
-/// Part of a document, half open.
+/// A half-open range of positions in a document.
 #[derive(Clone, Copy)]
 pub(crate) struct Span {
     pub(crate) start: Position,
     pub(crate) end: Position,
 }
 
-/// The number, where it isn't negative.
+/// The number, if it isn't negative.
 fn natural(number: i32) -> Option<u32>
     ensures { result ≡ natural number }
 {
@@ -37,7 +37,8 @@ fn span_between(
     Some(Span { start, end })
 }
 
-/// The span that the numbers of a range tell, or none where they are no place.
+/// The span that the numbers of a range denote (scip.proto, `Occurrence.range`): three numbers if it is on one line, otherwise four. `None`
+/// for another count or a negative number.
 pub(crate) fn span_of(range: &[i32]) -> Option<Span>
     ensures { result ≡ span_of range.now }
 {
@@ -70,7 +71,7 @@ pub(crate) fn is_in(at: Position, span: Span) -> bool
     !is_before(at, span.start) && is_before(at, span.end)
 }
 
-/// Whether the first span starts later than the second, or starts there and ends earlier.
+/// Whether the first span starts later than the second, or starts at the same position and ends earlier.
 pub(crate) fn is_nearer(a: Span, b: Span) -> bool
     ensures { result ≡ is_nearer a b }
 {

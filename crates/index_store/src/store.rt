@@ -1,4 +1,4 @@
-//! Stores of indexes, and the questions to them.
+//! Stores of indexes, for many queries on one index.
 ghost use Rattle.std.specs.Prelude.{◌≡◌, [], IfErr, IfOk, None, map, option_map};
 ghost use Rattle.std.specs.List.{flat_map};
 ghost use Rattle.proto_wire.specs.Faults.{UnlessMemory};
@@ -22,7 +22,7 @@ use scip_index::{Document, Index, IndexReader};
 use std::alloc::{AllocError, Global};
 use std::marker::Model;
 
-/// An index by its paths and its symbols: the occurrences that are places.
+/// The occurrences of an index whose range denotes a span, by their document's path and by their symbol string.
 #[derive(Drop)]
 pub struct Store {
     by_path: Table<Covering>,
@@ -40,15 +40,17 @@ impl Model for Store {
 }
 
 impl Store {
-    /// The store of an index, which is given up. Its one refusal is `Memory`.
+    /// Builds the store of an index. Fails with `Memory` if an allocation fails, and with no other error.
     pub fn new(alloc: Global, index: Index) -> Result<Store, StoreFault>
+        // With `Ok` the result is the store of the index.
         ensures exact { IfOk result (IsStoreOf (plain_index index)) }
+        // `Memory` is the only error.
         ensures memory { IfErr result (λ fault. fault ≡ Memory) }
     {
         Store::of_documents(alloc, &index.documents)
     }
 
-    /// The store of documents.
+    /// Builds the store of documents.
     fn of_documents(alloc: Global, documents: &[Document]) -> Result<Store, StoreFault>
         ensures exact { IfOk result (Keeps (paths_of (map plain_document documents.now)) (flat_map found_in (map plain_document documents.now))) }
         ensures memory { IfErr result (λ fault. fault ≡ Memory) }
@@ -61,20 +63,23 @@ impl Store {
         })
     }
 
-    /// The store of the index that a reader reads whose `next` wasn't called yet. It holds one document at a time, and of each only
-    /// what is a place. Refuses with the first fault of the bytes, as `from_bytes` does, and with `Memory`.
+    /// Builds the store of the index that a reader reads. The reader's `next` hasn't been called yet.
+    /// One document is in memory at a time, and the store has only the occurrences whose range denotes a span.
+    /// Fails with the first fault of the bytes, as `scip_index::from_bytes` does, and with `Memory` if an allocation fails.
     pub fn from_reader(alloc: Global, mut reader: IndexReader<'_>) -> Result<Store, WireFault>
+        // The reader has returned no document.
         requires fresh { given reader ≡ [] }
+        // The reader hasn't failed.
         requires sound { reader.refusal ≡ None }
-        // The bytes mean an index, and it is the store of that.
+        // With `Ok` the reader's bytes encode an index, and the result is the store of that index.
         ensures exact { IfOk result (λ store. IsStoreOfBytes reader.entry.bytes store) }
-        // It is the first fault of the bytes, unless memory ran out.
+        // An error is the first fault of the bytes, or `Memory`.
         ensures fault { IfErr result (λ e. UnlessMemory e (IsFirstFault index_fault 0 reader.entry.bytes e)) }
     {
         Store::of_reader(alloc, &mut reader)
     }
 
-    /// The store of what a reader reads.
+    /// Builds the store of the index that a reader reads.
     fn of_reader(alloc: Global, reader: &mut IndexReader<'_>) -> Result<Store, WireFault>
         requires fresh { given reader.old ≡ [] }
         requires sound { reader.old.refusal ≡ None }
@@ -89,10 +94,15 @@ impl Store {
         })
     }
 
-    /// The symbol of the occurrence at a position of a document: of those that cover it the one that starts last, then the
-    /// one that ends first, then the first; or none where none does. An occurrence covers its start and what follows, up to its
-    /// end, which is left out. Its one refusal is `NoDocument`.
+    /// The symbol string of the nearest occurrence that covers a position of a document, or `None` if none covers it. An occurrence with a
+    /// symbol covers the positions from its start up to its end, without its end.
+    /// The nearest covering occurrence is the one that starts last, then ends first, then comes first. The line and column of `at` are
+    /// zero-based.
+    /// Fails with `NoDocument` if no document has the path, and with no other error.
     pub fn symbol_at(&self, path: &str, at: Position) -> Result<Option<&str>, StoreFault>
+        // For each index whose store this is: With `Ok` a document has the path, and the result is the symbol of the nearest occurrence
+        // that covers the position. The symbol is none if no occurrence covers it. Otherwise the error is `NoDocument`, and no document has
+        // the path.
         ensures exact { (index : PlainIndex) → IsStoreOf index self.now → IsSymbolAnswer index path.now at (answered (option_map (λ symbol. symbol.now)) result) }
     {
         match self.by_path.text_number(path) {
@@ -140,16 +150,23 @@ impl Store {
         }
     }
 
-    /// The places where a symbol is defined, in the index's order; those of a symbol whose text begins with `local ` in the
-    /// documents of the path alone. Refuses with `NoDocument` where no document has the path, and with `Memory`.
+    /// The locations where a symbol is defined, in the index's order. A symbol whose string begins with `local ` is looked up in the
+    /// documents of the path alone.
+    /// Fails with `NoDocument` if no document has the path, and with `Memory` if an allocation fails.
     pub fn definitions<'a>(&'a self, path: &str, symbol: &str) -> Result<Vec<Place<'a>>, StoreFault>
+        // For each index whose store this is: With `Ok` a document has the path, and the locations are exactly those of the symbol's
+        // definitions, in the index's order. With `NoDocument` no document has the path.
         ensures exact { (index : PlainIndex) → IsStoreOf index self.now → ArePlacesAnswer index path.now (definitions index path.now symbol.now) (answered (λ places. map plain_place places.items) result) }
     {
         self.places(path, symbol, true)
     }
 
-    /// The places where a symbol is used and not defined; otherwise as `definitions`.
+    /// The locations where a symbol is used and not defined, in the index's order. A symbol whose string begins with `local ` is looked up
+    /// in the documents of the path alone.
+    /// Fails with `NoDocument` if no document has the path, and with `Memory` if an allocation fails.
     pub fn references<'a>(&'a self, path: &str, symbol: &str) -> Result<Vec<Place<'a>>, StoreFault>
+        // For each index whose store this is: With `Ok` a document has the path, and the locations are exactly those of the symbol's
+        // references, in the index's order. With `NoDocument` no document has the path.
         ensures exact { (index : PlainIndex) → IsStoreOf index self.now → ArePlacesAnswer index path.now (references index path.now symbol.now) (answered (λ places. map plain_place places.items) result) }
     {
         self.places(path, symbol, false)

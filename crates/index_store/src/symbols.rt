@@ -1,4 +1,4 @@
-//! The definitions in the bytes of an index, a line for each.
+//! The output of the definitions in the bytes of an index, a line for each.
 ghost use Rattle.std.specs.Prelude.{◌≡◌, ◌<◌, ◌+◌, ◌^◌, ◌++◌, [], IfErr, IfOk, OnOk, length, option_copied, option_map};
 ghost use Rattle.std.specs.List.{flat_map};
 ghost use Rattle.std.specs.Option.{option_to_list};
@@ -22,7 +22,8 @@ use std::alloc::{AllocError, Global};
 use text_escape::{EscapingWriter, PlaceStyle, PlaceWriter};
 use text_pieces::put_enough;
 
-/// What lines of definitions are written with: the text that is gathered, and the numbers of the range that was read last.
+/// State of the output: the writers of locations and of symbol strings, scratch space for the numbers of a range, and lines that aren't
+/// written yet.
 #[derive(Drop)]
 struct Lines<'a> {
     places: PlaceWriter<'a>,
@@ -31,7 +32,8 @@ struct Lines<'a> {
     text: String,
 }
 
-/// The span and the symbol of an occurrence that is a definition and has both; of a local symbol only where those are asked for.
+/// The span and the symbol string of an occurrence that has both and the definition role. Local symbols are left out unless they are
+/// requested.
 fn definition_inside<'a>(
     occurrence: Inside<'a>,
     with_local: bool,
@@ -47,7 +49,7 @@ fn definition_inside<'a>(
     Ok(None)
 }
 
-/// Whether a document of this path is one of those that are asked for: of all documents, or of those of a path.
+/// Whether the documents of this path are requested: either all documents are, or those of one path.
 fn is_asked(asked: Option<&str>, path: &[u8]) -> bool
     ensures { result ≡ is_asked (option_copied asked.entry) path.now }
 {
@@ -70,7 +72,7 @@ impl<'a> Lines<'a> {
         }
     }
 
-    /// Puts the line of a definition behind the text.
+    /// Appends the line of a definition to `text`.
     fn push(&mut self, place: &Place<'a>, symbol: &'a str) -> Result<(), AllocError>
         ensures appended { OnOk result (string_bytes self.new.text ≡ string_bytes self.old.text ++ line_at (writer_style self.old.places) place.now.path.now (record { start = place.now.start; end = place.now.end }, symbol.now)) }
         ensures style { writer_style self.new.places ≡ writer_style self.old.places }
@@ -81,7 +83,7 @@ impl<'a> Lines<'a> {
         self.text.push('\n')
     }
 
-    /// Puts the line of a definition in a document of this path behind the text.
+    /// Appends the line of a definition in a document of this path to `text`.
     fn push_near(&mut self, path: &'a str, near: Near<'a>) -> Result<(), AllocError>
         requires text { IsUtf8 near.symbol.now }
         ensures appended { OnOk result (string_bytes self.new.text ≡ string_bytes self.old.text ++ line_at (writer_style self.old.places) path.now (said_near near.entry)) }
@@ -98,7 +100,7 @@ impl<'a> Lines<'a> {
         self.push(&place, symbol)
     }
 
-    /// Puts the line of an occurrence behind the text, if it is listed.
+    /// Appends the line of an occurrence to `text`, if the occurrence is listed.
     fn push_listed(
         &mut self,
         occurrence: Inside<'a>,
@@ -116,7 +118,7 @@ impl<'a> Lines<'a> {
         }
     }
 
-    /// Gathers the line of an occurrence, if it is listed, and puts what is gathered where that is enough.
+    /// Appends the line of an occurrence to `text`, if the occurrence is listed. Writes `text` once it is long enough.
     fn put_listed<S: Sink>(
         &mut self,
         occurrence: Inside<'a>,
@@ -136,7 +138,7 @@ impl<'a> Lines<'a> {
         put_enough(&mut self.text, sink)
     }
 
-    /// Gathers and puts the lines of a document of this path.
+    /// Appends the lines of a document of this path to `text`, and writes `text` whenever it is long enough.
     fn put_in<S: Sink>(
         &mut self,
         document: Inside<'a>,
@@ -158,7 +160,7 @@ impl<'a> Lines<'a> {
         Ok(())
     }
 
-    /// Gathers and puts the lines of a document, unless it is another one than those that are asked for.
+    /// Appends the lines of a document to `text`, if the document is requested, and writes `text` whenever it is long enough.
     fn put_document<S: Sink>(
         &mut self,
         document: Inside<'a>,
@@ -182,7 +184,7 @@ impl<'a> Lines<'a> {
         self.put_in(document, path, asked.is_some(), sink)
     }
 
-    /// Gathers and puts the lines of the documents of an index that are asked for.
+    /// Appends the lines of the requested documents of an index to `text`, and writes `text` whenever it is long enough.
     fn put_documents<S: Sink>(
         &mut self,
         index: Inside<'a>,
@@ -204,8 +206,8 @@ impl<'a> Lines<'a> {
     }
 }
 
-/// Puts the lines of the definitions of the index that the bytes mean, of all documents or of those of a path. At a refusal a front of
-/// them is taken.
+/// Writes the lines of the definitions in bytes that encode an index: those of all documents, or those of one path. After an error the sink
+/// has taken a prefix of them.
 pub(crate) fn put_definitions<S: Sink>(
     alloc: Global,
     bytes: &[u8],

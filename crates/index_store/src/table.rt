@@ -1,4 +1,4 @@
-//! Rows under texts.
+//! Tables from strings to lists of entries.
 ghost use Rattle.std.specs.Prelude.{◌≡◌, ◌<◌, ◌++◌, [], ◌∷◌, length, map, slice_set, IfOk, OnOk, None};
 ghost use Rattle.std.specs.String.{string_bytes};
 ghost use Rattle.index_store.specs.Tables.{text_number, rows_at, rows_in, text_at, texts_in, IsEntered};
@@ -6,14 +6,14 @@ ghost use Rattle.index_store.specs.Tables.{text_number, rows_at, rows_in, text_a
 use indexmap::IndexSet;
 use std::alloc::{AllocError, Global};
 
-/// Texts, once each in the order in which they come, and the rows of each.
+/// Strings, each once in the order of insertion, and the entries of each.
 #[derive(Drop)]
 pub(crate) struct Table<T: Drop> {
     texts: IndexSet<String>,
     rows: Vec<Vec<T>>,
 }
 
-/// Puts a text behind the others.
+/// Inserts a string that isn't in the set.
 fn add_text(texts: &mut IndexSet<String>, alloc: Global, text: &str) -> Result<(), AllocError>
     requires { text_number (map string_bytes texts.old.keys) text.now ≡ None }
     ensures { OnOk result (map string_bytes texts.new.keys ≡ map string_bytes texts.old.keys ++ text.now ∷ []) }
@@ -34,7 +34,7 @@ impl<T: Drop> Table<T> {
         }
     }
 
-    /// The allocator that the table was made with.
+    /// The allocator of the table.
     pub(crate) fn allocator(&self) -> Global {
         *self.rows.allocator()
     }
@@ -58,7 +58,7 @@ impl<T: Drop> Table<T> {
         Ok(number)
     }
 
-    /// The number of the text, which is put behind the others if it isn't there.
+    /// The index of the string. A string that isn't in the table is inserted after the others, with no entries.
     pub(crate) fn enter(&mut self, alloc: Global, text: &str) -> Result<usize, AllocError>
         requires as_many { length (texts_in self.old) ≡ length (rows_in self.old) }
         ensures { IfOk result (IsEntered (texts_in self.old) (rows_in self.old) text.now (texts_in self.new) (rows_in self.new)) }
@@ -69,7 +69,7 @@ impl<T: Drop> Table<T> {
         }
     }
 
-    /// Puts a row behind those of the number.
+    /// Appends an entry to those of the string at this index.
     pub(crate) fn push(&mut self, number: usize, row: T) -> Result<(), AllocError>
         requires within { number < length (rows_in self.old) }
         ensures texts { texts_in self.new ≡ texts_in self.old }
