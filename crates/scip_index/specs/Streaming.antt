@@ -1,4 +1,4 @@
--- A reader that has taken in some of the records of an index.
+-- A reader that has read some of the records of an index.
 use Rattle.std.specs.Prelude.{◌≡◌, ℕ, List, take, map, Option, Result, Ok, Err}
 use Rattle.proto_wire.specs.declared.fault.WireFault.{WireFault}
 use Rattle.proto_wire.specs.Records.{PayloadRecord, IsSplit}
@@ -7,40 +7,40 @@ use Rattle.proto_wire.specs.Readings.{payload_records}
 use Rattle.scip_index.specs.Plain.{PlainMetadata, PlainSymbol, PlainDocument, PlainIndex}
 use Rattle.scip_index.specs.Meaning.{metadata_of, symbol_of, document_of, merged, index_fault, Means}
 
--- behind these records, none of them with a fault inside, the reader keeps what they say but the documents
+-- a reader has read these records, none with a fault inside: the offset, the remaining bytes, the metadata and the external symbols are those after them
 pub record ReaderStands (bytes : List ℕ) (front : List PayloadRecord) (at : ℕ) (rest : List ℕ) (metadata : Option PlainMetadata) (externals : List PlainSymbol) : Type 0 where
   pub reached : IsSplit 0 bytes front at rest
   pub clean : IsClean index_fault front
   pub metadata_is : metadata ≡ merged metadata_of (each_of 1 records_inside front)
   pub externals_are : externals ≡ map symbol_of (each_of 3 records_inside front)
 
--- the documents that these records carry
+-- the documents in these records
 abbrev pub documents_in : List PayloadRecord → List PlainDocument
 documents_in pieces = map document_of (each_of 2 records_inside pieces)
 
--- what contracts see of a reader: the bytes, how many of them are read, and what was refused
+-- a reader as contracts describe it: the bytes, the number of bytes that are read, and the error that the reader has returned, if any
 pub record ReaderState : Type 0 where
   pub bytes : List ℕ
   pub at : ℕ
   pub refusal : Option WireFault
 
--- the documents that it has given: those of the bytes that are read
+-- the documents that a reader has returned: those in the bytes that are read
 abbrev pub given : ReaderState → List PlainDocument
 given r = documents_in (payload_records 0 (take r.at r.bytes)).0
 
--- what a reader that has refused nothing keeps, beside the documents that it has given
+-- the invariant of a reader that hasn't failed: it has read some records of the bytes, and has their metadata and external symbols
 abbrev pub HasRead : List ℕ → ℕ → List ℕ → Option PlainMetadata → List PlainSymbol → Type 0
 HasRead bytes at rest metadata externals = (front : List PayloadRecord) × ReaderStands bytes front at rest metadata externals
 
--- the bytes mean an index with these documents
+-- the bytes encode an index with exactly these documents
 abbrev pub HasDocuments : List ℕ → List PlainDocument → Type 0
 HasDocuments bytes documents = (i : PlainIndex) × Means bytes i × (i.documents ≡ documents)
 
--- the first fault of the bytes comes behind records with these documents
+-- the first fault of the bytes comes after records with exactly these documents
 abbrev pub IsFaultAfter : List ℕ → List PlainDocument → WireFault → Type 0
 IsFaultAfter bytes documents fault = (front : List PayloadRecord) × IsClean index_fault front × IsFaultBehind index_fault 0 bytes front fault × (documents_in front ≡ documents)
 
--- what stands beside the documents in the index that the bytes mean, or their first fault
+-- the metadata and the external symbols of the index that the bytes encode, or their first fault
 abbrev pub IsRestOutcome : List ℕ → Result (Option PlainMetadata × List PlainSymbol) WireFault → Type 0
 IsRestOutcome bytes (Ok x) = (i : PlainIndex) × Means bytes i × (i.metadata ≡ x.0) × (i.external_symbols ≡ x.1)
 IsRestOutcome bytes (Err fault) = IsFirstFault index_fault 0 bytes fault

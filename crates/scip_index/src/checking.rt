@@ -1,4 +1,4 @@
-//! Whether bytes mean an index: each message is checked record by record, and none is made.
+//! Checks whether bytes encode an index: validates each message record by record, and builds none.
 ghost use Rattle.std.specs.Prelude.{◌≡◌, ◌+◌, ◌<◌, ◌^◌, length, true, IfErr, OnOk, None};
 ghost use Rattle.proto_wire.specs.Faults.{Stops, UnlessMemory};
 ghost use Rattle.proto_wire.specs.Messages.{fault_of, field_fault, message_fault, payload_record, IsFirstFault};
@@ -11,7 +11,7 @@ use proto_wire::{
 };
 use std::alloc::Global;
 
-/// An `Occurrence` that is checked alone.
+/// An `Occurrence` that is validated and not built.
 #[derive(Drop)]
 struct CheckedOccurrence;
 
@@ -31,10 +31,11 @@ impl Message for CheckedOccurrence {
     }
 }
 
-/// How many short records are looked at behind the range and the symbol of an occurrence.
+/// An occurrence with this many or more records after its range and its symbol isn't accepted by `is_clean_occurrence`.
 const MOST_BEHIND: usize = 4;
 
-/// Whether what is left of an occurrence is a few short records without a fault, and no other range or symbol.
+/// Whether the rest of an occurrence is fewer than `MOST_BEHIND` records without a fault, each with a key and a number or length of one
+/// byte. None is another range or symbol. With `false` the rest may still have no fault.
 fn is_clean_behind(left: Inside<'_>) -> bool
     requires { left.start + length left.bytes.now < 2 ^ 64 }
     ensures { result ≡ true → fault_of occurrence_fault left.entry.start left.entry.bytes.now ≡ None }
@@ -54,8 +55,10 @@ fn is_clean_behind(left: Inside<'_>) -> bool
     false
 }
 
-/// Whether an occurrence is a range, a symbol and a few records more, each with a key and a length of one byte, as most producers write
-/// them, and none has a fault. Fewer tests are made of each record then than by the walk, to which any other occurrence is left.
+/// Whether an occurrence has no fault and is a range, a symbol and fewer than `MOST_BEHIND` other records, each with a key and a number or
+/// length of one byte.
+/// Most producers write occurrences in this form. It needs fewer tests per record than the general validation, which is left to the other
+/// occurrences.
 fn is_clean_occurrence(occurrence: Inside<'_>) -> bool
     requires { occurrence.start + length occurrence.bytes.now < 2 ^ 64 }
     ensures { result ≡ true → fault_of occurrence_fault occurrence.entry.start occurrence.entry.bytes.now ≡ None }
@@ -73,7 +76,7 @@ fn is_clean_occurrence(occurrence: Inside<'_>) -> bool
     check_numbers(1, &range, numbers).is_ok() && check_text(2, &symbol, text).is_ok()
 }
 
-/// Refuses the first fault of the occurrence that a record of a document carries.
+/// Validates the occurrence in a record of a document, if the record has one. Fails with the occurrence's first fault.
 fn check_occurrence(alloc: Global, wire: &WireRecord, payload: &[u8]) -> Result<(), WireFault>
     requires { wire.now.body + length payload.now < 2 ^ 64 }
     ensures clean { let p = payload_record wire.now payload.now in OnOk result (field_fault 2 wire.now (message_fault occurrence_fault p) ≡ None) }
@@ -89,7 +92,7 @@ fn check_occurrence(alloc: Global, wire: &WireRecord, payload: &[u8]) -> Result<
     check_message::<CheckedOccurrence>(alloc, 2, wire, payload)
 }
 
-/// A `SymbolInfo` that is checked alone.
+/// A `SymbolInfo` that is validated and not built.
 #[derive(Drop)]
 struct CheckedSymbol;
 
@@ -108,7 +111,7 @@ impl Message for CheckedSymbol {
     }
 }
 
-/// A `Document` that is checked alone.
+/// A `Document` that is validated and not built.
 #[derive(Drop)]
 struct CheckedDocument;
 
@@ -122,7 +125,7 @@ impl Message for CheckedDocument {
     }
 
     fn take(&mut self, alloc: Global, wire: &WireRecord, payload: &[u8]) -> Result<(), WireFault> {
-        // of a record of a later field nothing is looked at
+        // the later fields have nothing to validate
         if wire.field > 4 {
             return Ok(());
         }
@@ -133,7 +136,7 @@ impl Message for CheckedDocument {
     }
 }
 
-/// A `ToolInfo` that is checked alone.
+/// A `ToolInfo` that is validated and not built.
 #[derive(Drop)]
 struct CheckedTool;
 
@@ -153,7 +156,7 @@ impl Message for CheckedTool {
     }
 }
 
-/// A `Metadata` that is checked alone.
+/// A `Metadata` that is validated and not built.
 #[derive(Drop)]
 struct CheckedMetadata;
 
@@ -172,7 +175,7 @@ impl Message for CheckedMetadata {
     }
 }
 
-/// An `Index` that is checked alone.
+/// An `Index` that is validated and not built.
 #[derive(Drop)]
 struct CheckedIndex;
 
@@ -192,7 +195,7 @@ impl Message for CheckedIndex {
     }
 }
 
-/// Checks the bytes, without what its clauses add.
+/// Validates the bytes. The contract of `check` follows from this one.
 fn check_index(alloc: Global, bytes: &[u8]) -> Result<(), WireFault>
     ensures clean { OnOk result (fault_of index_fault 0 bytes.now ≡ None) }
     ensures err { IfErr result (λ e. Stops e (fault_of index_fault 0 bytes.now)) }
@@ -201,12 +204,12 @@ fn check_index(alloc: Global, bytes: &[u8]) -> Result<(), WireFault>
     Ok(())
 }
 
-/// Checks that the bytes mean an index, and makes none.
-/// Refuses with the first fault of the bytes, as `from_bytes` does. Takes no memory.
+/// Checks that the bytes encode an index, without building it. Allocates nothing.
+/// Fails with the first fault of the bytes, as `from_bytes` does.
 pub fn check(alloc: Global, bytes: &[u8]) -> Result<(), WireFault>
-    // They mean the index that their records say.
+    // With `Ok` the bytes encode the index that their records determine.
     ensures means { OnOk result (Means bytes.now (index_of (payload_records 0 bytes.now).0)) }
-    // It is their first fault.
+    // An error is the first fault of the bytes, or `Memory`.
     ensures fault { IfErr result (λ e. UnlessMemory e (IsFirstFault index_fault 0 bytes.now e)) }
 {
     check_index(alloc, bytes)

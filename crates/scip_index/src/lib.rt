@@ -1,6 +1,8 @@
-//! SCIP indexes as messages: their bytes, both ways.
-//! Stands on `proto_wire`, and on `byte_sink` for where an index goes.
-//! Its contract: what is written of an index means it and no other; what is read is exactly what the bytes mean, or their first fault.
+//! The messages of a SCIP index (scip.proto), decoded from bytes and encoded as bytes (Protocol Buffers encoding).
+//! `IndexReader` and `IndexWriter` have one document in memory at a time; `check` validates the records of an index and builds no message.
+//! Depends on `proto_wire` for records and on `byte_sink` for the output of a writer.
+//! The main calls are `from_bytes` and `to_bytes`. `from_bytes` returns exactly the index that the bytes encode, or their first fault.
+//! `to_bytes` returns the one written form of an index, which encodes this index and no other.
 #![tactic(auto)]
 
 mod checking;

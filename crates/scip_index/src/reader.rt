@@ -1,4 +1,4 @@
-//! An index, read one document after the other.
+//! Reads an index one document at a time.
 ghost use Rattle.std.specs.Prelude.{◌≡◌, ◌<◌, ◌≤◌, ◌+◌, ◌^◌, ◌++◌, ◌∷◌, [], ℕ, IfErr, IfNone, IfOk, IfSome, List, None, OnOk, Ok, Err, Result, Some, length, map, option_map, take};
 ghost use Rattle.std.specs.Option.{option_to_list};
 ghost use Rattle.std.specs.Result.{result_err};
@@ -15,7 +15,7 @@ use proto_wire::{WireFault, merge_message, record_at_front, take_messages};
 use std::alloc::Global;
 use std::marker::Model;
 
-/// The one value of a list, if it has one.
+/// The element of a list that has at most one.
 fn sole(mut documents: Vec<Document>) -> Option<Document>
     requires { length documents.items ≤ 1 }
     ensures { documents.items ≡ option_to_list result }
@@ -23,7 +23,8 @@ fn sole(mut documents: Vec<Document>) -> Option<Document>
     documents.pop()
 }
 
-/// Takes in the record at the front of the rest: its document, where it has one, where the next record stands, and what follows.
+/// Decodes the first record of `rest`, which begins at offset `at`. Returns its document, if it has one, with the offset after the record
+/// and the remaining bytes.
 fn take_record<'a>(
     alloc: Global,
     at: usize,
@@ -49,7 +50,8 @@ fn take_record<'a>(
     Ok((sole(documents), at + (rest.len() - after.len()), after))
 }
 
-/// Reads on to the next document: it, where the record behind it stands, and what follows; or none at the end of the bytes.
+/// Reads records up to the next document. Returns the document with the offset after its record and the remaining bytes, or `None` at the
+/// end of the bytes.
 fn next_document<'a>(
     alloc: Global,
     at: usize,
@@ -80,7 +82,7 @@ fn next_document<'a>(
     Ok((None, place, left))
 }
 
-/// Reads on to the end of the bytes.
+/// Reads the records up to the end of the bytes.
 fn read_rest(
     alloc: Global,
     at: usize,
@@ -105,8 +107,9 @@ fn read_rest(
     Ok(())
 }
 
-/// Reads an index one document after the other, and holds one at a time. Contracts see the bytes, how many of them are read, and
-/// the fault that it has answered, if any: from then on it answers that again.
+/// Reads an index one document at a time, so that one document is in memory at a time.
+/// Contracts describe a reader by the bytes, the number of bytes that are read, and the error that it has returned, if any. From then on it
+/// returns this error again.
 #[derive(Drop)]
 pub struct IndexReader<'a> {
     alloc: Global,
@@ -131,9 +134,11 @@ impl<'a> Model for IndexReader<'a> {
 }
 
 impl<'a> IndexReader<'a> {
-    /// A reader that has read nothing. Takes no memory.
+    /// A reader that has read nothing. Allocates nothing.
     pub fn new(alloc: Global, bytes: &'a [u8]) -> Self
+        // The reader has read none of the bytes, and hasn't failed.
         ensures fresh { result ≡ record { bytes = bytes.now; at = 0; refusal = None } }
+        // The reader has returned no document.
         ensures given { given result ≡ [] }
     {
         IndexReader {
@@ -147,23 +152,27 @@ impl<'a> IndexReader<'a> {
         }
     }
 
-    /// The next document; none at the end of the bytes.
-    /// Refuses with the first fault of the bytes, as `from_bytes` does, once all documents in front of it are given, and with `Memory`.
+    /// Reads and returns the next document, or `None` at the end of the bytes.
+    /// Fails with the first fault of the bytes, as `from_bytes` does, once all documents before the fault are returned. Fails with `Memory`
+    /// if an allocation fails.
     pub fn next(&mut self) -> Result<Option<Document>, WireFault>
+        // The bytes are unchanged.
         ensures same { self.new.bytes ≡ self.old.bytes }
-        // What it gives is the next of the documents that the bytes carry.
+        // With `Ok` the documents in the bytes that are read are the ones before the call, followed by the returned document, if there is
+        // one.
         ensures found { IfNone self.old.refusal (IfOk result (λ x. given self.new ≡ given self.old ++ map plain_document (option_to_list x))) }
-        // The bytes that are read have no fault: they mean an index with the documents that are given.
+        // With `Ok` the bytes that are read encode an index, whose documents are exactly those returned so far.
         ensures sound { IfNone self.old.refusal (IfOk result (λ _. HasDocuments (take self.new.at self.old.bytes) (given self.new))) }
-        // It gives none only where the bytes mean an index, and all its documents are given.
+        // The result is `None` only if the bytes encode an index and all its documents are returned.
         ensures end { IfNone self.old.refusal (IfOk result (λ x. IfNone x (HasDocuments self.old.bytes (given self.old)))) }
-        // With a document it has read on, and never beyond the bytes.
+        // With a document the reader has read further, and not beyond the end of the bytes.
         ensures onward { IfNone self.old.refusal (IfOk result (λ x. IfSome x (λ _. (self.old.at < self.new.at) × (self.new.at ≤ length self.old.bytes)))) }
-        // It refuses with the first fault of the bytes, once all documents in front of that are given, unless memory ran out.
+        // The reader's first error is the first fault of the bytes, and the documents before this fault are exactly those returned so far;
+        // or it is `Memory`.
         ensures fault { IfNone self.old.refusal (IfErr result (λ e. UnlessMemory e (IsFaultAfter self.old.bytes (given self.old) e))) }
-        // A refusal is kept.
+        // The reader stores the error of the call, if there is one.
         ensures kept { self.new.refusal ≡ result_err result }
-        // It is answered again from then on.
+        // After an error each call returns this error again, and the reader is unchanged.
         ensures again { IfSome self.old.refusal (λ fault. (result ≡ Err fault) × (self.new ≡ self.old)) }
     {
         if let Some(fault) = self.refusal {
@@ -188,11 +197,14 @@ impl<'a> IndexReader<'a> {
         }
     }
 
-    /// Reads on to the end of the bytes, and gives the metadata and the external symbols.
-    /// Refuses with the first fault of the bytes, as `from_bytes` does, and with `Memory`; a refusal of `next` is answered again.
+    /// Reads up to the end of the bytes, and returns the metadata and the external symbols.
+    /// Fails with the first fault of the bytes, as `from_bytes` does, and with `Memory` if an allocation fails. If `next` has failed,
+    /// returns its error again.
     pub fn rest(self) -> Result<(Option<Metadata>, Vec<SymbolInfo>), WireFault>
-        // They are those of the index that the bytes mean, or it is the first fault.
+        // If the reader hasn't failed, the result is the metadata and the external symbols of the index that the bytes encode, or their
+        // first fault, or `Memory`.
         ensures exact { IfNone self.entry.refusal (Tells (λ x. (option_map plain_metadata x.0, map plain_symbol x.1.items)) result (IsRestOutcome self.entry.bytes)) }
+        // If the reader has failed, the result is its error.
         ensures again { IfSome self.entry.refusal (λ fault. result ≡ Err fault) }
     {
         if let Some(fault) = self.refusal {

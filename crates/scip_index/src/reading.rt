@@ -1,4 +1,4 @@
-//! Messages of an index, each taken in record by record.
+//! The decoding of the messages of an index, record by record.
 ghost use Rattle.std.specs.Prelude.{◌≡◌, IfErr, IfOk, None, OnOk, Result};
 ghost use Rattle.proto_wire.specs.declared.fault.WireFault.{WireFault};
 ghost use Rattle.proto_wire.specs.Faults.{Stops, Tells};
@@ -152,7 +152,7 @@ impl Message for Index {
     }
 }
 
-/// Reads the index, without what its clauses add.
+/// Decodes an index. The contract of `from_bytes` follows from this one.
 fn index_in(alloc: Global, bytes: &[u8]) -> Result<Index, WireFault>
     ensures clean { OnOk result (fault_of index_fault 0 bytes.now ≡ None) }
     ensures means { IfOk result (λ i. plain_index i ≡ index_of (payload_records 0 bytes.now).0) }
@@ -161,16 +161,16 @@ fn index_in(alloc: Global, bytes: &[u8]) -> Result<Index, WireFault>
     read_message(alloc, 0, bytes)
 }
 
-/// The index that the bytes mean (scip.proto; Protocol Buffers encoding). Fields come in any order. Of a number or a text the last
-/// one counts, a message that comes again is merged into the one before, ranges are packed or not, and fields that are none of the
-/// index's, or have another wire type, are passed over.
-/// Refuses with the first fault of the bytes and the offset of the key of its record: `Truncated`, `LongVarint`, `ZeroField`,
-/// `Group` or `BadText`, an outer record's before those inside it and those inside it before the next record's; and with `Memory`
-/// where a growth was refused.
+/// Decodes the index that the bytes encode (scip.proto; Protocol Buffers encoding).
+/// Fields come in any order. Of several records of a number or a string the last one counts; several records of a singular message are
+/// merged. Ranges are packed or not. Unknown fields, and fields with another wire type, are skipped.
+/// Fails with the first fault of the bytes, with the offset of its record's key in bytes from 0: `Truncated`, `LongVarint`, `ZeroField`,
+/// `Group` or `BadText`. A record's own fault comes before the faults inside it, and these before the next record's.
+/// Fails with `Memory` if an allocation fails.
 pub fn from_bytes(alloc: Global, bytes: &[u8]) -> Result<Index, WireFault>
-    // It is the index that the bytes mean, or their first fault.
+    // The result is the index that the bytes encode, or their first fault, or `Memory`.
     ensures exact { Tells plain_index result (IsIndexOutcome bytes.now) }
-    // That index, or that fault, is answered unless memory runs out.
+    // Each outcome of the bytes, an index or a first fault, is the result, unless the result is `Memory`.
     ensures only { (o : Result PlainIndex WireFault) → IsIndexOutcome bytes.now o → Tells plain_index result (λ p. p ≡ o) }
 {
     index_in(alloc, bytes)

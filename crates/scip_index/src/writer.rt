@@ -1,4 +1,4 @@
-//! An index, put into a sink one document after the other.
+//! Writes an index to a sink one document at a time.
 ghost use Rattle.std.specs.Prelude.{◌≡◌, IfNone, IfSome, None, OnOk, Some, map};
 ghost use Rattle.std.specs.List.{AllByRecursion};
 ghost use Rattle.std.specs.Result.{result_err};
@@ -16,18 +16,18 @@ use proto_wire::{Scratch, WireFault, push_message, put_messages};
 use std::alloc::{AllocError, Global};
 use std::marker::Model;
 
-/// How far an index is written.
+/// The progress of a writer.
 #[derive(Clone, Copy)]
 pub enum Stage {
-    /// Nothing is put.
+    /// Nothing is written.
     Fresh,
-    /// The metadata is put.
+    /// The metadata is written, and maybe documents.
     Open,
-    /// All is put.
+    /// Everything is written.
     Ended,
 }
 
-/// Puts the metadata's record, gathered first. At a refusal a front of it is taken.
+/// Encodes the metadata's record in the buffer and writes it. After an error the sink has taken a prefix of the record.
 fn put_metadata<S: Sink>(
     scratch: &mut Scratch,
     bytes: &mut Vec<u8>,
@@ -43,7 +43,7 @@ fn put_metadata<S: Sink>(
     put_all(sink, bytes)
 }
 
-/// Puts a document's record, gathered first. At a refusal a front of it is taken.
+/// Encodes a document's record in the buffer and writes it. After an error the sink has taken a prefix of the record.
 fn put_document<S: Sink>(
     scratch: &mut Scratch,
     bytes: &mut Vec<u8>,
@@ -59,7 +59,7 @@ fn put_document<S: Sink>(
     put_all(sink, bytes)
 }
 
-/// Gathers the records of the external symbols.
+/// Encodes the records of the external symbols in the buffer.
 fn gather_externals(
     scratch: &mut Scratch,
     bytes: &mut Vec<u8>,
@@ -72,7 +72,7 @@ fn gather_externals(
     put_messages(scratch, bytes, 3, externals)
 }
 
-/// Puts the records of the external symbols, gathered first. At a refusal a front of them is taken.
+/// Encodes the records of the external symbols in the buffer and writes them. After an error the sink has taken a prefix of the records.
 fn put_externals<S: Sink>(
     scratch: &mut Scratch,
     bytes: &mut Vec<u8>,
@@ -87,9 +87,10 @@ fn put_externals<S: Sink>(
     put_all(sink, bytes)
 }
 
-/// Puts an index into a sink by calls of `metadata`, `document` and `end`, in this order, and holds one document's bytes at a time.
-/// Contracts see how far it is, and the refusal that it has answered, if any: from then on it answers that again, whatever is
-/// called, and puts nothing.
+/// Writes an index to a sink by calls of `metadata`, `document` and `end`, in this order. The bytes of one document are in memory at a
+/// time.
+/// Contracts describe a writer by its stage and the error that it has returned, if any. From then on each call returns this error again and
+/// writes nothing.
 #[derive(Drop)]
 pub struct IndexWriter {
     stage: Stage,
@@ -107,8 +108,9 @@ impl Model for IndexWriter {
 }
 
 impl IndexWriter {
-    /// A writer of an index of which nothing is put. Takes no memory.
+    /// A writer that has written nothing. Allocates nothing.
     pub fn new(alloc: Global) -> Self
+        // The writer is at stage `Fresh`, and hasn't failed.
         ensures { result ≡ record { stage = Fresh; refusal = None } }
     {
         IndexWriter {
@@ -119,7 +121,7 @@ impl IndexWriter {
         }
     }
 
-    /// Refuses where the writer has refused before.
+    /// Fails with the writer's error, if the writer has failed.
     fn goes_on(&self) -> Result<(), WireFault>
         ensures { result ≡ answer_of self.now.refusal }
     {
@@ -129,7 +131,7 @@ impl IndexWriter {
         }
     }
 
-    /// Goes on to the next stage, or keeps what a sink refused.
+    /// Advances to the next stage, or stores the error of a write.
     fn keeps(&mut self, put: Result<(), SinkFault>, next: Stage) -> Result<(), WireFault>
         requires { self.old.refusal ≡ None }
         ensures kept { self.new ≡ after_put self.old put next }
@@ -147,20 +149,22 @@ impl IndexWriter {
         }
     }
 
-    /// Puts the metadata: the first call.
-    /// Refuses with `Device` and `Memory`; the sink has then taken a front of the part.
+    /// Writes the metadata's record. This is the first call.
+    /// Fails with `Device` if the sink fails, and with `Memory` if an allocation fails. The sink has then taken a prefix of the record.
     pub fn metadata<S: Sink>(&mut self, metadata: &Metadata, sink: &mut S) -> Result<(), WireFault>
+        // The writer is at stage `Fresh`, or has failed.
         requires { MayCall self.old Fresh }
-        // The whole part at Ok, and a front of it at a refusal.
+        // With `Ok` the sink took the whole record, otherwise a prefix of it.
         ensures puts { IfNone self.old.refusal (PutsRecord (S.taken sink.old) (S.taken sink.new) result (metadata_part (Some (plain_metadata metadata.now)))) }
-        // What is put can be read again, as all that code holds.
+        // With `Ok` the numbers of the metadata fit their types and its strings are UTF-8, so the record can be decoded.
         ensures fits { OnOk result (MetadataFits (plain_metadata metadata.now)) }
-        // Device is answered where the sink counted a failure, and nowhere else.
+        // If the writer hadn't failed before, the sink counts a failure if and only if the result is `Device`.
         ensures failures { IfNone self.old.refusal (S.failures sink.new ≡ failures_by is_failure result (S.failures sink.old)) }
-        // A refusal is kept, and is one of a sink.
+        // The result is the error that the writer now has, or `Ok` if it has none.
         ensures kept { result ≡ answer_of self.new.refusal }
-        // It is answered again from then on, and the sink is left as it was.
+        // If the writer had failed before, the writer and the sink are unchanged.
         ensures again { IfSome self.old.refusal (λ _. (self.new ≡ self.old) × (sink.new ≡ sink.old)) }
+        // With `Ok` the writer is at stage `Open`.
         ensures stage { OnOk result (self.new.stage ≡ Open) }
     {
         self.goes_on()?;
@@ -168,20 +172,22 @@ impl IndexWriter {
         self.keeps(put, Stage::Open)
     }
 
-    /// Puts a document: any number of calls behind the metadata.
-    /// Refuses with `Device` and `Memory`; the sink has then taken a front of the part.
+    /// Writes a document's record. This is called any number of times, after `metadata`.
+    /// Fails with `Device` if the sink fails, and with `Memory` if an allocation fails. The sink has then taken a prefix of the record.
     pub fn document<S: Sink>(&mut self, document: &Document, sink: &mut S) -> Result<(), WireFault>
+        // The writer is at stage `Open`, or has failed.
         requires { MayCall self.old Open }
-        // The whole part at Ok, and a front of it at a refusal.
+        // With `Ok` the sink took the whole record, otherwise a prefix of it.
         ensures puts { IfNone self.old.refusal (PutsRecord (S.taken sink.old) (S.taken sink.new) result (document_part (plain_document document.now))) }
-        // What is put can be read again, as all that code holds.
+        // With `Ok` the numbers of the document fit their types and its strings are UTF-8, so the record can be decoded.
         ensures fits { OnOk result (DocumentFits (plain_document document.now)) }
-        // Device is answered where the sink counted a failure, and nowhere else.
+        // If the writer hadn't failed before, the sink counts a failure if and only if the result is `Device`.
         ensures failures { IfNone self.old.refusal (S.failures sink.new ≡ failures_by is_failure result (S.failures sink.old)) }
-        // A refusal is kept, and is one of a sink.
+        // The result is the error that the writer now has, or `Ok` if it has none.
         ensures kept { result ≡ answer_of self.new.refusal }
-        // It is answered again from then on, and the sink is left as it was.
+        // If the writer had failed before, the writer and the sink are unchanged.
         ensures again { IfSome self.old.refusal (λ _. (self.new ≡ self.old) × (sink.new ≡ sink.old)) }
+        // With `Ok` the writer is at stage `Open`.
         ensures stage { OnOk result (self.new.stage ≡ Open) }
     {
         self.goes_on()?;
@@ -189,20 +195,22 @@ impl IndexWriter {
         self.keeps(put, Stage::Open)
     }
 
-    /// Puts the external symbols: the last call.
-    /// Refuses with `Device` and `Memory`; the sink has then taken a front of the part.
+    /// Writes the records of the external symbols. This is the last call.
+    /// Fails with `Device` if the sink fails, and with `Memory` if an allocation fails. The sink has then taken a prefix of the records.
     pub fn end<S: Sink>(&mut self, externals: &[SymbolInfo], sink: &mut S) -> Result<(), WireFault>
+        // The writer is at stage `Open`, or has failed.
         requires { MayCall self.old Open }
-        // The whole part at Ok, and a front of it at a refusal.
+        // With `Ok` the sink took all of the records, otherwise a prefix of them.
         ensures puts { IfNone self.old.refusal (PutsRecord (S.taken sink.old) (S.taken sink.new) result (externals_part (map plain_symbol externals.now))) }
-        // What is put can be read again, as all that code holds.
+        // With `Ok` the strings of the external symbols are UTF-8, so the records can be decoded.
         ensures fits { OnOk result (AllByRecursion SymbolFits (map plain_symbol externals.now)) }
-        // Device is answered where the sink counted a failure, and nowhere else.
+        // If the writer hadn't failed before, the sink counts a failure if and only if the result is `Device`.
         ensures failures { IfNone self.old.refusal (S.failures sink.new ≡ failures_by is_failure result (S.failures sink.old)) }
-        // A refusal is kept, and is one of a sink.
+        // The result is the error that the writer now has, or `Ok` if it has none.
         ensures kept { result ≡ answer_of self.new.refusal }
-        // It is answered again from then on, and the sink is left as it was.
+        // If the writer had failed before, the writer and the sink are unchanged.
         ensures again { IfSome self.old.refusal (λ _. (self.new ≡ self.old) × (sink.new ≡ sink.old)) }
+        // With `Ok` the writer is at stage `Ended`.
         ensures stage { OnOk result (self.new.stage ≡ Ended) }
     {
         self.goes_on()?;

@@ -1,4 +1,4 @@
-//! Messages of an index as bytes: fields by ascending numbers, and what is 0 or empty left out.
+//! The encoding of the messages of an index: fields in ascending order of their numbers, and none that is zero or empty.
 ghost use Rattle.std.specs.Prelude.{◌≡◌, IfOk, IsOkUnless, OnOk};
 ghost use Rattle.proto_wire.specs.declared.fault.WireFault.TheVariants.{Memory};
 ghost use Rattle.scip_index.specs.Plain.{plain_document, plain_index, plain_metadata, plain_occurrence, plain_symbol, plain_tool, PlainIndex};
@@ -79,7 +79,7 @@ impl Written for Metadata {
     }
 }
 
-/// The bytes of an index.
+/// The written form of an index.
 fn index_bytes(alloc: Global, index: &Index) -> Result<Vec<u8>, AllocError>
     ensures bytes { IfOk result (λ v. v.items ≡ written (plain_index index.now)) }
     ensures fits { OnOk result (IndexFits (plain_index index.now)) }
@@ -92,16 +92,18 @@ fn index_bytes(alloc: Global, index: &Index) -> Result<Vec<u8>, AllocError>
     Ok(out)
 }
 
-/// The one list of bytes that is written of an index (scip.proto; Protocol Buffers encoding): fields by ascending numbers, shortest
-/// varints and packed ranges. Zeros, empty texts and empty lists are left out; a message that is there and each argument are
-/// written even when empty. Refuses with `Memory` where a growth was refused.
+/// Encodes an index in its one written form (scip.proto; Protocol Buffers encoding): fields in ascending order of their numbers, minimal
+/// varints and packed ranges.
+/// Zeros, empty strings and empty lists are left out. A message that is present and each argument are written even if empty.
+/// Fails with `Memory` if an allocation fails.
 pub fn to_bytes(alloc: Global, index: &Index) -> Result<Vec<u8>, WireFault>
-    // They are the written form of the index.
+    // With `Ok` the bytes are the written form of the index.
     ensures exact { IfOk result (λ v. v.items ≡ written (plain_index index.now)) }
-    // They mean the index.
+    // With `Ok` the bytes encode the index.
     ensures means { IfOk result (λ v. Means v.items (plain_index index.now)) }
-    // They mean no other.
+    // With `Ok` the bytes encode no other index.
     ensures only { IfOk result (λ v. (other : PlainIndex) → Means v.items other → other ≡ plain_index index.now) }
+    // `Memory` is the only error.
     ensures memory { IsOkUnless result Memory }
 {
     Ok(index_bytes(alloc, index)?)
