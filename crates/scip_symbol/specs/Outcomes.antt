@@ -1,4 +1,4 @@
--- What a symbol or a text answers, with each refusal by what is wrong and by what isn't.
+-- The outcomes of writing a symbol and of reading a string. Each error is defined by what is wrong, and by what isn't wrong before it.
 use Rattle.std.specs.Prelude.{◌≡◌, ◌≢◌, ◌⊎◌, ℕ, ◌+◌, ◌<◌, ◌==◌, ◌||◌, Bool, true, false, not, List, [], ◌∷◌, ◌++◌, length, codes, Option, Some, None, Result, Ok, Err}
 use Rattle.std.specs.List.{list_any, flat_map, position_from, AllByRecursion}
 use Rattle.scip_symbol.specs.declared.kind.DescriptorKind.{DescriptorKind}
@@ -9,12 +9,12 @@ use Rattle.scip_symbol.specs.SymbolTexts.{PlainDescriptor, PlainSymbol, Local, G
 
 -- ---- writing
 
--- nothing stands here
+-- the list is empty
 abbrev pub is_empty : {X : Type 0} → List X → Bool
 is_empty [] = true
 is_empty (x ∷ xs) = false
 
--- an empty scheme, id, name or list of descriptors
+-- the scheme, the local id, a name or the list of descriptors is empty
 abbrev pub has_empty : PlainSymbol → Bool
 has_empty (Local id) = is_empty id
 has_empty (Global scheme manager package_name version descriptors) = is_empty scheme || (is_empty descriptors || list_any (λ d. is_empty d.name) descriptors)
@@ -24,49 +24,49 @@ abbrev pub HasLocalScheme : PlainSymbol → Type 0
 HasLocalScheme (Local id) = ⊥
 HasLocalScheme (Global scheme manager package_name version descriptors) = BeginsLocal scheme
 
--- a space stands in front
+-- the first byte is a space
 abbrev pub begins_with_space : List ℕ → Bool
 begins_with_space [] = false
 begins_with_space (b ∷ bytes) = b == 32
 
--- only a full stop
+-- the bytes are `.`
 abbrev pub is_stop : List ℕ → Bool
 is_stop [] = false
 is_stop (b ∷ []) = b == 46
 is_stop (b ∷ c ∷ bytes) = false
 
--- what a manager, a package or a version may not be
+-- a manager, package name or version can't be written: it begins with a space, or is `.`
 abbrev pub is_wrong_part : List ℕ → Bool
 is_wrong_part part = begins_with_space part || is_stop part
 
--- the number of the first part that can't be written: 0 is the scheme, 1 the manager, 2 the package and 3 the version
+-- the number of the first part that can't be written: 0 is the scheme, 1 the manager, 2 the package name and 3 the version
 abbrev pub wrong_part_of : PlainSymbol → Option ℕ
 wrong_part_of (Local id) = None
 wrong_part_of (Global scheme manager package_name version descriptors) =
     position_from (λ wrong. wrong) 0 (begins_with_space scheme ∷ is_wrong_part manager ∷ is_wrong_part package_name ∷ is_wrong_part version ∷ [])
 
--- a disambiguator that can't be written
+-- the disambiguator can't be written: it has a byte that isn't an identifier character
 abbrev pub is_wrong_descriptor : PlainDescriptor → Bool
 is_wrong_descriptor d = not (are_simple d.disambiguator)
 
--- the number of the first descriptor that can't be written, from 0; 0 for an id that can't
+-- the index of the first descriptor that can't be written, or 0 for a local id that can't be written
 abbrev pub wrong_descriptor_of : PlainSymbol → Option ℕ
 wrong_descriptor_of (Local id) = position_from (λ wrong. wrong) 0 (not (are_simple id) ∷ [])
 wrong_descriptor_of (Global scheme manager package_name version descriptors) = position_from is_wrong_descriptor 0 descriptors
 
--- only descriptors of methods have a disambiguator, as the type of descriptors keeps it
+-- only methods have a disambiguator, as the type of descriptors guarantees
 abbrev pub AreOfMethods : PlainSymbol → Type 0
 AreOfMethods (Local id) = Unit {0}
 AreOfMethods (Global scheme manager package_name version descriptors) = AllByRecursion (λ d. IsOfMethod d.kind d.disambiguator) descriptors
 
--- nothing is refused in the symbol
+-- the symbol has no error
 pub record IsWritable (s : PlainSymbol) : Type 0 where
   pub no_empty : has_empty s ≡ false
   pub not_local : HasLocalScheme s → ⊥
   pub parts : wrong_part_of s ≡ None
   pub descriptors : wrong_descriptor_of s ≡ None
 
--- what is refused in a symbol, in order
+-- the first error of a symbol, in this order: Empty, LocalScheme, BadPart, BadDescriptor
 abbrev pub IsWriteRefusal : PlainSymbol → SymbolFault → Type 0
 IsWriteRefusal s faults.Empty = has_empty s ≡ true
 IsWriteRefusal s faults.LocalScheme = (has_empty s ≡ false) × HasLocalScheme s
@@ -75,21 +75,21 @@ IsWriteRefusal s (faults.BadDescriptor at) = (has_empty s ≡ false) × ¬ (HasL
 IsWriteRefusal s faults.OpenQuote = ⊥
 IsWriteRefusal s faults.Memory = ⊥
 
--- a symbol is written as its plain text, or refused
+-- the outcome of writing a symbol: its plain string, or its first error
 abbrev pub IsWriteOutcome : PlainSymbol → Result (List ℕ) SymbolFault → Type 0
 IsWriteOutcome s (Ok text) = SymbolText s text × (text ≡ plain_text s)
 IsWriteOutcome s (Err fault) = IsWriteRefusal s fault
 
 -- ---- reading
 
--- the text isn't that of a local symbol and begins with these parts, each ended by an odd run of spaces; this is the rest
+-- the string doesn't begin with `local`, and is these parts, each ended by an odd number of spaces, followed by the rest
 pub record BeginsWithParts (text : List ℕ) (parts : List (List ℕ)) (rest : List ℕ) : Type 0 where
   pub not_local : BeginsLocal text → ⊥
   pub each : AllByRecursion IsPackagePart parts
   pub whole : text ≡ flat_map ended_part parts ++ rest
   pub next : IsNotFirst 32 rest
 
--- fewer than four parts are ended, so many
+-- fewer than four parts are ended, and this is their number
 pub record LacksPart (text : List ℕ) (count : ℕ) : Type 0 where
   pub parts : List (List ℕ)
   pub rest : List ℕ
@@ -98,12 +98,12 @@ pub record LacksPart (text : List ℕ) (count : ℕ) : Type 0 where
   pub few : count < 4
   pub unended : IsUnended 32 rest
 
--- a space stands in front of the text, or fewer than four parts are ended; then this is the number of the first that isn't
+-- the string begins with a space, and the part is 0; or fewer than four parts are ended, and this is the number of the first one that isn't
 pub record IsBadPart (text : List ℕ) (part : ℕ) : Type 0 where
   pub some : text ≢ []
   pub wrong : ((begins_with_space text ≡ true) × (part ≡ 0)) ⊎ LacksPart text part
 
--- behind four parts and descriptors the text goes on so, from this place on
+-- the string is four parts and descriptors, followed by the rest, which begins at this offset
 pub record HasFront (text : List ℕ) (at : ℕ) (rest : List ℕ) : Type 0 where
   pub parts : List (List ℕ)
   pub descriptors : List PlainDescriptor
@@ -113,18 +113,18 @@ pub record HasFront (text : List ℕ) (at : ℕ) (rest : List ℕ) : Type 0 wher
   pub front_is : DescriptorTexts descriptors front
   pub place : at + length rest ≡ length text
 
--- where a descriptor should stand, a name begins with a backtick that isn't closed
+-- the next descriptor's name begins with a backtick that isn't closed
 pub record HasOpenQuote (rest : List ℕ) : Type 0 where
   pub kind : DescriptorKind
   pub inside : List ℕ
   pub there : rest ≡ before_name kind ++ 96 ∷ inside
   pub open_is : IsUnended 96 inside
 
--- no descriptor stands in front
+-- no string of a descriptor is a prefix of the bytes
 abbrev pub HasNoDescriptor : List ℕ → Type 0
 HasNoDescriptor rest = (d : PlainDescriptor) (first others : List ℕ) → DescriptorText d first → rest ≢ first ++ others
 
--- the first byte of an id that isn't simple stands at this place
+-- the first byte of a local id that isn't an identifier character is at this offset
 pub record IsBadId (text : List ℕ) (at : ℕ) : Type 0 where
   pub front : List ℕ
   pub b : ℕ
@@ -134,7 +134,7 @@ pub record IsBadId (text : List ℕ) (at : ℕ) : Type 0 where
   pub wrong : is_simple b ≡ false
   pub place : at ≡ 6 + length front
 
--- from this place on no descriptor stands, and something else does whose name has no open quote
+-- four parts and descriptors are followed, at this offset, by something that isn't a descriptor and whose name has no open backtick
 pub record IsBadDescriptor (text : List ℕ) (at : ℕ) : Type 0 where
   pub rest : List ℕ
   pub front : HasFront text at rest
@@ -142,7 +142,7 @@ pub record IsBadDescriptor (text : List ℕ) (at : ℕ) : Type 0 where
   pub none : HasNoDescriptor rest
   pub no_quote : HasOpenQuote rest → ⊥
 
--- what is refused in a text
+-- the first error of a string
 abbrev pub IsReadRefusal : List ℕ → SymbolFault → Type 0
 IsReadRefusal text faults.Empty = (text ≡ []) ⊎ ((text ≡ codes "local ") ⊎ ((parts : List (List ℕ)) × BeginsWithParts text parts [] × (length parts ≡ 4)))
 IsReadRefusal text (faults.BadDescriptor at) = IsBadId text at ⊎ IsBadDescriptor text at
@@ -151,7 +151,7 @@ IsReadRefusal text faults.OpenQuote = (at : ℕ) × (rest : List ℕ) × HasFron
 IsReadRefusal text faults.Memory = ⊥
 IsReadRefusal text (faults.BadPart part) = IsBadPart text part
 
--- a text is read as the symbol that has it, or refused
+-- the outcome of reading a string: the symbol that has it, or its first error
 abbrev pub IsReadOutcome : List ℕ → Result PlainSymbol SymbolFault → Type 0
 IsReadOutcome text (Ok s) = SymbolText s text
 IsReadOutcome text (Err fault) = IsReadRefusal text fault

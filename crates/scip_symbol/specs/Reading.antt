@@ -1,4 +1,4 @@
--- What the private functions of the reader and the writer give. The public contracts are in the words of texts.
+-- What the private functions of the reader and the writer return. The public contracts use `Outcomes` and `SymbolTexts`.
 use Rattle.std.specs.Prelude.{◌≡◌, ◌≢◌, ℕ, ◌+◌, ◌-◌, ◌==◌, List, [], ◌∷◌, ◌++◌, length, codes, Option, Some, None, option_map, Result, Ok, Err, if◌then◌else◌}
 use Rattle.std.specs.Option.{ok_or}
 use Rattle.std.specs.String.{string_bytes}
@@ -10,23 +10,24 @@ use Rattle.scip_symbol.specs.declared.fault.SymbolFault.{SymbolFault}
 use Rattle.scip_symbol.specs.declared.fault.SymbolFault.TheVariants as faults
 use Rattle.scip_symbol.specs.SymbolTexts.{PlainDescriptor, PlainSymbol, Local, is_simple, DescriptorTexts}
 
+-- continues with the value, or returns the error
 infixl 10 ◌>>=◌
 abbrev pub ◌>>=◌ : {A B E : Type 0} → Result A E → (A → Result B E) → Result B E
 (Ok x) >>= f = f x
 (Err e) >>= f = Err e
 
--- what follows this byte, where it stands in front
+-- what follows this byte, if the bytes begin with it
 abbrev pub after_byte : ℕ → List ℕ → Option (List ℕ)
 after_byte mark [] = None
 after_byte mark (b ∷ bytes) = if b == mark then Some bytes else None
 
--- what follows these bytes, where they stand in front
+-- what follows these bytes, if the string begins with them
 abbrev pub after_bytes : List ℕ → List ℕ → Option (List ℕ)
 after_bytes [] text = Some text
 after_bytes (w ∷ word) [] = None
 after_bytes (w ∷ word) (b ∷ bytes) = if b == w then after_bytes word bytes else None
 
--- the part in front and what follows the byte that ends it, if one does: in pairs such bytes belong to the part, a single one ends it
+-- the part that the bytes begin with, and what follows the single byte that ends it; in the part this byte is doubled. None if nothing ends the part
 unfoldable pub ended_by : ℕ → List ℕ → Option (List ℕ × List ℕ)
 ended_by mark [] = None
 ended_by mark (b ∷ []) = if b == mark then Some ([], []) else None
@@ -34,49 +35,51 @@ ended_by mark (b ∷ c ∷ more) =
     if b == mark then (if c == mark then option_map (with_first mark) (ended_by mark more) else Some ([], c ∷ more))
     else option_map (with_first b) (ended_by mark (c ∷ more))
 
--- the simple bytes in front, and what follows them
+-- the identifier characters that the bytes begin with, and what follows them
 unfoldable pub simple_front : List ℕ → List ℕ × List ℕ
 simple_front [] = ([], [])
 simple_front (b ∷ bytes) = if is_simple b then with_first b (simple_front bytes) else ([], b ∷ bytes)
 
--- ---- descriptors; the place is that of the descriptor
+-- ---- descriptors; `at` is the offset of the descriptor in the symbol string
 
--- a name, if it isn't empty
+-- a name with the bytes after it, if the name isn't empty
 abbrev pub nonempty_name : ℕ → List ℕ → List ℕ → Result (List ℕ × List ℕ) SymbolFault
 nonempty_name at [] rest = Err (faults.BadDescriptor at)
 nonempty_name at (b ∷ name) rest = Ok (b ∷ name, rest)
 
+-- the simple identifier that the bytes begin with, and what follows it
 unfoldable pub simple_name_at : ℕ → List ℕ → Result (List ℕ × List ℕ) SymbolFault
 simple_name_at at text = nonempty_name at (simple_front text).0 (simple_front text).1
 
--- the name whose first backtick is read
+-- the escaped name whose first backtick has been read, and what follows it
 unfoldable pub quoted_name_at : ℕ → List ℕ → Result (List ℕ × List ℕ) SymbolFault
 quoted_name_at at inside = do
   x ← ok_or (ended_by 96 inside) faults.OpenQuote
   nonempty_name at x.0 x.1
 
+-- the name that the bytes begin with, and what follows it, by whether a backtick is the first byte
 abbrev pub name_behind : ℕ → Option (List ℕ) → List ℕ → Result (List ℕ × List ℕ) SymbolFault
 name_behind at None text = simple_name_at at text
 name_behind at (Some inside) text = quoted_name_at at inside
 
--- the name in front, and what follows it
+-- the name that the bytes begin with, unescaped, and what follows it
 unfoldable pub name_in_front : ℕ → List ℕ → Result (List ℕ × List ℕ) SymbolFault
 name_in_front at text = name_behind at (after_byte 96 text) text
 
--- a name and the byte that closes it
+-- the descriptor of a name and the byte that closes it, and what follows it; its opening byte has been read
 unfoldable pub closed_at : ℕ → DescriptorKind → ℕ → List ℕ → Result (PlainDescriptor × List ℕ) SymbolFault
 closed_at at kind close inside = do
   x ← name_in_front at inside
   rest ← ok_or (after_byte close x.1) (faults.BadDescriptor at)
   Ok (record { kind = kind; name = x.0; disambiguator = [] }, rest)
 
--- a method whose name and `(` are read
+-- the method whose name and `(` have been read, and what follows it
 unfoldable pub method_at : ℕ → List ℕ → List ℕ → Result (PlainDescriptor × List ℕ) SymbolFault
 method_at at name inside = do
   rest ← ok_or (after_bytes (codes ").") (simple_front inside).1) (faults.BadDescriptor at)
   Ok (record { kind = Method; name = name; disambiguator = (simple_front inside).0 }, rest)
 
--- the kind that a byte behind a name tells
+-- the kind of a descriptor with this byte after its name
 abbrev pub kind_of : ℕ → Option DescriptorKind
 kind_of b =
     if b == 47 then Some Namespace
@@ -86,40 +89,43 @@ kind_of b =
     else if b == 33 then Some Macro
     else None
 
+-- the kind of a descriptor with the first byte after its name, and what follows this byte
 abbrev pub suffix_at : List ℕ → Option (DescriptorKind × List ℕ)
 suffix_at [] = None
 suffix_at (b ∷ rest) = option_map (λ kind. (kind, rest)) (kind_of b)
 
--- one that is told by the byte behind its name
+-- the descriptor whose name has been read and that one byte ends, and what follows it
 unfoldable pub told_at : ℕ → List ℕ → List ℕ → Result (PlainDescriptor × List ℕ) SymbolFault
 told_at at name text = do
   x ← ok_or (suffix_at text) (faults.BadDescriptor at)
   Ok (record { kind = x.0; name = name; disambiguator = [] }, x.1)
 
+-- the descriptor whose name has been read, and what follows it, by whether `(` comes next
 abbrev pub suffixed_behind : ℕ → List ℕ → Option (List ℕ) → List ℕ → Result (PlainDescriptor × List ℕ) SymbolFault
 suffixed_behind at name None text = told_at at name text
 suffixed_behind at name (Some inside) text = method_at at name inside
 
--- a descriptor whose name is read
+-- the descriptor whose name has been read, and what follows it
 unfoldable pub suffixed_at : ℕ → List ℕ → List ℕ → Result (PlainDescriptor × List ℕ) SymbolFault
 suffixed_at at name text = suffixed_behind at name (after_byte 40 text) text
 
--- one that begins with its name
+-- the descriptor that begins with its name, and what follows it
 unfoldable pub bare_at : ℕ → List ℕ → Result (PlainDescriptor × List ℕ) SymbolFault
 bare_at at text = do
   x ← name_in_front at text
   suffixed_at at x.0 x.1
 
+-- the first descriptor, and what follows it, by whether `[` or `(` is the first byte
 abbrev pub descriptor_behind : ℕ → Option (List ℕ) → Option (List ℕ) → List ℕ → Result (PlainDescriptor × List ℕ) SymbolFault
 descriptor_behind at None None text = bare_at at text
 descriptor_behind at None (Some inside) text = closed_at at Parameter 41 inside
 descriptor_behind at (Some inside) _ text = closed_at at TypeParameter 93 inside
 
--- the descriptor in front, and what follows it
+-- the first descriptor, and what follows it
 unfoldable pub descriptor_at : ℕ → List ℕ → Result (PlainDescriptor × List ℕ) SymbolFault
 descriptor_at at text = descriptor_behind at (after_byte 91 text) (after_byte 40 text) text
 
--- behind descriptors the text, which stands at the end of one of this length, has a rest that answers this
+-- some descriptors of the string are followed by a wrong one, which has this error; the string is the end of one of this length
 pub record IsFirstWrong (whole : ℕ) (text : List ℕ) (fault : SymbolFault) : Type 0 where
   pub descriptors : List PlainDescriptor
   pub front : List ℕ
@@ -129,36 +135,37 @@ pub record IsFirstWrong (whole : ℕ) (text : List ℕ) (fault : SymbolFault) : 
   pub some : rest ≢ []
   pub answer : descriptor_at (whole - length rest) rest ≡ Err fault
 
--- all descriptors of the text, or what the first wrong one answers
+-- all descriptors of the string, or the error of the first wrong one
 abbrev pub IsDescriptorsOutcome : ℕ → List ℕ → Result (List PlainDescriptor) SymbolFault → Type 0
 IsDescriptorsOutcome whole text (Ok ds) = DescriptorTexts ds text
 IsDescriptorsOutcome whole text (Err fault) = IsFirstWrong whole text fault
 
 -- ---- parts
 
--- the part in front of this number, and what follows the space that ends it
+-- the part with this number, which the bytes begin with, and what follows the space that ends it
 unfoldable pub part_in_front : ℕ → List ℕ → Result (List ℕ × List ℕ) SymbolFault
 part_in_front number text = ok_or (ended_by 32 text) (faults.BadPart number)
 
--- a shown part as it is
+-- a part that may be empty, from its bytes in a string: `.` is the placeholder of an empty one
 abbrev pub part_meant : List ℕ → List ℕ
 part_meant [] = []
 part_meant (b ∷ []) = if b == 46 then [] else b ∷ []
 part_meant (b ∷ c ∷ part) = b ∷ c ∷ part
 
+-- the part with this number, which may be empty, and what follows the space that ends it
 unfoldable pub optional_part_at : ℕ → List ℕ → Result (List ℕ × List ℕ) SymbolFault
 optional_part_at number text = do
   x ← part_in_front number text
   Ok (part_meant x.0, x.1)
 
--- the four parts as they are
+-- the four parts of a symbol, unescaped
 pub record PlainParts : Type 0 where
   pub scheme : List ℕ
   pub manager : List ℕ
   pub package_name : List ℕ
   pub version : List ℕ
 
--- the four parts in front, and what follows them
+-- the four parts that the bytes begin with, and what follows them
 unfoldable pub parts_at : List ℕ → Result (PlainParts × List ℕ) SymbolFault
 parts_at text = do
   scheme ← part_in_front 0 text
@@ -167,15 +174,18 @@ parts_at text = do
   version ← optional_part_at 3 package_name.1
   Ok (record { scheme = scheme.0; manager = manager.0; package_name = package_name.0; version = version.0 }, version.1)
 
+-- the four parts as contracts describe them
 abbrev pub plain_parts : Parts → PlainParts
 plain_parts parts = record { scheme = string_bytes parts.scheme; manager = string_bytes parts.manager; package_name = string_bytes parts.package; version = string_bytes parts.version }
 
 -- ---- the id of a local symbol
 
+-- the local symbol with this id, if no bytes follow the id's identifier characters
 abbrev pub local_by : List ℕ → List ℕ → Result PlainSymbol SymbolFault
 local_by id [] = Ok (Local id)
 local_by id (c ∷ rest) = Err (faults.BadDescriptor (6 + length (simple_front id).0))
 
+-- the local symbol with this id, if the id isn't empty and has only identifier characters
 unfoldable pub local_of : List ℕ → Result PlainSymbol SymbolFault
 local_of [] = Err faults.Empty
 local_of (b ∷ id) = local_by (b ∷ id) (simple_front (b ∷ id)).1

@@ -1,4 +1,4 @@
--- The texts of symbols (scip.proto, the grammar of `Symbol`), as a relation between symbols and lists of bytes.
+-- The strings of symbols (scip.proto, the grammar of `Symbol`), as a relation between symbols and lists of bytes.
 use Rattle.std.specs.Prelude.{◌≡◌, ◌≢◌, ℕ, ◌==◌, ◌||◌, Bool, true, List, [], ◌∷◌, ◌++◌, codes, ◌⊎◌, if◌then◌else◌}
 use Rattle.std.specs.List.{list_all, flat_map}
 use Rattle.std.specs.Char.{is_ascii_alphanumeric}
@@ -6,40 +6,40 @@ use Rattle.scip_symbol.specs.declared.kind.DescriptorKind.{DescriptorKind}
 use Rattle.scip_symbol.specs.declared.kind.DescriptorKind.TheVariants.{Namespace, TypeName, Term, Method, Meta, Macro, TypeParameter, Parameter}
 use Rattle.scip_symbol.specs.Bytes.{doubled, IsNotFirst}
 
--- a descriptor without where it lies in memory
+-- a descriptor as contracts describe it: its name and disambiguator are lists of bytes
 pub record PlainDescriptor : Type 0 where
   pub kind : DescriptorKind
   pub name : List ℕ
   pub disambiguator : List ℕ
 
--- a symbol without where it lies in memory
+-- a symbol as contracts describe it: its strings are lists of bytes
 pub data PlainSymbol : Type 0 where
   Local : (id : List ℕ) → PlainSymbol
   Global : (scheme manager package_name version : List ℕ) (descriptors : List PlainDescriptor) → PlainSymbol
 
--- a letter, a digit or one of _ + - $
+-- an identifier character: a letter, a digit or one of _ + - $
 abbrev pub is_simple : ℕ → Bool
 is_simple b = is_ascii_alphanumeric b || (b == 95 || (b == 43 || (b == 45 || b == 36)))
 
--- only such bytes
+-- all bytes are identifier characters
 abbrev pub are_simple : List ℕ → Bool
 are_simple bytes = list_all is_simple bytes
 
--- one or more of them
+-- a simple identifier: one or more identifier characters
 pub record IsSimple (bytes : List ℕ) : Type 0 where
   pub some : bytes ≢ []
   pub simple : are_simple bytes ≡ true
 
--- a name in backticks, with the backticks in it doubled
+-- a name in backticks, with each backtick in it doubled
 abbrev pub quoted : List ℕ → List ℕ
 quoted name = 96 ∷ doubled 96 name ++ 96 ∷ []
 
--- a name that isn't empty, simple or in backticks
+-- a string of a name that isn't empty: the name itself if it is a simple identifier, or the name in backticks
 pub record NameText (name text : List ℕ) : Type 0 where
   pub some : name ≢ []
   pub written : (IsSimple name × (text ≡ name)) ⊎ (text ≡ quoted name)
 
--- what stands before a name of this kind
+-- what precedes the name in a descriptor of this kind
 abbrev pub before_name : DescriptorKind → List ℕ
 before_name Namespace = []
 before_name TypeName = []
@@ -50,7 +50,7 @@ before_name Macro = []
 before_name TypeParameter = codes "["
 before_name Parameter = codes "("
 
--- what stands after it; a method has its disambiguator in parentheses
+-- what follows the name in a descriptor of this kind; a method has its disambiguator in parentheses
 abbrev pub closing : DescriptorKind → List ℕ → List ℕ
 closing Namespace disambiguator = codes "/"
 closing TypeName disambiguator = codes "#"
@@ -65,7 +65,7 @@ closing Parameter disambiguator = codes ")"
 abbrev pub IsOfMethod : DescriptorKind → List ℕ → Type 0
 IsOfMethod kind disambiguator = kind ≢ Method → disambiguator ≡ []
 
--- the text of a descriptor, whichever way its name is written; its disambiguator is empty or simple
+-- a string of a descriptor, with its name simple or escaped; the disambiguator is empty or a simple identifier
 pub record DescriptorText (d : PlainDescriptor) (text : List ℕ) : Type 0 where
   pub name : List ℕ
   pub name_is : NameText d.name name
@@ -73,35 +73,35 @@ pub record DescriptorText (d : PlainDescriptor) (text : List ℕ) : Type 0 where
   pub simple : are_simple d.disambiguator ≡ true
   pub whole : text ≡ before_name d.kind ++ name ++ closing d.kind d.disambiguator
 
--- descriptors in a row
+-- the string is the concatenation of strings of the descriptors
 abbrev pub DescriptorTexts : List PlainDescriptor → List ℕ → Type 0
 DescriptorTexts [] text = text ≡ []
 DescriptorTexts (d ∷ ds) text = (first : List ℕ) × (others : List ℕ) × DescriptorText d first × DescriptorTexts ds others × (text ≡ first ++ others)
 
--- a part as it stands in a text: it isn't empty and begins with no space
+-- the part can occur in a string: it isn't empty and doesn't begin with a space
 abbrev pub IsPackagePart : List ℕ → Type 0
 IsPackagePart [] = ⊥
 IsPackagePart (b ∷ part) = b ≢ 32
 
--- a manager, a package or a version: it begins with no space, and isn't the full stop that stands for an empty one
+-- the manager, package name or version can be written: it doesn't begin with a space, and isn't `.`, the placeholder of an empty one
 pub record IsOptionalPart (part : List ℕ) : Type 0 where
   pub next : IsNotFirst 32 part
   pub no_stop : part ≢ codes "."
 
--- a full stop stands for an empty manager, package or version
+-- a manager, package name or version as it is written, with `.` as placeholder for an empty one
 abbrev pub part_shown : List ℕ → List ℕ
 part_shown [] = codes "."
 part_shown (b ∷ part) = b ∷ part
 
--- a part with its spaces doubled, and one space after it
+-- a part with its spaces doubled, followed by a space
 abbrev pub ended_part : List ℕ → List ℕ
 ended_part part = doubled 32 part ++ 32 ∷ []
 
--- the four parts as they are shown
+-- the four parts as they are written, before spaces are doubled
 abbrev pub shown_parts : List ℕ → List ℕ → List ℕ → List ℕ → List (List ℕ)
 shown_parts scheme manager package_name version = scheme ∷ part_shown manager ∷ part_shown package_name ∷ part_shown version ∷ []
 
--- what stands before the descriptors
+-- what precedes the descriptors in the string of a symbol
 abbrev pub parts_text : List ℕ → List ℕ → List ℕ → List ℕ → List ℕ
 parts_text scheme manager package_name version = flat_map ended_part (shown_parts scheme manager package_name version)
 
@@ -109,7 +109,7 @@ parts_text scheme manager package_name version = flat_map ended_part (shown_part
 abbrev pub BeginsLocal : List ℕ → Type 0
 BeginsLocal bytes = (rest : List ℕ) × (bytes ≡ codes "local" ++ rest)
 
--- a scheme with its parts and descriptors has this text
+-- the string of a global symbol with these parts and descriptors
 pub record GlobalText (scheme manager package_name version : List ℕ) (descriptors : List PlainDescriptor) (text : List ℕ) : Type 0 where
   pub scheme_is : IsPackagePart scheme
   pub not_local : BeginsLocal scheme → ⊥
@@ -121,19 +121,20 @@ pub record GlobalText (scheme manager package_name version : List ℕ) (descript
   pub rest_is : DescriptorTexts descriptors rest
   pub whole : text ≡ parts_text scheme manager package_name version ++ rest
 
--- the symbol has this text
+-- the symbol has this string by the grammar
 abbrev pub SymbolText : PlainSymbol → List ℕ → Type 0
 SymbolText (Local id) text = IsSimple id × (text ≡ codes "local " ++ id)
 SymbolText (Global scheme manager package_name version descriptors) text = GlobalText scheme manager package_name version descriptors text
 
--- a name in backticks only where it isn't simple
+-- a name, in backticks only if it isn't a simple identifier
 abbrev pub plain_name : List ℕ → List ℕ
 plain_name name = if are_simple name then name else quoted name
 
+-- the plain string of a descriptor: its name is in backticks only if it isn't a simple identifier
 abbrev pub plain_descriptor_text : PlainDescriptor → List ℕ
 plain_descriptor_text d = before_name d.kind ++ plain_name d.name ++ closing d.kind d.disambiguator
 
--- the one text of a symbol that has backticks only where they are needed
+-- the plain string of a symbol: a name is in backticks only if it isn't a simple identifier
 abbrev pub plain_text : PlainSymbol → List ℕ
 plain_text (Local id) = codes "local " ++ id
 plain_text (Global scheme manager package_name version descriptors) = parts_text scheme manager package_name version ++ flat_map plain_descriptor_text descriptors

@@ -1,4 +1,4 @@
-//! Cuts of a text at single bytes.
+//! Cuts of a string at single bytes.
 ghost use Rattle.std.specs.Prelude.{◌≡◌, ◌<◌, option_map, IfOk};
 ghost use Rattle.std.specs.List.{prefix_len};
 ghost use Rattle.std.specs.String.{string_bytes};
@@ -8,7 +8,7 @@ ghost use Rattle.scip_symbol.specs.Reading.{after_byte, after_bytes, ended_by, s
 
 use std::alloc::{AllocError, Global};
 
-/// What follows an ASCII character, where it stands in front.
+/// What follows the ASCII character `mark`, if the string begins with it.
 pub(crate) fn after_mark(text: &str, mark: char) -> Option<&str>
     requires { mark < 128 }
     ensures { option_map (λ rest. rest.now) result ≡ after_byte mark text.now }
@@ -16,14 +16,14 @@ pub(crate) fn after_mark(text: &str, mark: char) -> Option<&str>
     text.strip_prefix(mark)
 }
 
-/// What follows a word, where it stands in front.
+/// What follows `word`, if the string begins with it.
 pub(crate) fn after_word<'a>(text: &'a str, word: &str) -> Option<&'a str>
     ensures { option_map (λ rest. rest.now) result ≡ after_bytes word.now text.now }
 {
     text.strip_prefix(word)
 }
 
-/// What stands before the first such ASCII character, and what stands after it.
+/// What precedes and what follows the first ASCII character `mark`, if the string has one.
 pub(crate) fn cut_at_mark(text: &str, mark: char) -> Option<(&str, &str)>
     requires { mark < 128 }
     ensures { option_map (λ parts. (parts.0.now, parts.1.now)) result ≡ cut_at mark text.now }
@@ -31,7 +31,8 @@ pub(crate) fn cut_at_mark(text: &str, mark: char) -> Option<(&str, &str)>
     text.split_once(mark)
 }
 
-/// The part in front, each pair of such ASCII characters in the text as one in the part, and what follows the single one that ends it.
+/// The part that the string begins with, unescaped, and what follows the ASCII character `mark` that ends the part. In the part each `mark`
+/// is doubled, so a single one ends it. `None` if no single `mark` ends the part.
 pub(crate) fn ended_in(
     alloc: Global,
     text: &str,
@@ -59,21 +60,21 @@ fn is_simple_byte(b: u8) -> bool
     b.is_ascii_alphanumeric() || matches!(b, b'_' | b'+' | b'-' | b'$')
 }
 
-/// Whether all bytes are simple.
+/// Whether all bytes are identifier characters (scip.proto): letters, digits and `_+-$`.
 pub(crate) fn is_simple_text(text: &str) -> bool
     ensures { result ≡ are_simple text.now }
 {
     text.as_bytes().iter().all(|b| is_simple_byte(*b))
 }
 
-/// How many simple bytes stand in front.
+/// The number of identifier characters that the bytes begin with.
 fn simple_len(bytes: &[u8]) -> usize
     ensures { result ≡ prefix_len is_simple bytes.now }
 {
     bytes.iter().take_while(|b| is_simple_byte(**b)).count()
 }
 
-/// The simple bytes in front, and what follows them.
+/// The identifier characters that the string begins with, and what follows them.
 pub(crate) fn simple_in(text: &str) -> (&str, &str)
     ensures { (result.0.now, result.1.now) ≡ simple_front text.now }
 {

@@ -1,12 +1,12 @@
-//! The steps of a symbol's path.
+//! The descriptors of symbols.
 ghost use Rattle.std.specs.Prelude.{◌≡◌, ◌≢◌, []};
 ghost use Rattle.std.specs.String.{string_bytes};
 ghost use Rattle.scip_symbol.specs.declared.kind.DescriptorKind.TheVariants.{Method};
 
 use crate::DescriptorKind;
 
-/// One step of a symbol's path (scip.proto, `Descriptor`): what it names, its name, and of a method a disambiguator that tells it
-/// from others of its name. Whatever the type holds, only a method has a disambiguator that isn't empty.
+/// A descriptor (scip.proto, `Descriptor`): its kind, its name, and for a method a disambiguator, which distinguishes methods of one name.
+/// The type guarantees that only a method has a disambiguator that isn't empty.
 #[derive(PartialEq, Eq, Drop)]
 pub struct Descriptor {
     kind: DescriptorKind,
@@ -21,8 +21,9 @@ impl Descriptor {
     ghost use Rattle.scip_symbol.specs.declared.kind.DescriptorKind.TheVariants.{Method};
     ghost use Rattle.scip_symbol.specs.Views.{plain_descriptor};
 
-    /// A descriptor of this kind and name with no disambiguator, as `T#` of a type or `p().` of a method.
+    /// A descriptor of this kind and name without a disambiguator, as `T#` for a type or `p().` for a method. The name is unescaped.
     pub fn new(kind: DescriptorKind, name: String) -> Descriptor
+        // The result has this kind and name and an empty disambiguator.
         ensures { plain_descriptor result ≡ record { kind = kind; name = string_bytes name; disambiguator = [] } }
     {
         let disambiguator = String::new(*name.allocator());
@@ -33,8 +34,9 @@ impl Descriptor {
         }
     }
 
-    /// A method of this name with a disambiguator, as `p(+1).`; an empty one is none.
+    /// A method of this name with this disambiguator, as `p(+1).`; an empty disambiguator means none. The name is unescaped.
     pub fn method(name: String, disambiguator: String) -> Descriptor
+        // The result is a method with this name and this disambiguator.
         ensures { plain_descriptor result ≡ record { kind = Method; name = string_bytes name; disambiguator = string_bytes disambiguator } }
     {
         Descriptor {
@@ -44,23 +46,27 @@ impl Descriptor {
         }
     }
 
-    /// What the descriptor names.
+    /// The kind of the descriptor.
     pub fn kind(&self) -> DescriptorKind
+        // The result is the descriptor's kind.
         ensures { result ≡ (plain_descriptor self.now).kind }
     {
         self.kind
     }
 
-    /// The name, as it is and not as a text has it.
+    /// The name, unescaped.
     pub fn name(&self) -> &str
+        // The result is the descriptor's name.
         ensures { result.now ≡ (plain_descriptor self.now).name }
     {
         self.name.as_str()
     }
 
-    /// What tells a method from others of its name; empty for every other kind.
+    /// The disambiguator of a method; empty for every other kind.
     pub fn disambiguator(&self) -> &str
+        // The result is the descriptor's disambiguator.
         ensures value { result.now ≡ (plain_descriptor self.now).disambiguator }
+        // If the descriptor isn't a method, the result is empty.
         ensures of_method { (plain_descriptor self.now).kind ≢ Method → result.now ≡ [] }
     {
         self.disambiguator.as_str()

@@ -1,4 +1,4 @@
-//! Reading descriptors.
+//! The reader of descriptors. Offsets are in bytes from the start of the symbol string.
 ghost use Rattle.std.specs.Prelude.{◌≡◌, ◌≤◌, ◌<◌, length, option_map};
 ghost use Rattle.std.specs.String.{string_bytes};
 ghost use Rattle.scip_symbol.specs.Faults.{Accords, Tells};
@@ -10,7 +10,7 @@ use crate::name::name_in;
 use crate::{Descriptor, DescriptorKind, SymbolFault};
 use std::alloc::Global;
 
-/// A descriptor of a name and what closes it.
+/// Reads a name and the character that closes its descriptor. The opening character has been read.
 #[tactic(auto, unfolding(crate::specs::Reading::closed_at))]
 fn closed_in(
     alloc: Global,
@@ -27,7 +27,7 @@ fn closed_in(
     Ok((Descriptor::new(kind, name), rest))
 }
 
-/// A method of which the name and the `(` are read.
+/// Reads the rest of a method whose name and `(` have been read.
 #[tactic(auto, unfolding(crate::specs::Reading::method_at))]
 fn method_in(
     alloc: Global,
@@ -43,7 +43,7 @@ fn method_in(
     Ok((Descriptor::method(name, disambiguator), rest))
 }
 
-/// The kind that a byte behind a name tells.
+/// The kind of a descriptor with this byte after its name.
 fn kind_told(b: u8) -> Option<DescriptorKind>
     ensures { result ≡ kind_of b }
 {
@@ -57,7 +57,7 @@ fn kind_told(b: u8) -> Option<DescriptorKind>
     }
 }
 
-/// The kind that the byte in front tells, and what follows it.
+/// The kind of a descriptor with the first byte after its name, and what follows this byte.
 fn suffix_in(text: &str) -> Option<(DescriptorKind, &str)>
     ensures { option_map (λ x. (x.0, x.1.now)) result ≡ suffix_at text.now }
 {
@@ -67,7 +67,7 @@ fn suffix_in(text: &str) -> Option<(DescriptorKind, &str)>
     Some((kind, rest))
 }
 
-/// A descriptor that is told by the byte behind its name.
+/// Reads the one byte that ends a descriptor whose name has been read.
 #[tactic(auto, unfolding(crate::specs::Reading::told_at))]
 fn told_in(at: usize, name: String, text: &str) -> Result<(Descriptor, &str), SymbolFault>
     ensures { Accords (λ x. (plain_descriptor x.0, x.1.now)) result (told_at at (string_bytes name) text.now) }
@@ -76,7 +76,7 @@ fn told_in(at: usize, name: String, text: &str) -> Result<(Descriptor, &str), Sy
     Ok((Descriptor::new(kind, name), rest))
 }
 
-/// A descriptor of which the name is read.
+/// Reads the rest of a descriptor whose name has been read.
 #[tactic(auto, unfolding(crate::specs::Reading::suffixed_at))]
 fn suffixed_in(
     alloc: Global,
@@ -92,7 +92,7 @@ fn suffixed_in(
     }
 }
 
-/// A descriptor that begins with its name.
+/// Reads a descriptor that begins with its name.
 #[tactic(auto, unfolding(crate::specs::Reading::bare_at))]
 fn bare_in(alloc: Global, at: usize, text: &str) -> Result<(Descriptor, &str), SymbolFault>
     ensures { Accords (λ x. (plain_descriptor x.0, x.1.now)) result (bare_at at text.now) }
@@ -101,7 +101,7 @@ fn bare_in(alloc: Global, at: usize, text: &str) -> Result<(Descriptor, &str), S
     suffixed_in(alloc, at, name, rest)
 }
 
-/// The descriptor in front, which stands at this place, and what follows it.
+/// Reads the first descriptor, which begins at offset `at`. Returns it with what follows it.
 #[tactic(auto, unfolding(crate::specs::Reading::descriptor_at))]
 fn descriptor_in(alloc: Global, at: usize, text: &str) -> Result<(Descriptor, &str), SymbolFault>
     ensures { Accords (λ x. (plain_descriptor x.0, x.1.now)) result (descriptor_at at text.now) }
@@ -115,7 +115,7 @@ fn descriptor_in(alloc: Global, at: usize, text: &str) -> Result<(Descriptor, &s
     }
 }
 
-/// All descriptors of a text, which stands at the end of one of this length in bytes; or the fault of the first wrong one.
+/// Reads all descriptors of `text`, which is the end of a symbol string of `whole` bytes. Fails with the error of the first wrong one.
 pub(crate) fn descriptors_in(
     alloc: Global,
     whole: usize,

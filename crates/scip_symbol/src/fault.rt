@@ -1,16 +1,19 @@
-//! Why a symbol can't be written or a text can't be read.
+//! The errors of the reader and the writer.
 
 use std::alloc::{AllocError, AllocFailed};
 use thiserror::Error;
 
-/// The first fault of a symbol or of a text.
+/// The first error in a symbol string or in a symbol.
 #[derive(Clone, Copy, Debug, Error)]
 pub enum SymbolFault {
-    /// The text, the id or what stands behind the four parts is empty; or the symbol has an empty scheme, id or name, or no descriptor.
+    /// In a string: the string is empty, or the local id, or what follows the four parts. In a symbol: the scheme, the local id, a name or
+    /// the list of descriptors is empty.
     #[error("something is empty")]
     Empty,
-    /// In a text: where a descriptor should begin, or the first byte of an id that isn't simple, as an offset in bytes from 0.
-    /// In a symbol: the number of the first descriptor, from 0, whose disambiguator isn't simple, and 0 for an id that isn't.
+    /// In a string: the offset, in bytes from 0, of the first wrong descriptor, or of the first byte in a local id that isn't an identifier
+    /// character.
+    /// In a symbol: the index, from 0, of the first descriptor whose disambiguator has a byte that isn't an identifier character, or 0 if
+    /// the local id has one.
     #[error("the descriptor at {at} is wrong")]
     BadDescriptor { at: usize },
     /// The scheme begins with `local`, and the symbol isn't local.
@@ -19,11 +22,12 @@ pub enum SymbolFault {
     /// A name begins with a backtick that isn't closed.
     #[error("a backtick is open")]
     OpenQuote,
-    /// A growth of memory was refused.
+    /// An allocation failed.
     #[error("memory ran out")]
     Memory,
-    /// In a text: the first part that isn't ended, or 0 where a space stands in front. In a symbol: the first part that begins with
-    /// a space, or is `.` and not the scheme. The scheme is part 0, the manager 1, the package 2 and the version 3.
+    /// In a string: the number of the first part that no single space ends, or 0 if the string begins with a space.
+    /// In a symbol: the number of the first part that begins with a space, or is `.` and isn't the scheme.
+    /// The scheme is part 0, the manager 1, the package name 2 and the version 3.
     #[error("part {part} is wrong")]
     BadPart { part: usize },
 }

@@ -1,9 +1,9 @@
-//! What a descriptor names.
+//! The kinds of descriptors.
 
-/// What a descriptor names (scip.proto, `Descriptor.Suffix`).
+/// The kind of a descriptor (scip.proto, `Descriptor.Suffix`).
 #[derive(Clone, Copy, PartialEq, Eq)]
 pub enum DescriptorKind {
-    /// A module or another space of names: `name/`.
+    /// A module or another namespace: `name/`.
     Namespace,
     /// A type: `name#`.
     TypeName,
@@ -11,7 +11,7 @@ pub enum DescriptorKind {
     Term,
     /// A procedure: `name().`, or with a disambiguator `name(+1).`.
     Method,
-    /// What belongs to no other kind: `name:`.
+    /// Anything that has no other kind: `name:`.
     Meta,
     /// A macro: `name!`.
     Macro,

@@ -1,4 +1,4 @@
-//! Laws of symbols and their texts. Each function is a law: its body is empty, and its contract is proved.
+//! Laws of symbols and their strings, proved as contracts of functions with an empty body.
 ghost use Rattle.std.specs.Prelude.{◌≡◌, ◌<◌, ◌⊎◌, ℕ, List, Ok, Result, length};
 ghost use Rattle.scip_symbol.specs.declared.fault.SymbolFault.{SymbolFault};
 ghost use Rattle.scip_symbol.specs.declared.symbol.Symbol.{Symbol};
@@ -6,54 +6,67 @@ ghost use Rattle.scip_symbol.specs.SymbolTexts.{plain_text, PlainSymbol, SymbolT
 ghost use Rattle.scip_symbol.specs.Views.{plain_symbol};
 ghost use Rattle.scip_symbol.specs.Outcomes.{AreOfMethods, IsReadOutcome, IsWritable, IsWriteOutcome};
 
-/// At most one symbol has a text.
+/// At most one symbol has a given string.
 pub fn one_symbol()
+    // Two symbols that have one string are equal.
     ensures { (text : List ℕ) (s t : PlainSymbol) → SymbolText s text → SymbolText t text → s ≡ t }
 {}
 
-/// A symbol that has a text has its plain one, and every other of its texts is longer: by the backticks round simple names.
+/// A symbol that has a string has its plain string, and each of its other strings is longer, by the backticks around simple names.
 pub fn plain_text_is_shortest()
+    // If a symbol has a string, it has its plain string.
     ensures text { (s : PlainSymbol) (text : List ℕ) → SymbolText s text → SymbolText s (plain_text s) }
+    // Each string of a symbol is its plain string or is longer.
     ensures shortest { (s : PlainSymbol) (text : List ℕ) → SymbolText s text → (text ≡ plain_text s) ⊎ (length (plain_text s) < length text) }
 {}
 
-/// Two symbols that have texts have one plain text only where they are one symbol.
+/// Two different symbols that have strings have different plain strings.
 pub fn different_texts()
+    // If two symbols have their plain strings, and these are equal, the symbols are equal.
     ensures { (s t : PlainSymbol) → SymbolText s (plain_text s) → SymbolText t (plain_text t) → plain_text s ≡ plain_text t → s ≡ t }
 {}
 
-/// Every text answers something: a symbol, or a refusal.
+/// Every string has an outcome of reading: a symbol or an error.
 pub fn some_reading()
+    // Each list of bytes has an outcome of reading.
     ensures { (text : List ℕ) → (o : Result PlainSymbol SymbolFault) × IsReadOutcome text o }
 {}
 
-/// A text answers at most one thing: a symbol, or a refusal.
+/// A string has at most one outcome of reading: a symbol or an error.
 pub fn one_reading()
+    // Two outcomes of reading one string are equal.
     ensures { (text : List ℕ) (o p : Result PlainSymbol SymbolFault) → IsReadOutcome text o → IsReadOutcome text p → o ≡ p }
 {}
 
-/// Every symbol answers something: its plain text, or a refusal.
+/// Every symbol has an outcome of writing: its plain string or an error.
 pub fn some_writing()
+    // Each symbol has an outcome of writing.
     ensures { (s : Symbol) → (o : Result (List ℕ) SymbolFault) × IsWriteOutcome (plain_symbol s) o }
 {}
 
-/// A symbol answers at most one thing: its plain text, or a refusal. So a symbol that has a text isn't refused.
+/// A symbol has at most one outcome of writing: its plain string or an error. So a symbol that has a string isn't rejected.
 pub fn one_writing()
+    // Two outcomes of writing one symbol are equal.
     ensures { (s : PlainSymbol) (o p : Result (List ℕ) SymbolFault) → IsWriteOutcome s o → IsWriteOutcome s p → o ≡ p }
 {}
 
-/// What is written: a symbol in which nothing is refused answers its plain text, and only such a symbol does. So where a caller
-/// knows that nothing is refused, `write` answers the text, unless memory runs out. The type of descriptors keeps that only those
-/// of methods have a disambiguator.
+/// A symbol without an error is written as its plain string, and no other symbol is written.
+/// So if a caller knows that a symbol has no error, `write` returns the string, unless memory runs out.
+/// The type of descriptors guarantees that only methods have a disambiguator.
 pub fn what_is_writable_is_written()
+    // If a symbol has no error, and only its methods have a disambiguator, the outcome of writing it is its plain string.
     ensures written { (s : PlainSymbol) → AreOfMethods s → IsWritable s → IsWriteOutcome s (Ok (plain_text s)) }
+    // In every symbol only methods have a disambiguator.
     ensures kept { (s : Symbol) → AreOfMethods (plain_symbol s) }
+    // If the outcome of writing a symbol is a string, the symbol has no error.
     ensures only { (s : PlainSymbol) (text : List ℕ) → IsWriteOutcome s (Ok text) → IsWritable s }
 {}
 
-/// How `write` and `read` meet: a text that is written answers the symbol that was written, and nothing else. So by its clause
-/// `only` `read` gives it back, unless memory runs out.
+/// The string that is written for a symbol is read as this symbol, and has no other outcome. So by its clause `only` `read` returns the
+/// symbol, unless memory runs out.
 pub fn what_is_written_is_read()
+    // If the outcome of writing a symbol is a string, the symbol is an outcome of reading the string.
     ensures some { (s : PlainSymbol) (text : List ℕ) → IsWriteOutcome s (Ok text) → IsReadOutcome text (Ok s) }
+    // If the outcome of writing a symbol is a string, each outcome of reading the string is the symbol.
     ensures only { (s : PlainSymbol) (text : List ℕ) (o : Result PlainSymbol SymbolFault) → IsWriteOutcome s (Ok text) → IsReadOutcome text o → o ≡ Ok s }
 {}

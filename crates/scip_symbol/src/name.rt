@@ -1,4 +1,4 @@
-//! Reading a name.
+//! The reader of names. Offsets are in bytes from the start of the symbol string.
 ghost use Rattle.std.specs.String.{string_bytes};
 ghost use Rattle.scip_symbol.specs.Faults.{Accords};
 ghost use Rattle.scip_symbol.specs.Reading.{name_in_front, quoted_name_at, simple_name_at};
@@ -7,7 +7,7 @@ use crate::SymbolFault;
 use crate::cuts::{after_mark, ended_in, simple_in};
 use std::alloc::Global;
 
-/// A name of simple bytes, if there is one.
+/// Reads a name that is a simple identifier. `at` is the offset of its descriptor.
 #[tactic(auto, unfolding(crate::specs::Reading::simple_name_at))]
 fn simple_name_in(alloc: Global, at: usize, text: &str) -> Result<(String, &str), SymbolFault>
     ensures { Accords (λ x. (string_bytes x.0, x.1.now)) result (simple_name_at at text.now) }
@@ -19,7 +19,7 @@ fn simple_name_in(alloc: Global, at: usize, text: &str) -> Result<(String, &str)
     Ok((String::from_str(alloc, name)?, rest))
 }
 
-/// A name whose first backtick is read.
+/// Reads the rest of an escaped name, whose first backtick has been read. `at` is the offset of its descriptor.
 #[tactic(auto, unfolding(crate::specs::Reading::quoted_name_at))]
 fn quoted_name_in(alloc: Global, at: usize, inside: &str) -> Result<(String, &str), SymbolFault>
     ensures { Accords (λ x. (string_bytes x.0, x.1.now)) result (quoted_name_at at inside.now) }
@@ -31,7 +31,8 @@ fn quoted_name_in(alloc: Global, at: usize, inside: &str) -> Result<(String, &st
     Ok((name, rest))
 }
 
-/// The name in front, simple or in backticks, and what follows it. The descriptor stands at this place.
+/// Reads the name that the string begins with, a simple identifier or one in backticks. Returns it unescaped, with what follows it. `at` is
+/// the offset of its descriptor.
 #[tactic(auto, unfolding(crate::specs::Reading::name_in_front))]
 pub(crate) fn name_in(alloc: Global, at: usize, text: &str) -> Result<(String, &str), SymbolFault>
     ensures { Accords (λ x. (string_bytes x.0, x.1.now)) result (name_in_front at text.now) }

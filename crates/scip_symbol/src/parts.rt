@@ -1,4 +1,4 @@
-//! Reading the four parts of a symbol.
+//! The reader of the four parts of a symbol: scheme, manager, package name and version.
 ghost use Rattle.std.specs.String.{string_bytes};
 ghost use Rattle.scip_symbol.specs.Faults.{Accords};
 ghost use Rattle.scip_symbol.specs.Reading.{optional_part_at, part_in_front, parts_at, plain_parts};
@@ -7,7 +7,7 @@ use crate::SymbolFault;
 use crate::cuts::ended_in;
 use std::alloc::Global;
 
-/// What stands before the descriptors.
+/// The four parts of a symbol, which precede its descriptors.
 #[derive(Drop)]
 pub(crate) struct Parts {
     pub(crate) scheme: String,
@@ -16,7 +16,7 @@ pub(crate) struct Parts {
     pub(crate) version: String,
 }
 
-/// The part in front, which has this number, and what follows it.
+/// Reads the part with this number, which the string begins with. Returns it unescaped, with what follows the space that ends it.
 #[tactic(auto, unfolding(crate::specs::Reading::part_in_front))]
 fn part_in(alloc: Global, part: usize, text: &str) -> Result<(String, &str), SymbolFault>
     ensures { Accords (λ x. (string_bytes x.0, x.1.now)) result (part_in_front part text.now) }
@@ -26,7 +26,8 @@ fn part_in(alloc: Global, part: usize, text: &str) -> Result<(String, &str), Sym
     Ok(ended)
 }
 
-/// The same of a part that may be empty, for which a full stop stands.
+/// Reads the part with this number, which may be empty, with `.` as placeholder. Returns it unescaped, with what follows the space that
+/// ends it.
 #[tactic(auto, unfolding(crate::specs::Reading::optional_part_at))]
 fn optional_part_in(alloc: Global, part: usize, text: &str) -> Result<(String, &str), SymbolFault>
     ensures { Accords (λ x. (string_bytes x.0, x.1.now)) result (optional_part_at part text.now) }
@@ -38,7 +39,7 @@ fn optional_part_in(alloc: Global, part: usize, text: &str) -> Result<(String, &
     Ok((shown, rest))
 }
 
-/// The four parts in front, and what follows them.
+/// Reads the four parts that the string begins with. Returns them with what follows them.
 #[tactic(auto, unfolding(crate::specs::Reading::parts_at))]
 pub(crate) fn parts_in(alloc: Global, text: &str) -> Result<(Parts, &str), SymbolFault>
     ensures { Accords (λ x. (plain_parts x.0, x.1.now)) result (parts_at text.now) }

@@ -1,4 +1,4 @@
-//! Reading a symbol.
+//! The reader of symbol strings.
 ghost use Rattle.std.specs.Prelude.{◌≡◌, ◌+◌, ◌<◌, ◌^◌, length, Result};
 ghost use Rattle.scip_symbol.specs.declared.fault.SymbolFault.{SymbolFault};
 ghost use Rattle.scip_symbol.specs.Faults.{Accords, Tells};
@@ -13,7 +13,7 @@ use crate::parts::parts_in;
 use crate::{Symbol, SymbolFault};
 use std::alloc::Global;
 
-/// The local symbol of this id, which stands behind six bytes.
+/// The local symbol with this id, which follows the six bytes of `local `.
 #[tactic(auto, unfolding(crate::specs::Reading::local_of))]
 fn local_in(alloc: Global, id: &str) -> Result<Symbol, SymbolFault>
     requires { 6 + length id.now < 2 ^ 64 }
@@ -30,7 +30,7 @@ fn local_in(alloc: Global, id: &str) -> Result<Symbol, SymbolFault>
     Ok(Symbol::Local(String::from_str(alloc, id)?))
 }
 
-/// The symbol of a text that begins with a part, and not as a local one.
+/// Reads a global symbol. The string isn't empty, and begins neither with a space nor with `local`.
 fn global_in(alloc: Global, text: &str) -> Result<Symbol, SymbolFault>
     requires part { IsPackagePart text.now }
     requires not_local { BeginsLocal text.now → ⊥ }
@@ -50,7 +50,7 @@ fn global_in(alloc: Global, text: &str) -> Result<Symbol, SymbolFault>
     })
 }
 
-/// The symbol of a text, or its first refusal.
+/// Reads a symbol. The contract of `read` follows from this one.
 fn read_any(alloc: Global, text: &str) -> Result<Symbol, SymbolFault>
     ensures { Tells plain_symbol result (IsReadOutcome text.now) }
 {
@@ -69,16 +69,21 @@ fn read_any(alloc: Global, text: &str) -> Result<Symbol, SymbolFault>
     global_in(alloc, text)
 }
 
-/// The symbol that has this text (scip.proto, the grammar of `Symbol`), or the first refusal; Memory where a growth was refused.
-/// In order: Empty for an empty text. Behind `local `, Empty for nothing, and BadDescriptor with the offset of the first byte that
-/// isn't simple. LocalScheme for any other text that begins with `local`. BadPart with 0 for one that begins with a space, and with
-/// the number of the first part that isn't ended by an odd run of spaces. Empty where nothing stands behind the four parts. Then
-/// the first wrong descriptor: OpenQuote where its name begins with a backtick that isn't closed, else BadDescriptor with the offset
-/// in bytes where it begins.
+/// Returns the symbol that has this string (scip.proto, the grammar of `Symbol`), or the first error. Offsets are in bytes from 0.
+/// An empty string fails with `Empty`.
+/// After `local `, the error is `Empty` if nothing follows, and `BadDescriptor` with the offset of the first byte that isn't an identifier
+/// character.
+/// Any other string that begins with `local` fails with `LocalScheme`.
+/// A string that begins with a space fails with `BadPart` and 0. If a part isn't ended by an odd number of spaces, the error is `BadPart`
+/// with the number of the first one.
+/// If nothing follows the four parts, the error is `Empty`.
+/// The first wrong descriptor fails with `OpenQuote` if its name begins with a backtick that isn't closed, and otherwise with
+/// `BadDescriptor` and its offset.
+/// Fails with `Memory` if an allocation fails.
 pub fn read(alloc: Global, text: &str) -> Result<Symbol, SymbolFault>
-    // It is the symbol that has the text, or what is refused in it.
+    // The result is the symbol that has the string, or the error of the string, or `Memory`.
     ensures exact { Tells plain_symbol result (IsReadOutcome text.now) }
-    // The symbol that has the text, or what is refused in it, is answered unless memory runs out.
+    // Each outcome of reading the string, a symbol or an error, is the result, unless the result is `Memory`.
     ensures only { (o : Result PlainSymbol SymbolFault) → IsReadOutcome text.now o → Tells plain_symbol result (λ p. p ≡ o) }
 {
     read_any(alloc, text)

@@ -2,22 +2,22 @@
 
 use crate::Descriptor;
 
-/// What a symbol text stands for (scip.proto, `Symbol`).
+/// The symbol that a symbol string denotes (scip.proto, `Symbol`).
 #[derive(PartialEq, Eq, Drop)]
 pub enum Symbol {
-    /// A symbol of one document, by its id.
+    /// A local symbol, which has a meaning in one document alone, by its id.
     Local(String),
-    /// A symbol of any document.
+    /// A global symbol, which has a meaning in all documents.
     Global {
-        /// Which indexer's names these are.
+        /// The scheme, which identifies the indexer that chose the names.
         scheme: String,
-        /// The package's manager; empty for none.
+        /// The package manager; empty for none.
         manager: String,
         /// The package's name; empty for none.
         package: String,
         /// The package's version; empty for none.
         version: String,
-        /// The path, outermost first.
+        /// The descriptors, outermost first.
         descriptors: Vec<Descriptor>,
     },
 }

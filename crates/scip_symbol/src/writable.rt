@@ -1,4 +1,4 @@
-//! What can't be written.
+//! The errors of symbols that can't be written.
 ghost use Rattle.std.specs.Prelude.{◌≡◌, ◌↔◌, ◌||◌, IfErr, IsTrue, OnOk};
 ghost use Rattle.std.specs.List.{list_any, position, position_from};
 ghost use Rattle.scip_symbol.specs.Views.{plain_descriptor, plain_descriptors, plain_symbol};
@@ -25,14 +25,14 @@ fn has_nameless(descriptors: &[Descriptor]) -> bool
     descriptors.iter().any(|d| has_no_name(d))
 }
 
-/// Whether there is no descriptor, or one without a name.
+/// Whether there is no descriptor, or one with an empty name.
 fn is_nameless(descriptors: &[Descriptor]) -> bool
     ensures { result ≡ (is_empty (plain_descriptors descriptors.now) || list_any (λ d. is_empty d.name) (plain_descriptors descriptors.now)) }
 {
     descriptors.is_empty() || has_nameless(descriptors)
 }
 
-/// Whether the scheme, the id, a name or the list of descriptors is empty.
+/// Whether the scheme, the local id, a name or the list of descriptors is empty.
 fn has_nothing(symbol: &Symbol) -> bool
     ensures { result ≡ has_empty (plain_symbol symbol.now) }
 {
@@ -113,7 +113,7 @@ fn first_wrong(descriptors: &[Descriptor]) -> Option<usize>
     place_of_wrong(descriptors)
 }
 
-/// The number of the first descriptor that can't be written; 0 for an id that can't.
+/// The index of the first descriptor that can't be written, or 0 for a local id that can't be written.
 fn wrong_descriptor(symbol: &Symbol) -> Option<usize>
     ensures { result ≡ wrong_descriptor_of (plain_symbol symbol.now) }
 {
@@ -124,7 +124,7 @@ fn wrong_descriptor(symbol: &Symbol) -> Option<usize>
     }
 }
 
-/// The first refusal of a symbol, or none.
+/// Fails with the first error of a symbol, if it has one.
 pub(crate) fn check(symbol: &Symbol) -> Result<(), SymbolFault>
     ensures refused { IfErr result (IsWriteRefusal (plain_symbol symbol.now)) }
     ensures fits { OnOk result (IsWritable (plain_symbol symbol.now)) }

@@ -1,4 +1,4 @@
-//! Writing a symbol.
+//! The writer of symbol strings.
 ghost use Rattle.std.specs.Prelude.{◌≡◌, ◌<◌, ◌++◌, [], IfOk, List, OnOk, Result, ℕ};
 ghost use Rattle.std.specs.List.{flat_map};
 ghost use Rattle.std.specs.String.{string_bytes};
@@ -14,7 +14,7 @@ use crate::writable::check;
 use crate::{Descriptor, DescriptorKind, Symbol, SymbolFault};
 use std::alloc::{AllocError, Global};
 
-/// Puts a text with each such ASCII character twice.
+/// Appends a string with each ASCII character `mark` doubled.
 fn push_doubled(out: &mut String, text: &str, mark: char) -> Result<(), AllocError>
     requires { mark < 128 }
     ensures { OnOk result (string_bytes out.new ≡ string_bytes out.old ++ doubled mark text.now) }
@@ -29,7 +29,7 @@ fn push_doubled(out: &mut String, text: &str, mark: char) -> Result<(), AllocErr
     out.push_str(rest)
 }
 
-/// Puts a name, in backticks only where it isn't simple.
+/// Appends a name, escaped with backticks if it isn't a simple identifier.
 fn push_name(out: &mut String, name: &str) -> Result<(), AllocError>
     ensures { OnOk result (string_bytes out.new ≡ string_bytes out.old ++ plain_name name.now) }
 {
@@ -41,7 +41,7 @@ fn push_name(out: &mut String, name: &str) -> Result<(), AllocError>
     out.push_str("`")
 }
 
-/// What stands before a name.
+/// What precedes a name in a descriptor of this kind.
 fn opening_of(kind: DescriptorKind) -> &'static str
     ensures { result.now ≡ before_name kind }
 {
@@ -57,7 +57,7 @@ fn opening_of(kind: DescriptorKind) -> &'static str
     }
 }
 
-/// Puts what stands behind a name.
+/// Appends what follows a name in a descriptor of this kind.
 fn push_closing(
     out: &mut String,
     kind: DescriptorKind,
@@ -99,7 +99,7 @@ fn push_descriptors(out: &mut String, descriptors: &[Descriptor]) -> Result<(), 
     Ok(())
 }
 
-/// Puts a part that isn't empty.
+/// Appends a part that isn't empty, with its spaces doubled, and a single space.
 fn push_part(out: &mut String, part: &str) -> Result<(), AllocError>
     ensures { OnOk result (string_bytes out.new ≡ string_bytes out.old ++ ended_part part.now) }
 {
@@ -107,7 +107,7 @@ fn push_part(out: &mut String, part: &str) -> Result<(), AllocError>
     out.push_str(" ")
 }
 
-/// Puts a part that may be empty.
+/// Appends a part, with `.` as placeholder for an empty one, and a single space.
 fn push_optional_part(out: &mut String, part: &str) -> Result<(), AllocError>
     ensures { OnOk result (string_bytes out.new ≡ string_bytes out.old ++ ended_part (part_shown part.now)) }
 {
@@ -118,8 +118,9 @@ fn push_optional_part(out: &mut String, part: &str) -> Result<(), AllocError>
     }
 }
 
-/// The four parts as a text has them, whatever they are: what stands before the descriptors of a symbol (scip.proto, the grammar
-/// of `Symbol`). AllocError is answered where a growth of memory is refused.
+/// Returns the four parts as they precede the descriptors in a symbol string (scip.proto, the grammar of `Symbol`). The parts aren't
+/// checked.
+/// Fails with `AllocError` if an allocation fails.
 pub fn write_parts(
     alloc: Global,
     scheme: &str,
@@ -127,6 +128,8 @@ pub fn write_parts(
     package_name: &str,
     version: &str,
 ) -> Result<String, AllocError>
+    // With `Ok` the string is exactly the four parts, each with its spaces doubled and a single space after it. `.` denotes an empty
+    // manager, package name or version.
     ensures { IfOk result (λ text. string_bytes text ≡ parts_text scheme.now manager.now package_name.now version.now) }
 {
     let mut out = String::new(alloc);
@@ -137,9 +140,11 @@ pub fn write_parts(
     Ok(out)
 }
 
-/// Puts a descriptor without a disambiguator, as `write` has it (scip.proto, the grammar of `Symbol`), so that the text of a symbol
-/// becomes that of one whose path is a step longer. AllocError is answered where a growth of memory is refused.
+/// Appends a descriptor without a disambiguator, as `write` writes it (scip.proto, the grammar of `Symbol`). So the string of a symbol
+/// becomes that of the symbol with one more descriptor.
+/// Fails with `AllocError` if an allocation fails.
 pub fn push_step(out: &mut String, kind: DescriptorKind, name: &str) -> Result<(), AllocError>
+    // With `Ok` the string has grown by the plain string of a descriptor of this kind and name, without a disambiguator.
     ensures { OnOk result (string_bytes out.new ≡ string_bytes out.old ++ plain_descriptor_text (record { kind = kind; name = name.now; disambiguator = [] })) }
 {
     out.push_str(opening_of(kind))?;
@@ -147,7 +152,7 @@ pub fn push_step(out: &mut String, kind: DescriptorKind, name: &str) -> Result<(
     push_closing(out, kind, "")
 }
 
-/// The text of a symbol, whatever it is.
+/// The plain string of a symbol, which isn't checked.
 fn text_of(alloc: Global, symbol: &Symbol) -> Result<String, AllocError>
     ensures { IfOk result (λ text. string_bytes text ≡ plain_text (plain_symbol symbol.now)) }
 {
@@ -178,7 +183,7 @@ fn text_of(alloc: Global, symbol: &Symbol) -> Result<String, AllocError>
     }
 }
 
-/// The text of a symbol, or its first refusal.
+/// Writes a symbol. The contract of `write` follows from this one.
 fn write_any(alloc: Global, symbol: &Symbol) -> Result<String, SymbolFault>
     ensures { Tells string_bytes result (IsWriteOutcome (plain_symbol symbol.now)) }
 {
@@ -186,14 +191,18 @@ fn write_any(alloc: Global, symbol: &Symbol) -> Result<String, SymbolFault>
     Ok(text_of(alloc, symbol)?)
 }
 
-/// The one text of a symbol that has backticks only where they are needed (scip.proto, the grammar of `Symbol`), or the first refusal;
-/// Memory where a growth was refused. In order: Empty for an empty scheme, id, name or list of descriptors. LocalScheme for a scheme
-/// that begins with `local`. BadPart with the number of the first part that begins with a space, or is `.` and not the scheme.
-/// BadDescriptor with the number of the first descriptor whose disambiguator isn't simple, and with 0 for an id that isn't.
+/// Returns the plain string of a symbol (scip.proto, the grammar of `Symbol`), or the first error. In a plain string a name is escaped with
+/// backticks only if it isn't a simple identifier.
+/// An empty scheme, local id, name or list of descriptors fails with `Empty`.
+/// A scheme that begins with `local` fails with `LocalScheme`.
+/// A part that begins with a space, or is `.` and isn't the scheme, fails with `BadPart` and the number of the first one.
+/// A disambiguator with a byte that isn't an identifier character fails with `BadDescriptor` and the index of the first descriptor that has
+/// one. A local id that isn't a simple identifier fails with `BadDescriptor` and 0.
+/// Fails with `Memory` if an allocation fails.
 pub fn write(alloc: Global, symbol: &Symbol) -> Result<String, SymbolFault>
-    // It is the symbol's plain text, or what is refused in the symbol.
+    // The result is the symbol's plain string, or the error of the symbol, or `Memory`.
     ensures exact { Tells string_bytes result (IsWriteOutcome (plain_symbol symbol.now)) }
-    // The plain text, or what is refused, is answered unless memory runs out.
+    // Each outcome of writing the symbol, its plain string or an error, is the result, unless the result is `Memory`.
     ensures only { (o : Result (List ℕ) SymbolFault) → IsWriteOutcome (plain_symbol symbol.now) o → Tells string_bytes result (λ p. p ≡ o) }
 {
     write_any(alloc, symbol)
