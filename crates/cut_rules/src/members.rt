@@ -1,13 +1,11 @@
 //! The modules of a name: of a module itself, or of a set.
 ghost use Rattle.std.specs.Prelude.{◌≡◌, ◌↔◌, ◌⊎◌, ◌<◌, ◌≤◌, ℕ, AllPairs, Contains, IfOk, List, Some, length, true};
 ghost use Rattle.digraph.specs.Marks.{marked};
-ghost use Rattle.cut_rules.specs.Drafts.{HasPlace, InMarks, InSpans, IsAtPlace};
+ghost use Rattle.cut_rules.specs.Drafts.{HasMark, IsAtPlace, IsMember};
 ghost use Rattle.cut_rules.specs.Outcomes.{AreRulesOf};
 ghost use Rattle.cut_rules.specs.Judged.{IsNamed};
-ghost use Rattle.cut_rules.specs.Tables.{AreByName, AreByStart};
 ghost use Rattle.cut_rules.specs.declared.file.File.{File as TreeFile};
 
-use crate::table::{MarkedSet, Span};
 use crate::{File, Rules};
 use cut_net::Net;
 use std::alloc::{AllocError, Global};
@@ -33,66 +31,15 @@ fn mark(marks: &mut [bool], node: usize)
     }
 }
 
-/// Marks the modules of a span.
-fn mark_span(files: &[File<'_>], marks: &mut [bool], span: Span)
+/// Marks the modules at the marked indices among the files and, after these, all modules.
+fn mark_places(files: &[File<'_>], places: &[bool], marks: &mut [bool])
     ensures size { length marks.new ≡ length marks.old }
-    ensures marks { (m : ℕ) → m < length marks.old → (marked marks.new m ≡ true) ↔ ((marked marks.old m ≡ true) ⊎ HasPlace files.now span.from span.to m) }
+    ensures marks { (m : ℕ) → m < length marks.old → (marked marks.new m ≡ true) ↔ ((marked marks.old m ≡ true) ⊎ HasMark files.now places.now m) }
 {
-    for place in span.from..span.to {
-        mark(marks, module_at(files, place));
-    }
-}
-
-/// Marks the modules of the spans of a set.
-fn mark_spans(files: &[File<'_>], spans: &[Span], marks: &mut [bool], name: usize)
-    requires by_name { AreByName spans.now }
-    requires by_start { AreByStart spans.now }
-    ensures size { length marks.new ≡ length marks.old }
-    ensures marks { (m : ℕ) → m < length marks.old → (marked marks.new m ≡ true) ↔ ((marked marks.old m ≡ true) ⊎ InSpans files.now spans.now name m) }
-{
-    let start = spans.partition_point(|span| span.name < name);
-    let mut covered = 0;
-    for at in start..spans.len() {
-        if spans[at].name != name {
-            return;
+    for place in 0..places.len() {
+        if places[place] {
+            mark(marks, module_at(files, place));
         }
-        // Spans overlap if folders are nested: each place is marked once.
-        let to = spans[at].to;
-        let from = spans[at].from.max(covered);
-        mark_span(files, marks, Span { name, from, to });
-        covered = covered.max(to);
-    }
-}
-
-/// Marks the modules that have a mark in the other list.
-pub(crate) fn unite(marks: &mut [bool], others: &[bool])
-    ensures size { length marks.new ≡ length marks.old }
-    ensures marks { (m : ℕ) → m < length marks.old → (marked marks.new m ≡ true) ↔ ((marked marks.old m ≡ true) ⊎ (marked others.now m ≡ true)) }
-{
-    for node in 0..others.len() {
-        if others[node] {
-            mark(marks, node);
-        }
-    }
-}
-
-/// Marks the modules of an entry, if it is of this set.
-fn mark_entry(entry: &MarkedSet, marks: &mut [bool], name: usize)
-    ensures size { length marks.new ≡ length marks.old }
-    ensures marks { (m : ℕ) → m < length marks.old → (marked marks.new m ≡ true) ↔ ((marked marks.old m ≡ true) ⊎ ((entry.now.name ≡ name) × (marked entry.now.marks.items m ≡ true))) }
-{
-    if entry.name == name {
-        unite(marks, entry.marks.as_slice());
-    }
-}
-
-/// Marks the marked modules of a set.
-fn mark_marked(entries: &[MarkedSet], marks: &mut [bool], name: usize)
-    ensures size { length marks.new ≡ length marks.old }
-    ensures marks { (m : ℕ) → m < length marks.old → (marked marks.new m ≡ true) ↔ ((marked marks.old m ≡ true) ⊎ InMarks entries.now name m) }
-{
-    for place in 0..entries.len() {
-        mark_entry(&entries[place], marks, name);
     }
 }
 
@@ -112,6 +59,21 @@ fn marked_nodes(alloc: Global, marks: &[bool]) -> Result<Vec<u32>, AllocError>
 }
 
 impl Rules<'_> {
+    /// Marks the modules in the set of this number, if a set has it.
+    fn mark_set(&self, marks: &mut [bool], name: usize)
+        ensures size { length marks.new ≡ length marks.old }
+        ensures marks { (m : ℕ) → m < length marks.old → (marked marks.new m ≡ true) ↔ ((marked marks.old m ≡ true) ⊎ IsMember self.now.files.now self.now.table name m) }
+    {
+        if name < self.table.modules {
+            return;
+        }
+        let place = name - self.table.modules;
+        if place >= self.table.sets.len() {
+            return;
+        }
+        mark_places(self.files, self.table.sets[place].marks.as_slice(), marks);
+    }
+
     /// The modules of the name of this number, sorted: the module itself, or those in the set.
     pub(crate) fn members_of(
         &self,
@@ -128,8 +90,7 @@ impl Rules<'_> {
         let mut marks = vec![in alloc; false; net.nodes() as usize]?;
         let marks = marks.as_mut_slice();
         mark(marks, name);
-        mark_spans(self.files, self.table.spans.as_slice(), marks, name);
-        mark_marked(self.table.marked.as_slice(), marks, name);
+        self.mark_set(marks, name);
         let members = marked_nodes(alloc, marks)?;
         Ok(members)
     }
