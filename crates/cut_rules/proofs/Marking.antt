@@ -1,5 +1,5 @@
 -- Marks of the modules of a name.
-use Rattle.std.proofs.Common.{◌≡◌, ℕ, zero, suc, replicate, ◌+◌, ◌<◌, ◌≤◌, ◌⊎◌, inl, inr, true, false, Bool, List, [], ◌∷◌, ◌++◌, length, get_or, Some, refl, sym, ap, ◌∙◌, subst, arith}
+use Rattle.std.proofs.Common.{◌≡◌, ℕ, zero, suc, replicate, ◌+◌, ◌<◌, ◌⊎◌, inl, inr, true, false, Bool, List, [], ◌∷◌, ◌++◌, length, get_or, Some, refl, sym, ap, ◌∙◌, subst, arith}
 use Rattle.std.specs.Prelude.{◌↔◌, AllPairs, Contains, slice_get}
 use Rattle.std.proofs.lemmas.Bool.{cases_eq, cases_lt}
 use Rattle.std.proofs.lemmas.List.{get_or_past}
@@ -11,7 +11,6 @@ use Rattle.cut_rules.specs.declared.table.MarkedSet.{MarkedSet}
 use Rattle.cut_rules.specs.declared.table.SetTable.{SetTable}
 use Rattle.cut_rules.specs.declared.file.File.{File}
 use Rattle.cut_rules.specs.Drafts.{HasMark, IsAtPlace, IsMember}
-use Rattle.cut_rules.proofs.Pieces.{get_low}
 
 pub marked_low : (marks : List Bool) (v : ℕ) → marked marks v ≡ true → v < length marks
 marked_low marks v e = elim (cases_lt v (length marks)) [
@@ -78,19 +77,6 @@ unmarked_next marks count nodes here (are, up) = (
     ],
   ),
   up,
-)
-
--- no mark, then that of the name, then those of its set
-pub name_marked : (nodes name : ℕ) (none first last : List Bool) (P : ℕ → Type 0) → length none ≡ nodes → ((m : ℕ) → marked none m ≡ false) → AreMarks none first (λ m. name ≡ m) → AreMarks first last P → (length last ≡ nodes) × ((m : ℕ) → m < nodes → (marked last m ≡ true) ↔ ((name ≡ m) ⊎ P m))
-name_marked nodes name none first last P size clear (long, own) (longer, others) = (
-  longer ∙ long ∙ size,
-  λ m small. (
-    λ e. elim ((others m (omega arith)).0 e) [
-      | inl was ↦ elim ((own m (omega arith)).0 was) [ inl before ↦ absurd (let f : true ≡ false = sym before ∙ clear m in cc) | inr is ↦ inl is ]
-      | inr p ↦ inr p
-    ],
-    λ either. (others m (omega arith)).1 (elim either [ inl is ↦ inl ((own m (omega arith)).1 (inr is)) | inr p ↦ inr p ]),
-  ),
 )
 
 pub no_marks : (n v : ℕ) → marked (replicate n false) v ≡ false

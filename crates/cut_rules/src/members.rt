@@ -1,10 +1,8 @@
 //! The modules of a name: of a module itself, or of a set.
-ghost use Rattle.std.specs.Prelude.{◌≡◌, ◌↔◌, ◌⊎◌, ◌<◌, ◌≤◌, ℕ, AllPairs, Contains, IfOk, List, Some, length, true};
+ghost use Rattle.std.specs.Prelude.{◌≡◌, ◌↔◌, ◌⊎◌, ◌<◌, ◌≤◌, ℕ, AllPairs, Contains, IfOk, List, Some, length, true, vec_len};
 ghost use Rattle.digraph.specs.Marks.{marked};
 ghost use Rattle.cut_rules.specs.Drafts.{HasMark, IsAtPlace, IsMember};
-ghost use Rattle.cut_rules.specs.Outcomes.{AreRulesOf};
 ghost use Rattle.cut_rules.specs.Judged.{IsNamed};
-ghost use Rattle.cut_rules.specs.declared.file.File.{File as TreeFile};
 
 use crate::{File, Rules};
 use cut_net::Net;
@@ -74,24 +72,44 @@ impl Rules<'_> {
         mark_places(self.files, self.table.sets[place].marks.as_slice(), marks);
     }
 
-    /// The modules of the name of this number, sorted: the module itself, or those in the set.
+    /// Marks the modules of the name of this number: the module itself, or those in the set.
+    fn mark_named(&self, marks: &mut [bool], name: usize)
+        ensures size { length marks.new ≡ length marks.old }
+        ensures marks { (m : ℕ) → m < length marks.old → (marked marks.new m ≡ true) ↔ ((marked marks.old m ≡ true) ⊎ IsNamed self.now name m) }
+    {
+        mark(marks, name);
+        self.mark_set(marks, name);
+    }
+
+    /// Per module whether it has the name of this number.
+    pub(crate) fn marks(
+        &self,
+        alloc: Global,
+        net: &Net,
+        name: usize,
+    ) -> Result<Vec<bool>, AllocError>
+        ensures size { IfOk result (λ marks. vec_len marks ≡ length net.now.names) }
+        ensures are { IfOk result (λ marks. (m : ℕ) → m < length net.now.names → (marked marks.items m ≡ true) ↔ IsNamed self.now name m) }
+    {
+        let mut marks = vec![in alloc; false; net.nodes() as usize]?;
+        self.mark_named(marks.as_mut_slice(), name);
+        Ok(marks)
+    }
+
+    /// The modules of the name of this number, sorted.
     pub(crate) fn members_of(
         &self,
         alloc: Global,
         net: &Net,
         name: usize,
     ) -> Result<Vec<u32>, AllocError>
-        requires { (files : List TreeFile) × (pieces : List (List ℕ)) × AreRulesOf net.now files pieces self.now }
         ensures within { IfOk result (λ members. (m : ℕ) → Contains members.items m → m < length net.now.names) }
         ensures are { IfOk result (λ members. (m : ℕ) → m < length net.now.names → Contains members.items m ↔ IsNamed self.now name m) }
         ensures ascending { IfOk result (λ members. AllPairs (λ v w. v < w) members.items) }
     {
         net.keeps();
-        let mut marks = vec![in alloc; false; net.nodes() as usize]?;
-        let marks = marks.as_mut_slice();
-        mark(marks, name);
-        self.mark_set(marks, name);
-        let members = marked_nodes(alloc, marks)?;
+        let marks = self.marks(alloc, net, name)?;
+        let members = marked_nodes(alloc, marks.as_slice())?;
         Ok(members)
     }
 }
