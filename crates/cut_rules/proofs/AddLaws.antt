@@ -1,5 +1,5 @@
 -- A line that adds modules to a set.
-use Rattle.std.proofs.Common.{◌≡◌, ℕ, ◌+◌, ◌<◌, ◌≤◌, Bool, true, List, subst, arith}
+use Rattle.std.proofs.Common.{◌≡◌, ℕ, ◌+◌, ◌<◌, ◌≤◌, Bool, true, List, Option, subst, arith}
 use Rattle.cut_net.specs.Network.{Network}
 use Rattle.cut_rules.specs.declared.file.File.{File}
 use Rattle.cut_rules.specs.declared.table.SetTable.{SetTable}
@@ -13,8 +13,8 @@ use Rattle.cut_rules.proofs.Numbers.{has_number, is_name_of}
 module _ (net : Network) (files : List File) (sets pieces : List (List ℕ)) (count line : ℕ) (number : line ≡ count + 1) (old new : SetTable) (table : IsTable net files sets pieces count old)
     (s : List ℕ) (apart : IsModule net files pieces s → ⊥) where
   -- a line that adds at least one module, and no pattern too many
-  pub right : (name : ℕ) (selector : Selector) (any : Bool) → IsAddition net files old name selector any new → any ≡ true → new.patterns ≤ 4096 → (fault : LineFault) → IsWrong net files pieces line fault (Adds s selector) → ⊥
-  right name selector any is some few = adds_right net files pieces line s selector (λ x m own. is_name_of net x m own.0 own.1) (is.any_is.0 some) (λ pattern e. not_many pattern (subst (λ (t : Selector). new.patterns ≡ old.patterns + pattern_count t) e is.patterns)) apart
+  pub right : (place : Option ℕ) (selector : Selector) (any : Bool) → IsAddition net files old place selector any new → any ≡ true → new.patterns ≤ 4096 → (fault : LineFault) → IsWrong net files pieces line fault (Adds s selector) → ⊥
+  right place selector any is some few = adds_right net files pieces line s selector (λ x m own. is_name_of net x m own.0 own.1) (is.any_is.0 some) (λ pattern e. not_many pattern (subst (λ (t : Selector). new.patterns ≡ old.patterns + pattern_count t) e is.patterns)) apart
     where
       not_many : (pattern : List ℕ) → new.patterns ≡ old.patterns + 1 → AreManyBefore (HasPattern pieces) line → ⊥
       not_many pattern sum = let (lines, of, long) = table.patterns in few_before (HasPattern pieces) count lines of line number (omega arith)
@@ -24,13 +24,13 @@ module _ (net : Network) (files : List File) (sets pieces : List (List ℕ)) (co
   empty selector none = empty_wrong net files pieces line s selector (λ x is. let (m, low, e) = has_number net x is in (m, (low, e))) none
 
   -- a pattern too many
-  pub many : (name : ℕ) (selector : Selector) (any : Bool) → IsAddition net files old name selector any new → any ≡ true → 4096 < new.patterns
+  pub many : (place : Option ℕ) (selector : Selector) (any : Bool) → IsAddition net files old place selector any new → any ≡ true → 4096 < new.patterns
       → IsWrong net files pieces line TooMany (Adds s selector) × ((other : LineFault) → IsWrong net files pieces line other (Adds s selector) → rank TooMany ≤ rank other)
-  many name (Module m) any is some over = absurd (let sum = is.patterns in let few = table.few in omega arith)
-  many name (Folder path) any is some over = absurd (let sum = is.patterns in let few = table.few in omega arith)
-  many name (Named pattern) any is some over =
+  many place (Module m) any is some over = absurd (let sum = is.patterns in let few = table.few in omega arith)
+  many place (Folder path) any is some over = absurd (let sum = is.patterns in let few = table.few in omega arith)
+  many place (Named pattern) any is some over =
       let sum = is.patterns in
       let few = table.few in
       let (lines, of, long) = table.patterns in
       (many_before (HasPattern pieces) count lines of line number (omega arith) (omega arith), many_first net files pieces line s pattern apart (is.any_is.0 some))
-  many name Tree any is some over = absurd (let sum = is.patterns in let few = table.few in omega arith)
+  many place Tree any is some over = absurd (let sum = is.patterns in let few = table.few in omega arith)

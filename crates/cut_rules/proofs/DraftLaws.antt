@@ -1,6 +1,6 @@
 -- One line more.
-use Rattle.std.proofs.Common.{◌≡◌, ℕ, ◌+◌, ◌<◌, ◌≤◌, ◌⊎◌, inl, inr, true, false, Bool, List, [], ◌∷◌, ◌++◌, length, get_or, set, Some, Result, Err, sym, ap, ◌∙◌, subst, arith}
-use Rattle.std.specs.Prelude.{◌↔◌}
+use Rattle.std.proofs.Common.{◌≡◌, ℕ, ◌+◌, ◌<◌, ◌≤◌, ◌⊎◌, inl, inr, true, false, Bool, List, [], ◌∷◌, ◌++◌, length, get_or, set, Option, Some, None, Result, Err, refl, sym, ap, ◌∙◌, subst, arith}
+use Rattle.std.specs.Prelude.{◌↔◌, option_map}
 use Rattle.std.specs.BTreeSet.{BTreeSet}
 use Rattle.std.proofs.lemmas.Bool.{cases_eq}
 use Rattle.std.proofs.lemmas.List.{get_or-set_other, get_or-set_same, length-set, length_push}
@@ -22,10 +22,11 @@ use Rattle.cut_rules.specs.declared.table.SetTable.{SetTable}
 use Rattle.cut_rules.specs.RuleLines.{Selector, Module, Folder, Named, Tree, Adds, Restricts, Allow, Says}
 use Rattle.cut_rules.specs.Rules.{HasFault, HasPattern, IsStale, LacksImport, LineFault, Selects}
 use Rattle.cut_rules.specs.Faults.{IsRefusal, UnlessMemory}
-use Rattle.cut_rules.specs.Drafts.{number_of, pattern_count, AreAllowed, AreLinesOf, ArePairs, AreRules, AreStale, IsAddedWithin, IsAddition, IsDraft, IsLastSet, IsRuleOf, IsTable, Takes}
+use Rattle.cut_rules.specs.Names.{AreLinesOf}
+use Rattle.cut_rules.specs.Drafts.{number_of, pattern_count, AreAllowed, ArePairs, AreRules, AreStale, IsAddedWithin, IsAddition, IsDraft, IsRuleOf, IsSetPlace, IsTable, Takes}
 use Rattle.cut_rules.proofs.LineLaws.{says_one}
 use Rattle.cut_rules.proofs.LineLists.{lines_push, lines_same}
-use Rattle.cut_rules.proofs.Numbers.{number_once}
+use Rattle.cut_rules.proofs.Numbers.{number_behind, number_once, set_numbered}
 use Rattle.cut_rules.proofs.Pieces.{within_next}
 
 module _ (net : Network) (files : List File) (sets pieces : List (List ℕ)) (count : ℕ) where
@@ -56,6 +57,8 @@ module _ (net : Network) (files : List File) (sets pieces : List (List ℕ)) (co
         );
     patterns = let (lines, of, long) = is.patterns in (lines, lines_same (HasPattern pieces) count lines of (λ (s, pattern, says). none s (Named pattern) says), long);
     few = is.few;
+    modules = is.modules;
+    size = is.size;
     sized = is.sized;
   }
 
@@ -99,32 +102,43 @@ module _ (net : Network) (files : List File) (sets pieces : List (List ℕ)) (co
 
   -- ---- a line that adds modules to a set
 
-  pub table_added : (old new : SetTable) (s : List ℕ) (name : ℕ) (selector : Selector) (any : Bool) → Says pieces next (Adds s selector) → number_of net sets s ≡ Some name → IsAddition net files old name selector any new → new.patterns ≤ 4096
+  pub table_added : (old new : SetTable) (s : List ℕ) (place : Option ℕ) (selector : Selector) (any : Bool) → Says pieces next (Adds s selector) → IsSetPlace net sets s place → IsAddition net files old place selector any new → new.patterns ≤ 4096
       → IsTable net files sets pieces count old → IsTable net files sets pieces next new
-  table_added old new s name selector any says number is few table = record {
+  table_added old new s place selector any says (no_module, place_is) is few table = record {
     are = λ x k m low named.
         let more = added_next x m in
-        let added = is.added k m low in (
-          λ has. more.1 (elim (added.0 has) [
-            | inl was ↦ inl ((table.are x k m low named).0 was)
+        let was = table.are x k m low named in (
+          λ (t, number, has). more.1 (elim ((is.added t m low).0 has) [
+            | inl before ↦ inl (was.0 (t, number ∙ ap (λ (n : ℕ). n + t) is.modules, before))
             | inr (same, own) ↦
-                let e : s ≡ x = number_once net sets s x k (number ∙ ap (λ (n : ℕ). Some n) same) named in
+                let e : s ≡ x = number_once net sets s x k (set_numbered net sets s t no_module (place_is ∙ same) ∙ ap (λ (n : ℕ). Some n) (sym (number_is t number))) named in
                 inr (selector, subst (λ (t : List ℕ). Says pieces next (Adds t selector)) e says, own)
           ]),
-          λ within. added.1 (elim (more.0 within) [
-            | inl was ↦ inl ((table.are x k m low named).1 was)
+          λ within. elim (more.0 within) [
+            | inl before ↦ let (t, number, has) = was.1 before in (t, number ∙ ap (λ (n : ℕ). n + t) (sym is.modules), (is.added t m low).1 (inl has))
             | inr (other, also, own) ↦
                 let e = says_one pieces next (Adds x other) (Adds s selector) also says in
                 let set_is : x ≡ s = cc in
                 let selector_is : other ≡ selector = cc in
-                inr (some_is name k (sym number ∙ ap (number_of net sets) (sym set_is) ∙ named), subst (λ (t : Selector). Selects net files t m) selector_is own)
-          ]),
+                let numbered : option_map (λ t. length net.names + t) place ≡ Some k = ap (option_map (λ t. length net.names + t)) (sym place_is) ∙ sym (number_behind net sets s no_module) ∙ ap (number_of net sets) (sym set_is) ∙ named in
+                let (t, place_at, number) = placed place numbered in
+                (t, (let modules = table.modules in let same = is.modules in omega arith), (is.added t m low).1 (inr (place_at, subst (λ (u : Selector). Selects net files u m) selector_is own)))
+          ],
         );
     patterns = pattern_lines selector says is.patterns;
     few = few;
-    sized = is.sized;
+    modules = is.modules ∙ table.modules;
+    size = is.count ∙ table.size;
+    sized = is.sized _ table.sized;
   }
     where
+      number_is : {k : ℕ} (t : ℕ) → k ≡ new.modules + t → k ≡ length net.names + t
+      number_is t number = number ∙ ap (λ (n : ℕ). n + t) (is.modules ∙ table.modules)
+
+      placed : {k : ℕ} (o : Option ℕ) → option_map (λ t. length net.names + t) o ≡ Some k → (t : ℕ) × (o ≡ Some t) × (length net.names + t ≡ k)
+      placed {k} (Some t) e = (t, refl, some_is (length net.names + t) k e)
+      placed None e = absurd cc
+
       none_here : (t : Selector) → Says pieces next (Adds s t) → ((pattern : List ℕ) → t ≡ Named pattern → ⊥) → HasPattern pieces next → ⊥
       none_here t here apart (x, pattern, also) = let e = says_one pieces next (Adds s t) (Adds x (Named pattern)) here also in apart pattern cc
 
@@ -234,15 +248,14 @@ module _ (net : Network) (files : List File) (sets pieces : List (List ℕ)) (co
 
 module _ (net : Network) (files : List File) (sets pieces : List (List ℕ)) where
   pub made : (line n : ℕ) → line ≡ n → (draft : Draft) → ((l : ℕ) (fault : LineFault) → l ≤ line → HasFault net files pieces l fault → ⊥) → IsTable net files sets pieces n draft.table → AreRules net sets pieces n draft.rules.items
-      → AreAllowed net pieces n draft.allowed.items → AreStale net pieces n draft.stale.items → ArePairs draft.pairs (λ key. key.0.now) (λ key. key.1.now) pieces n → IsLastSet net sets draft.last_set → IsDraft net files sets pieces line draft
-  made line n e draft sound table rules allowed stale pairs last_set = record {
+      → AreAllowed net pieces n draft.allowed.items → AreStale net pieces n draft.stale.items → ArePairs draft.pairs (λ key. key.0.now) (λ key. key.1.now) pieces n → IsDraft net files sets pieces line draft
+  made line n e draft sound table rules allowed stale pairs = record {
     sound = sound;
     table = subst (λ (m : ℕ). IsTable net files sets pieces m draft.table) (sym e) table;
     rules = subst (λ (m : ℕ). AreRules net sets pieces m draft.rules.items) (sym e) rules;
     allowed = subst (λ (m : ℕ). AreAllowed net pieces m draft.allowed.items) (sym e) allowed;
     stale = subst (λ (m : ℕ). AreStale net pieces m draft.stale.items) (sym e) stale;
     pairs = subst (λ (m : ℕ). ArePairs draft.pairs (λ key. key.0.now) (λ key. key.1.now) pieces m) (sym e) pairs;
-    last_set = last_set;
   }
 
   pub refused : (line : ℕ) (fault : RulesFault) (result : Result (Unit {0}) RulesFault) (draft : Draft) → result ≡ Err fault → UnlessMemory fault (IsRefusal net files pieces fault) → Takes net files sets pieces line result draft

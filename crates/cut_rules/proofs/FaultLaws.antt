@@ -9,6 +9,7 @@ use Rattle.cut_rules.specs.declared.rule.RuleKind.{RuleKind}
 use Rattle.cut_rules.specs.RuleLines.{RuleLine, Selector, Module, Folder, Named, Tree, Adds, Restricts, Allow, IsIdle, IsPieceAt, Says, Spells}
 use Rattle.cut_rules.specs.LineReading.{is_idle, rule_line_of}
 use Rattle.cut_rules.specs.Rules.{LineFault, BadLine, SetIsModule, NoSuchModule, TwiceAllowed, EmptySet, TooMany, empty_fault, rank, AreManyBefore, HasFault, HasPattern, IsFirstUnknown, IsModule, IsNoLine, IsRule, IsUnknown, IsWrong, Selects}
+use Rattle.cut_rules.specs.Names.{IsKnown}
 use Rattle.cut_rules.specs.Drafts.{SelectsAny}
 use Rattle.cut_rules.specs.Faults.{cause_of, IsFirstFault, IsRefusal, UnlessMemory}
 use Rattle.cut_rules.proofs.LineLaws.{idle_is, idle_says, idle_takes, no_line, one_piece, says_one}
@@ -151,6 +152,13 @@ module _ (net : Network) (files : List File) (pieces : List (List ℕ)) where
   rule_right line kind x y first second few (NoSuchModule name) (inr (e, un, known)) = second un
   rule_right line kind x y first second few TooMany wrong = few wrong
   rule_right line kind x y first second few other wrong = wrong
+
+  pub unknown_name : (x : List ℕ) → (IsKnown net pieces x → ⊥) → IsUnknown net files pieces x
+  unknown_name x none = ((λ own. none (inl own)), (λ set. none (inr set)))
+
+  pub known_name : (x : List ℕ) → IsKnown net pieces x → IsUnknown net files pieces x → ⊥
+  known_name x (inl own) unknown = unknown.0 own
+  known_name x (inr set) unknown = unknown.1 set
 
   -- ---- an allowed import
 

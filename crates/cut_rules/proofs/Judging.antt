@@ -13,7 +13,7 @@ use Rattle.digraph.proofs.Members.{first_member, first_or_later, no_member}
 use Rattle.texts.proofs.FieldCuts.{some_is}
 use Rattle.cut_net.specs.declared.priced.Priced.{Priced}
 use Rattle.cut_net.specs.Lines.{edge_of}
-use Rattle.cut_net.specs.Network.{Network, index_of, name_of, none_there, texts, unpinned}
+use Rattle.cut_net.specs.Network.{Network, index_of, name_of, none_there, unpinned}
 use Rattle.cut_net.specs.WellFormed.{IsNetwork}
 use Rattle.cut_net.proofs.Places.{index_takes}
 use Rattle.cut_rules.specs.declared.file.File.{File}
@@ -22,10 +22,11 @@ use Rattle.cut_rules.specs.declared.rule.Rule.{Rule}
 use Rattle.cut_rules.specs.declared.rule.RuleKind.{RuleKind}
 use Rattle.cut_rules.specs.declared.rule.RuleKind.TheVariants as kinds
 use Rattle.cut_rules.specs.declared.rule_search.RuleSearch.{RuleSearch}
-use Rattle.cut_rules.specs.RuleLines.{Allow, Forbid, ForbidImport, May, Restricts, Says}
+use Rattle.cut_rules.specs.RuleLines.{Allow, May, Restricts, Says}
 use Rattle.cut_rules.specs.Rules.{Counts, IsIn}
 use Rattle.cut_rules.specs.Drafts.{number_by, number_of}
 use Rattle.cut_rules.specs.Judged.{IsBarredBy, IsCountedGraph, IsFirstRule, IsNamed, IsOutsider, IsRepeated, IsRuleSearch, IsSearchFor, IsTargetBy}
+use Rattle.cut_rules.specs.Names.{names_in}
 use Rattle.cut_rules.specs.Outcomes.{AreRulesOf}
 use Rattle.digraph.specs.ShortestPaths.{IsPathAround}
 use Rattle.cut_rules.specs.Verdicts.{ByForbid, ByForbidImport, ByMay, IsEntryPath, IsFirstMay, IsForbidden}
@@ -50,7 +51,7 @@ module _ (net : Network) (network : IsNetwork net) (files : List File) (pieces :
   nodes = length net.names
 
   abbrev sets : List (List ℕ)
-  sets = texts rules.sets.items
+  sets = names_in rules.names.sets.keys
 
   -- ---- imports that count
 

@@ -1,7 +1,6 @@
 pub mod LineLaws
 pub mod Pieces
 pub mod FolderLaws
-pub mod SpanOrder
 pub mod Numbers
 pub mod TableLaws
 pub mod Marking
@@ -11,6 +10,7 @@ pub mod PairLaws
 pub mod DraftLaws
 pub mod AddLaws
 pub mod TextLaws
+pub mod NameLaws
 pub mod MemberLaws
 pub mod Fronts
 pub mod Violations

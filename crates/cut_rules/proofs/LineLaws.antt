@@ -1,6 +1,6 @@
 -- A line that is read is the one that is spelled.
-use Rattle.std.proofs.Common.{◌≡◌, ℕ, suc, ◌+◌, ◌<◌, ◌≤◌, inl, inr, true, false, Bool, not, eqb, List, [], ◌∷◌, ◌++◌, length, take, drop, get_or, Some, None, refl, sym, ap, ◌∙◌, subst, arith, codes, append_assoc, append-nil, add-one, drop-cons}
-use Rattle.std.specs.Prelude.{slice_get, unwrap_or}
+use Rattle.std.proofs.Common.{◌≡◌, ℕ, suc, ◌+◌, ◌<◌, ◌≤◌, inl, inr, true, false, Bool, not, eqb, List, [], ◌∷◌, ◌++◌, length, take, drop, get_or, Option, Some, None, refl, sym, ap, ◌∙◌, subst, arith, codes, append_assoc, append-nil, add-one, drop-cons}
+use Rattle.std.specs.Prelude.{slice_get, unwrap_or, option_and_then, option_map}
 use Rattle.std.specs.Char.{is_ascii_alphanumeric}
 use Rattle.std.specs.List.{list_all, position, position_or_len}
 use Rattle.std.specs.Str.{bytes_eq, is_utf8, IsUtf8}
@@ -18,8 +18,8 @@ use Rattle.texts.proofs.FieldNames.{named_takes, named_again, name_without}
 use Rattle.cut_net.proofs.NetLines.{map_some}
 use Rattle.cut_rules.specs.declared.rule.RuleKind.{RuleKind}
 use Rattle.cut_rules.specs.declared.rule.RuleKind.TheVariants as kinds
-use Rattle.cut_rules.specs.RuleLines.{RuleLine, Module, Folder, Named, Tree, Adds, Restricts, Allow, rule_line, is_blank, keyword, EndsRule, IsComment, IsIdle, IsPieceAt, IsRuleLine, MayFollow, Says, Spells}
-use Rattle.cut_rules.specs.LineReading.{is_comment, is_idle, kind_of, last_name_of, line_after, line_of_fields, line_of_names, rule_line_of, text_of}
+use Rattle.cut_rules.specs.RuleLines.{RuleLine, Selector, Module, Folder, Named, Tree, Adds, Restricts, Allow, rule_line, is_blank, keyword, EndsRule, IsComment, IsIdle, IsPieceAt, IsRuleLine, MayFollow, Says, Spells}
+use Rattle.cut_rules.specs.LineReading.{is_comment, is_idle, kind_of, last_name_of, line_after, line_of_fields, line_of_names, names_of_rule, rule_line_of, rule_of, set_in, set_of, text_of}
 
 -- ---- comments
 
@@ -272,6 +272,89 @@ line_again piece l s = ap rule_line_of s.whole ∙ line_again_of l s.comment s.f
 -- the bytes spell one line
 pub line_once : (piece : List ℕ) (l k : RuleLine) → Spells piece l → Spells piece k → l ≡ k
 line_once piece l k a b = some_is l k (sym (line_again piece l a) ∙ line_again piece k b)
+
+-- the field of the name of a line that adds modules to a set
+name_stops : (name : List ℕ) (b : ℕ) (text : List ℕ) → list_all (λ c. not (is_blank c)) name ≡ true → is_blank b ≡ true → position_or_len is_blank (name ++ b ∷ text) ≡ length name
+name_stops [] b text e blank = rw blank refl
+name_stops (c ∷ name) b text e blank =
+    let p = and_parts (not (is_blank c)) (list_all (λ d. not (is_blank d)) name) e in
+    let rest = name_stops name b text p.1 blank in
+    rw p.0 (omega arith)
+
+named_field : (name rest : List ℕ) → position_or_len is_blank (name ++ rest) ≡ length name → take (position_or_len is_blank (name ++ rest)) (name ++ rest) ≡ name
+named_field name rest e = rw e (take-append_seam name rest)
+
+abbrev HasField : List ℕ → List ℕ → Type 0
+HasField piece s = (parts : List ℕ × List ℕ) × (cut_at 32 piece ≡ Some parts) × (take (position_or_len is_blank parts.1) parts.1 ≡ s)
+
+field_of : (s : List ℕ) (selector : Selector) (comment : List ℕ) → IsRuleLine (Adds s selector) → MayFollow (Adds s selector) comment → HasField (rule_line (Adds s selector) ++ comment) s
+field_of s (Module m) comment h ends =
+    ((codes "set", s ++ 32 ∷ (m ++ comment)), rw (append_assoc s (32 ∷ m) comment) (cut_again 32 (codes "set") (s ++ 32 ∷ (m ++ comment)) refl), named_field s (32 ∷ (m ++ comment)) (name_stops s 32 (m ++ comment) (name_sharp s h.0) refl))
+field_of s (Folder path) comment h ends =
+    ((codes "folder", s ++ 32 ∷ (path ++ comment)), rw (append_assoc s (32 ∷ path) comment) (cut_again 32 (codes "folder") (s ++ 32 ∷ (path ++ comment)) refl), named_field s (32 ∷ (path ++ comment)) (name_stops s 32 (path ++ comment) (name_sharp s h.0) refl))
+field_of s (Named pattern) comment h ends =
+    ((codes "named", s ++ 32 ∷ (pattern ++ comment)), rw (append_assoc s (32 ∷ pattern) comment) (cut_again 32 (codes "named") (s ++ 32 ∷ (pattern ++ comment)) refl), named_field s (32 ∷ (pattern ++ comment)) (name_stops s 32 (pattern ++ comment) (name_sharp s h.0) refl))
+field_of s Tree comment h ends = ((codes "tree", s ++ comment), cut_again 32 (codes "tree") (s ++ comment) refl, named_field s comment (name_ends s comment (name_sharp s h) ends))
+
+pub set_field_is : (piece s : List ℕ) → set_of piece ≡ Some s → HasField piece s
+unfolding set_of
+set_field_is piece s e = option_and_then_some set_in (rule_line_of piece) s e (λ l h e. by l (line_takes piece l h) e)
+  where
+    by : (l : RuleLine) → Spells piece l → set_in l ≡ Some s → HasField piece s
+    by (Adds t selector) spelled e = subst (HasField piece) (some_is t s e) (subst (λ (p : List ℕ). HasField p t) (sym spelled.whole) (field_of t selector spelled.comment spelled.form spelled.follows))
+    by (Restricts kind x y) spelled e = absurd cc
+    by (Allow m n) spelled e = absurd cc
+
+-- how the names of a rule are read
+pub rule_by : (piece word fields : List ℕ) → cut_at 32 piece ≡ Some (word, fields) → rule_of piece ≡ option_and_then names_of_rule (line_of_fields word fields)
+unfolding rule_of rule_line_of
+rule_by piece word fields e = ap (λ (o : Option (List ℕ × List ℕ)). option_and_then names_of_rule (option_and_then (λ parts. line_of_fields parts.0 parts.1) o)) e
+
+-- a line without a rule's keyword is no rule
+pub no_kind : (word fields : List ℕ) → kind_of word ≡ None → option_and_then names_of_rule (line_of_fields word fields) ≡ None
+unfolding line_of_fields line_after
+no_kind word fields none = elim (cases_Bool (bytes_eq word (codes "tree"))) [
+  | inl is ↦ rw is (no_name (last_name_of fields))
+  | inr a ↦ rw a (parts_none (cut_at 32 fields))
+]
+  where
+    no_name : (o : Option (List ℕ)) → option_and_then names_of_rule (option_map (λ s. Adds s Tree) o) ≡ None
+    no_name (Some s) = refl
+    no_name None = refl
+
+    no_path : (f : List ℕ → RuleLine) → ((t : List ℕ) → names_of_rule (f t) ≡ None) → (o : Option (List ℕ)) → option_and_then names_of_rule (option_map f o) ≡ None
+    no_path f same (Some t) = same t
+    no_path f same None = refl
+
+    names_none : (x y : List ℕ) → option_and_then names_of_rule (line_of_names word x y) ≡ None
+    names_none x y = elim (cases_Bool (bytes_eq word (codes "set"))) [
+      | inl is ↦ rw is refl
+      | inr a ↦ elim (cases_Bool (bytes_eq word (codes "allow"))) [
+        | inl is ↦ rw (a, is) refl
+        | inr b ↦ rw (a, b, none) refl
+      ]
+    ]
+
+    second_none : (x : List ℕ) (o : Option (List ℕ)) → option_and_then names_of_rule (option_and_then (λ y. line_of_names word x y) o) ≡ None
+    second_none x (Some y) = names_none x y
+    second_none x None = refl
+
+    after_none : (last x : List ℕ) → option_and_then names_of_rule (line_after word x last) ≡ None
+    after_none last x = elim (cases_Bool (bytes_eq word (codes "folder"))) [
+      | inl is ↦ rw is (no_path (λ path. Adds x (Folder path)) (λ t. refl) (text_of last))
+      | inr a ↦ elim (cases_Bool (bytes_eq word (codes "named"))) [
+        | inl is ↦ rw (a, is) (no_path (λ pattern. Adds x (Named pattern)) (λ t. refl) (text_of last))
+        | inr b ↦ rw (a, b) (second_none x (last_name_of last))
+      ]
+    ]
+
+    first_none : (last : List ℕ) (o : Option (List ℕ)) → option_and_then names_of_rule (option_and_then (λ x. line_after word x last) o) ≡ None
+    first_none last (Some x) = after_none last x
+    first_none last None = refl
+
+    parts_none : (o : Option (List ℕ × List ℕ)) → option_and_then names_of_rule (option_and_then (λ parts. option_and_then (λ x. line_after word x parts.1) (named parts.0)) o) ≡ None
+    parts_none (Some parts) = first_none parts.1 (named parts.0)
+    parts_none None = refl
 
 -- what isn't read is no line
 pub no_line : (piece : List ℕ) → rule_line_of piece ≡ None → (l : RuleLine) → Spells piece l → ⊥

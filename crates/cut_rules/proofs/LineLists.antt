@@ -13,7 +13,8 @@ use Rattle.digraph.proofs.Members.{from_map, in_map, no_member}
 use Rattle.cut_net.specs.Network.{Network}
 use Rattle.cut_rules.specs.declared.rule.Rule.{Rule}
 use Rattle.cut_rules.specs.RuleLines.{Restricts, Says}
-use Rattle.cut_rules.specs.Drafts.{AreLinesOf, AreRules}
+use Rattle.cut_rules.specs.Drafts.{AreRules}
+use Rattle.cut_rules.specs.Names.{AreFewBefore, AreLinesOf}
 use Rattle.cut_rules.specs.Rules.{AreManyBefore, IsRule}
 
 pub no_lines : (P : ℕ → Type 0) → ((l : ℕ) → P l → 0 < l) → AreLinesOf P 0 []
@@ -22,6 +23,15 @@ no_lines P low = record {
   all = λ l le p. absurd (let lt = low l p in omega arith);
   ascending = λ i j d lt l. absurd (omega arith);
 }
+
+eqb_apart : (a b : ℕ) → a < b → nat_eq a b ≡ false
+eqb_apart a b less = false_from_ne_true _ (λ e. let same = eqb-true a b e in omega arith)
+
+-- a list of ascending numbers of which each is in another one is no longer
+no_longer : (xs ys : List ℕ) → AllPairs (λ i j. i < j) xs → ((n : ℕ) → Contains xs n → Contains ys n) → length xs ≤ length ys
+no_longer xs ys up each =
+    length-le_from_is_member nat_eq_equiv xs ys (IsDistinct-from_apart nat_eq xs (λ i j d lt l. let less = up i j d lt l in eqb_apart (get_or xs i d) (get_or xs j d) less))
+    (λ q has. (is_member-Decides Decides-eqb ys q).1 (each q ((is_member-Decides Decides-eqb xs q).0 has)))
 
 module _ (P : ℕ → Type 0) (count : ℕ) (lines : List ℕ) (are : AreLinesOf P count lines) where
   pub lines_push : P (count + 1) → AreLinesOf P (count + 1) (lines ++ (count + 1) ∷ [])
@@ -62,15 +72,6 @@ module _ (P : ℕ → Type 0) (count : ℕ) (lines : List ℕ) (are : AreLinesOf
       let le = no_longer m.lines lines m.ascending (λ l has. let own = m.each l has in let less = own.0 in are.all l (omega arith) own.1) in
       let size = m.many in
       omega arith
-    where
-      eqb_apart : (a b : ℕ) → a < b → nat_eq a b ≡ false
-      eqb_apart a b less = false_from_ne_true _ (λ e. let same = eqb-true a b e in omega arith)
-
-      -- a list of ascending numbers of which each is in another one is no longer
-      no_longer : (xs ys : List ℕ) → AllPairs (λ i j. i < j) xs → ((n : ℕ) → Contains xs n → Contains ys n) → length xs ≤ length ys
-      no_longer xs ys up each =
-          length-le_from_is_member nat_eq_equiv xs ys (IsDistinct-from_apart nat_eq xs (λ i j d lt l. let less = up i j d lt l in eqb_apart (get_or xs i d) (get_or xs j d) less))
-          (λ q has. (is_member-Decides Decides-eqb ys q).1 (each q ((is_member-Decides Decides-eqb xs q).0 has)))
 
 -- the lines of rules
 pub rule_lines : (net : Network) (sets pieces : List (List ℕ)) (count : ℕ) (rules : List Rule) → AreRules net sets pieces count rules → AreLinesOf (IsRule pieces) count (map (λ (r : Rule). r.line) rules)
@@ -91,3 +92,22 @@ rule_lines net sets pieces count rules are = record {
     lines_ascend (r ∷ rs) up i j d lt l =
         let long = length-map (r ∷ rs) (λ (r : Rule). r.line) in
         rw (get_or-map (λ (r : Rule). r.line) (r ∷ rs) i r d (omega arith), get_or-map (λ (r : Rule). r.line) (r ∷ rs) j r d (omega arith)) (up i j r lt (omega arith))
+
+-- the rules before the line of the next one are few as long as the builder has few
+pub rules_few : (net : Network) (sets pieces : List (List ℕ)) (count line : ℕ) (rules : List Rule) → AreRules net sets pieces count rules → line ≡ count + 1 → AreFewBefore pieces line
+rules_few net sets pieces count line rules are number = record {
+  count = count;
+  number = number;
+  lines = map (λ (r : Rule). r.line) rules;
+  are = rule_lines net sets pieces count rules are;
+  few = (let long = length-map rules (λ (r : Rule). r.line) in let few = are.few in omega arith);
+}
+
+-- so many rules aren't few
+pub not_few : (pieces : List (List ℕ)) (count : ℕ) (lines : List ℕ) → AreLinesOf (IsRule pieces) count lines → 4096 < length lines → (line : ℕ) → line ≡ count + 1 → AreFewBefore pieces line → ⊥
+not_few pieces count lines are many line number few =
+    let e = few.number in
+    let same : few.count ≡ count = omega arith in
+    let le = no_longer lines few.lines are.ascending (λ l has. let own = are.each l has in few.are.all l (let low = own.0 in omega arith) own.1) in
+    let most = few.few in
+    omega arith

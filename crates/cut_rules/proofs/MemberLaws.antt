@@ -1,21 +1,22 @@
 -- The modules of a name.
 use Rattle.std.proofs.Common.{◌≡◌, ℕ, ◌<◌, ◌≤◌, ◌⊎◌, inl, inr, List, length, Some, sym, subst}
 use Rattle.std.specs.Prelude.{◌↔◌}
-use Rattle.cut_net.specs.Network.{Network, name_of, texts}
+use Rattle.cut_net.specs.Network.{Network, name_of}
 use Rattle.cut_net.specs.WellFormed.{IsNetwork}
 use Rattle.cut_rules.specs.declared.file.File.{File}
 use Rattle.cut_rules.specs.declared.reading.Rules.{Rules}
 use Rattle.cut_rules.specs.RuleLines.{Selector, Adds, Says}
 use Rattle.cut_rules.specs.Rules.{Added, IsIn, Itself, Selects}
 use Rattle.cut_rules.specs.Drafts.{number_of, IsMember}
+use Rattle.cut_rules.specs.Names.{names_in}
 use Rattle.cut_rules.specs.Outcomes.{AreRulesOf}
 use Rattle.cut_rules.proofs.Numbers.{own_number}
 use Rattle.cut_rules.proofs.Pieces.{says_low}
 
-pub members_are : (net : Network) → IsNetwork net → (files : List File) (pieces : List (List ℕ)) (r : Rules) → AreRulesOf net files pieces r → (x : List ℕ) (number m : ℕ) → number_of net (texts r.sets.items) x ≡ Some number → m < length net.names
+pub members_are : (net : Network) → IsNetwork net → (files : List File) (pieces : List (List ℕ)) (r : Rules) → AreRulesOf net files pieces r → (x : List ℕ) (number m : ℕ) → number_of net (names_in r.names.sets.keys) x ≡ Some number → m < length net.names
     → ((number ≡ m) ⊎ IsMember r.files.now r.table number m) ↔ IsIn net files pieces x m
 members_are net network files pieces r are x number m named low =
-    let own = own_number net network (texts r.sets.items) x number m low named in
+    let own = own_number net network (names_in r.names.sets.keys) x number m low named in
     let added = are.table.are x number m low named in (
       λ either. elim either [
         | inl same ↦ Itself (own.0 same)

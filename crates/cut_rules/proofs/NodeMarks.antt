@@ -66,11 +66,6 @@ mark_next nodes k d value old cur lt inside so_far v =
           ]
     ]
 
--- where none was marked the nodes are
-pub marked_all : (nodes : List ℕ) (old new : List Bool) (v : ℕ) → IsMarkSet nodes true old new v → marked old v ≡ false → (marked new v ≡ true) ↔ Contains nodes v
-marked_all nodes old new v (inl h) none = (λ e. h.0, λ has. h.1)
-marked_all nodes old new v (inr h) none = (λ e. absurd (let f : true ≡ false = sym e ∙ h.1 ∙ none in cc), λ has. absurd (h.0 has))
-
 -- the marks of the nodes are taken away
 pub unmarked : (nodes : List ℕ) (old new : List Bool) (v : ℕ) → IsMarkSet nodes false old new v → (marked new v ≡ true) ↔ ((marked old v ≡ true) × (Contains nodes v → ⊥))
 unmarked nodes old new v (inl h) = (λ e. absurd (let f : true ≡ false = sym e ∙ h.1 in cc), λ x. absurd (x.1 h.0))

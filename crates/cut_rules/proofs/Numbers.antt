@@ -1,20 +1,21 @@
 -- Numbers of names.
-use Rattle.std.proofs.Common.{◌≡◌, ℕ, ◌+◌, ◌<◌, inl, inr, true, false, Bool, List, [], length, get_or, Option, Some, None, refl, sym, ap, ◌∙◌, arith}
-use Rattle.std.specs.Prelude.{◌↔◌, Contains, String, is_some, option_map}
-use Rattle.std.specs.List.{position, position_or_len}
+use Rattle.std.proofs.Common.{◌≡◌, ℕ, ◌+◌, ◌<◌, inl, inr, true, false, not, Bool, List, [], length, get_or, Option, Some, None, refl, sym, ap, ◌∙◌, arith}
+use Rattle.std.specs.Prelude.{◌↔◌, Contains, IfSome, is_some, option_map}
+use Rattle.std.specs.List.{position_or_len}
 use Rattle.std.specs.Str.{bytes_eq}
-use Rattle.std.specs.String.{string_bytes}
 use Rattle.std.proofs.lemmas.Bool.{cases_lt, lt-ltb}
 use Rattle.std.proofs.lemmas.List.{get_or_default}
 use Rattle.std.proofs.lemmas.List.Sums.{fails_before_first}
 use Rattle.std.proofs.lemmas.Slice.Eq.{bytes_eq-Decides}
 use Rattle.texts.proofs.FieldCuts.{some_is}
-use Rattle.cut_net.specs.Network.{Network, index_of, name_of, texts, unpinned}
+use Rattle.digraph.specs.Marks.{marked}
+use Rattle.cut_net.specs.Network.{Network, index_of, name_of, unpinned}
 use Rattle.cut_net.specs.WellFormed.{IsNetwork}
 use Rattle.cut_net.proofs.Noting.{names_apart}
-use Rattle.cut_net.proofs.Places.{index_again, index_takes, position_named}
-use Rattle.cut_rules.specs.Drafts.{number_by, number_of, AreSets}
-use Rattle.cut_rules.specs.Rules.{IsSet}
+use Rattle.cut_net.proofs.Places.{index_again, index_takes}
+use Rattle.cut_rules.specs.declared.names.Names.{Names}
+use Rattle.cut_rules.specs.Names.{index_among, names_in, AreNames, IsKnown, IsNoted}
+use Rattle.cut_rules.specs.Drafts.{number_by, number_of}
 
 -- ---- names
 
@@ -38,6 +39,9 @@ pub some_there : (o : Option ℕ) → is_some o ≡ true → (i : ℕ) × (o ≡
 some_there (Some i) e = (i, refl)
 some_there None e = cc
 
+pub not_none : (o : Option ℕ) (none : Bool) → is_some o ≡ not none → none ≡ false → is_some o ≡ true
+not_none o none e some = e ∙ ap not some
+
 pub none_there_by : (o : Option ℕ) → is_some o ≡ false → o ≡ None
 none_there_by (Some i) e = cc
 none_there_by None e = refl
@@ -48,48 +52,59 @@ no_some None h = refl
 
 -- ---- numbers of names
 
-module _ {Z : Type 0} (net : Network) (sets : List (String Z)) (name : List ℕ) where
+module _ (net : Network) (sets : List (List ℕ)) (name : List ℕ) where
   abbrev place : Option ℕ
-  place = position (λ x. bytes_eq (string_bytes x) name) sets
+  place = index_of (unpinned sets []) name
 
-  pub number_behind : index_of net name ≡ None → number_of net (texts sets) name ≡ option_map (λ k. length net.names + k) place
-  number_behind none = ap (λ (o : Option ℕ). number_by (length net.names) o (index_of (unpinned (texts sets) []) name)) none ∙ ap (option_map (λ k. length net.names + k)) (position_named name sets)
+  pub number_behind : index_of net name ≡ None → number_of net sets name ≡ option_map (λ k. length net.names + k) place
+  number_behind none = ap (λ (o : Option ℕ). number_by (length net.names) o place) none
 
-  pub number_module : (i : ℕ) → index_of net name ≡ Some i → number_of net (texts sets) name ≡ Some i
-  number_module i e = ap (λ (o : Option ℕ). number_by (length net.names) o (index_of (unpinned (texts sets) []) name)) e
+  pub number_module : (i : ℕ) → index_of net name ≡ Some i → number_of net sets name ≡ Some i
+  number_module i e = ap (λ (o : Option ℕ). number_by (length net.names) o place) e
 
-  pub no_number : index_of net name ≡ None → place ≡ None → number_of net (texts sets) name ≡ None
-  no_number none missing = number_behind none ∙ ap (option_map (λ k. length net.names + k)) missing
-
-  pub set_numbered : (k : ℕ) → index_of net name ≡ None → place ≡ Some k → number_of net (texts sets) name ≡ Some (length net.names + k)
+  pub set_numbered : (k : ℕ) → index_of net name ≡ None → place ≡ Some k → number_of net sets name ≡ Some (length net.names + k)
   set_numbered k none there = number_behind none ∙ ap (option_map (λ k. length net.names + k)) there
 
   -- a set has a place
-  pub set_placed : Contains (texts sets) name → place ≡ None → ⊥
-  set_placed has missing = no_module (unpinned (texts sets) []) name (position_named name sets ∙ missing) has
+  pub set_placed : Contains sets name → place ≡ None → ⊥
+  set_placed has missing = no_module (unpinned sets []) name missing has
 
-  -- a name without a number is neither a module nor a set
-  pub unknown : (pieces : List (List ℕ)) → AreSets sets pieces → number_of net (texts sets) name ≡ None → (Contains net.names name → ⊥) × (IsSet pieces name → ⊥)
-  unknown pieces are none = by (index_of net name) refl
-    where
-      by : (o : Option ℕ) → index_of net name ≡ o → (Contains net.names name → ⊥) × (IsSet pieces name → ⊥)
-      by (Some i) e = absurd (let f : Some i ≡ None = sym (number_module i e) ∙ none in cc)
-      by None e = (no_module net name e, λ is. set_placed ((are name).1 is) (none_of place (sym (number_behind e) ∙ none)))
-        where
-          none_of : (o : Option ℕ) → option_map (λ k. length net.names + k) o ≡ None → o ≡ None
-          none_of (Some k) e = cc
-          none_of None e = refl
+-- the index of a set is that of one of as many
+pub within : {X : Type 0} (sets : List (List ℕ)) (name : List ℕ) (place : Option ℕ) (xs : List X) → index_of (unpinned sets []) name ≡ place → length xs ≡ length sets → IfSome place (λ s. s < length xs)
+within sets name (Some s) xs e long = let took = index_takes (unpinned sets []) name s e in omega arith
+within sets name None xs e long = tt
 
-  pub known_name : (pieces : List (List ℕ)) (k : ℕ) → AreSets sets pieces → number_of net (texts sets) name ≡ Some k → (Contains net.names name → ⊥) × (IsSet pieces name → ⊥) → ⊥
-  known_name pieces k are some (apart, none) = by (index_of net name) refl
+-- a name that is no module's has no number
+pub not_there : (net : Network) (name : List ℕ) → (Contains net.names name → ⊥) → index_of net name ≡ None
+not_there net name apart = by (index_of net name) refl
+  where
+    by : (o : Option ℕ) → index_of net name ≡ o → o ≡ None
+    by (Some i) e = absurd (apart (is_module net name i e))
+    by None e = refl
+
+-- ---- what rules name
+
+module _ (net : Network) (pieces : List (List ℕ)) (names : Names) (are : AreNames net pieces names) (name : List ℕ) where
+  -- a module's index among the names is its number
+  pub module_index : (o : Option ℕ) → o ≡ index_among names.modules.keys name → index_of net name ≡ o
+  module_index o e = ap (λ (ns : List (List ℕ)). index_of (unpinned ns []) name) (sym are.modules) ∙ sym e
+
+  pub set_apart : (k : ℕ) → index_among names.sets.keys name ≡ Some k → index_of net name ≡ None
+  set_apart k e = not_there net name (are.sets.apart name (is_module (unpinned (names_in names.sets.keys) []) name k e))
+
+  -- one with a mark is the name of a set
+  pub set_known : (k : ℕ) → index_among names.sets.keys name ≡ Some k → marked names.declared.items k ≡ true → IsKnown net pieces name
+  set_known k e is = inr ((are.declared.are name k e).0 is)
+
+  -- one without a mark isn't, if it was noted
+  pub unknown : index_of net name ≡ None → ((k : ℕ) → index_among names.sets.keys name ≡ Some k → marked names.declared.items k ≡ false) → IsNoted net names.sets.keys name → IsKnown net pieces name → ⊥
+  unknown none missing (inl here) known = no_module net name none here
+  unknown none missing (inr here) (inl own) = no_module net name none own
+  unknown none missing (inr here) (inr set) = by (index_among names.sets.keys name) refl
     where
-      by : (o : Option ℕ) → index_of net name ≡ o → ⊥
-      by (Some i) e = apart (is_module net name i e)
-      by None e = placed place refl
-        where
-          placed : (o : Option ℕ) → place ≡ o → ⊥
-          placed (Some i) f = none ((are name).0 (is_module (unpinned (texts sets) []) name i (position_named name sets ∙ f)))
-          placed None f = let g : Some k ≡ None = sym some ∙ no_number e f in cc
+      by : (o : Option ℕ) → index_among names.sets.keys name ≡ o → ⊥
+      by (Some k) e = let bad : true ≡ false = sym ((are.declared.are name k e).1 set) ∙ missing k e in cc
+      by None e = set_placed net (names_in names.sets.keys) name here e
 
 -- a number is that of one name
 pub number_once : (net : Network) (sets : List (List ℕ)) (x y : List ℕ) (k : ℕ) → number_of net sets x ≡ Some k → number_of net sets y ≡ Some k → x ≡ y

@@ -1,6 +1,6 @@
 -- One line more.
-use Rattle.std.proofs.Common.{◌≡◌, ℕ, zero, suc, ◌+◌, ◌<◌, ◌≤◌, ◌⊎◌, inl, inr, List, [], ◌∷◌, length, Option, Some, None, refl, sym, ap, ◌∙◌, subst, arith}
-use Rattle.std.specs.Prelude.{◌↔◌, Contains, slice_get, option_map, option_and_then}
+use Rattle.std.proofs.Common.{◌≡◌, ℕ, zero, suc, ◌+◌, ◌<◌, ◌≤◌, ◌⊎◌, inl, inr, List, [], ◌∷◌, length, Some, refl, ap, subst, arith}
+use Rattle.std.specs.Prelude.{◌↔◌, slice_get, option_and_then}
 use Rattle.std.proofs.lemmas.Bool.{cases_eq}
 use Rattle.std.proofs.lemmas.Option.{option_and_then_some}
 use Rattle.texts.proofs.FieldCuts.{some_is}
@@ -66,42 +66,6 @@ module _ (pieces : List (List ℕ)) (count : ℕ) (piece : List ℕ) (at : IsPie
           | inr e ↦ let own = set_there s e in (count + 1, omega arith, own.0, own.1)
         ],
       )
-
-module _ (pieces : List (List ℕ)) (count : ℕ) (piece : List ℕ) (at : IsPieceAt pieces (count + 1) piece) (old : List (List ℕ)) where
-  -- the names so far, with the set of this line
-  pub one_more : (new : List (List ℕ)) (n : ℕ) (name : List ℕ) → n ≡ count + 1 → ((s : List ℕ) → Contains old s ↔ IsSetWithin pieces count s) → ((s : List ℕ) → Contains new s ↔ (Contains old s ⊎ (s ≡ name))) → set_of piece ≡ Some name
-      → (s : List ℕ) → Contains new s ↔ IsSetWithin pieces n s
-  one_more new n name next are is here s =
-      let more = sets_next pieces count piece at s in
-      rw next (
-        λ has. more.1 (elim ((is s).0 has) [
-          | inl was ↦ inl ((are s).0 was)
-          | inr same ↦ inr (here ∙ ap (λ (t : List ℕ). Some t) (sym same))
-        ]),
-        λ within. (is s).1 (elim (more.0 within) [
-          | inl was ↦ inl ((are s).1 was)
-          | inr e ↦ inr (sym (some_is name s (sym here ∙ e)))
-        ]),
-      )
-
-  pub none_more : {T : Type 0} (v : T → List ℕ) (n : ℕ) (o : Option T) → n ≡ count + 1 → ((s : List ℕ) → Contains old s ↔ IsSetWithin pieces count s) → option_map v o ≡ set_of piece
-      → ((x : T) → o ≡ Some x → ⊥) → (s : List ℕ) → Contains old s ↔ IsSetWithin pieces n s
-  none_more {T} v n o next are is none s =
-      let more = sets_next pieces count piece at s in
-      rw next (
-        λ has. more.1 (inl ((are s).0 has)),
-        λ within. elim (more.0 within) [
-          | inl was ↦ (are s).1 was
-          | inr e ↦ absurd (no_value o (is ∙ e) none)
-        ],
-      )
-    where
-      no_value : (o : Option T) → option_map v o ≡ Some s → ((x : T) → o ≡ Some x → ⊥) → ⊥
-      no_value (Some x) e none = none x refl
-      no_value None e none = cc
-
-pub no_sets : (pieces : List (List ℕ)) (s : List ℕ) → IsSetWithin pieces 0 s → ⊥
-no_sets pieces s (line, le, selector, says) = let low = (says_low pieces line (Adds s selector) says).0 in absurd (omega arith)
 
 pub all_sets : (pieces : List (List ℕ)) (s : List ℕ) → IsSetWithin pieces (length pieces) s ↔ IsSet pieces s
 all_sets pieces s = (

@@ -1,5 +1,5 @@
 -- Without the violations of a rule no forbidden path is left, and each of them leaves one.
-use Rattle.std.proofs.Common.{◌≡◌, ◌∙◌, ℕ, ◌+◌, ◌<◌, ◌⊎◌, inl, inr, List, [], ◌∷◌, ◌++◌, length, get_or, refl, sym, ap, ap₂, subst, arith, append_assoc, length-append}
+use Rattle.std.proofs.Common.{◌≡◌, ◌∙◌, ℕ, ◌<◌, ◌⊎◌, inl, inr, List, [], ◌∷◌, ◌++◌, length, get_or, refl, sym, ap, ap₂, subst, arith, append_assoc, length-append}
 use Rattle.std.specs.Prelude.{Contains}
 use Rattle.std.proofs.lemmas.List.{get_or_default}
 use Rattle.std.proofs.lemmas.List.Elements.{Contains-append_cases, Contains-get_or}
@@ -10,7 +10,7 @@ use Rattle.cut_net.specs.Network.{Network, none_there}
 use Rattle.cut_rules.specs.declared.file.File.{File}
 use Rattle.cut_rules.specs.declared.rule.RuleKind.{RuleKind}
 use Rattle.cut_rules.specs.declared.rule.RuleKind.TheVariants as kinds
-use Rattle.cut_rules.specs.RuleLines.{Forbid, ForbidImport, May, Restricts, Says}
+use Rattle.cut_rules.specs.RuleLines.{Forbid, Restricts, Says}
 use Rattle.cut_rules.specs.Rules.{Counts, IsAllowed, IsIn}
 use Rattle.cut_rules.specs.Verdicts.{import_at, Breaks, BreaksRule, ByForbid, ByForbidImport, ByMay, IsForbidden, IsForbiddenPath, IsOnPath, PathByForbid, PathByForbidImport, PathByMay}
 use Rattle.cut_rules.proofs.LineLaws.{says_one}

@@ -1,13 +1,12 @@
 -- Rules that are read line by line. A name has a number: a module its own, and a set its index among the sets, after the numbers of all modules.
-use Rattle.std.specs.Prelude.{◌≡◌, ◌↔◌, ◌⊎◌, ℕ, ◌+◌, ◌<◌, ◌≤◌, Bool, true, false, List, [], length, Option, Some, None, Result, Ok, Err, String, IfSome, option_map, slice_get, slice_index_or, AllPairs, Contains}
+use Rattle.std.specs.Prelude.{◌≡◌, ◌↔◌, ◌⊎◌, ℕ, ◌+◌, ◌<◌, ◌≤◌, Bool, true, false, List, [], length, Option, Some, None, Result, Ok, Err, option_map, slice_get, slice_index_or, AllPairs, Contains}
 use Rattle.std.specs.BTreeSet.{BTreeSet, contains_by}
 use Rattle.std.specs.Cmp.Lexicographic.{slice_cmp}
 use Rattle.std.specs.Ordering.{nat_cmp, ordering_then}
 use Rattle.digraph.specs.Marks.{marked}
-use Rattle.cut_net.specs.Network.{Network, index_of, name_of, none_there, texts, unpinned}
+use Rattle.cut_net.specs.Network.{Network, index_of, name_of, none_there, unpinned}
 use Rattle.cut_rules.specs.declared.draft.Draft.{Draft}
 use Rattle.cut_rules.specs.declared.draft.LineContext.{LineContext}
-use Rattle.cut_rules.specs.declared.draft.NumberedSet.{NumberedSet}
 use Rattle.cut_rules.specs.declared.fault.RulesFault.{RulesFault}
 use Rattle.cut_rules.specs.declared.file.File.{File}
 use Rattle.cut_rules.specs.declared.rule.Rule.{Rule}
@@ -15,10 +14,10 @@ use Rattle.cut_rules.specs.declared.rule.RuleKind.{RuleKind}
 use Rattle.cut_rules.specs.declared.rule.StaleAllow.{StaleAllow}
 use Rattle.cut_rules.specs.declared.table.MarkedSet.{MarkedSet}
 use Rattle.cut_rules.specs.declared.table.SetTable.{SetTable}
-use Rattle.cut_rules.specs.declared.table.Span.{Span}
 use Rattle.cut_rules.specs.RuleLines.{RuleLine, Selector, Module, Folder, Named, Tree, Adds, Restricts, Allow, Says}
 use Rattle.cut_rules.specs.Faults.{IsRefusal, UnlessMemory}
-use Rattle.cut_rules.specs.Rules.{LineFault, HasFault, HasPattern, IsSet, IsStale, Selects}
+use Rattle.cut_rules.specs.Names.{names_in, AreLinesOf, AreNames}
+use Rattle.cut_rules.specs.Rules.{LineFault, HasFault, HasPattern, IsStale, Selects}
 
 -- one of the first lines, up to this number, adds modules to the set
 abbrev pub IsSetWithin : List (List ℕ) → ℕ → List ℕ → Type 0
@@ -33,17 +32,9 @@ number_by nodes None set = option_map (λ k. nodes + k) set
 abbrev pub number_of : Network → List (List ℕ) → List ℕ → Option ℕ
 number_of net sets name = number_by (length net.names) (index_of net name) (index_of (unpinned sets []) name)
 
--- the name is no module's, and this is its number
-abbrev pub IsSetNumber : Network → List (List ℕ) → List ℕ → ℕ → Type 0
-IsSetNumber net sets name number = (index_of net name ≡ None) × (number_of net sets name ≡ Some number)
-
--- a set, if there is one, with its number
-abbrev pub IsLastSet : Network → List (List ℕ) → Option NumberedSet → Type 0
-IsLastSet net sets last = IfSome last (λ (set : NumberedSet). IsSetNumber net sets set.name.now set.number)
-
--- the names are those of the sets
-abbrev pub AreSets : {Z : Type 0} → List (String Z) → List (List ℕ) → Type 0
-AreSets names pieces = (s : List ℕ) → Contains (texts names) s ↔ IsSet pieces s
+-- the name is no module's, and this is its index among the sets, if it has one
+abbrev pub IsSetPlace : Network → List (List ℕ) → List ℕ → Option ℕ → Type 0
+IsSetPlace net sets name place = (index_of net name ≡ None) × (index_of (unpinned sets []) name ≡ place)
 
 -- ---- members of sets
 
@@ -55,17 +46,17 @@ IsAtPlace files k m = ((f : File) × (slice_get files k ≡ Some f) × (f.module
 abbrev pub HasPlace : List File → ℕ → ℕ → ℕ → Type 0
 HasPlace files from to m = (k : ℕ) × (from ≤ k) × (k < to) × IsAtPlace files k m
 
--- a span of the set of this number has the module
-abbrev pub InSpans : List File → List Span → ℕ → ℕ → Type 0
-InSpans files spans name m = (span : Span) × Contains spans span × (span.name ≡ name) × HasPlace files span.from span.to m
+-- the module has an index that is marked
+abbrev pub HasMark : List File → List Bool → ℕ → Type 0
+HasMark files marks m = (k : ℕ) × IsAtPlace files k m × (marked marks k ≡ true)
 
--- the module is marked for the set of this number
-abbrev pub InMarks : List MarkedSet → ℕ → ℕ → Type 0
-InMarks entries name m = (entry : MarkedSet) × Contains entries entry × (entry.name ≡ name) × (marked entry.marks.items m ≡ true)
+-- the set at this index has the module
+abbrev pub InSet : List File → List MarkedSet → ℕ → ℕ → Type 0
+InSet files sets s m = (set : MarkedSet) × (slice_get sets s ≡ Some set) × HasMark files set.marks.items m
 
 -- the table has the module in the set of this number
 abbrev pub IsMember : List File → SetTable → ℕ → ℕ → Type 0
-IsMember files table name m = InSpans files table.spans.items name m ⊎ InMarks table.marked.items name m
+IsMember files table number m = (s : ℕ) × (number ≡ table.modules + s) × InSet files table.sets.items s m
 
 -- one of the first lines adds the module to the set of this name
 abbrev pub IsAddedWithin : Network → List File → List (List ℕ) → ℕ → List ℕ → ℕ → Type 0
@@ -75,9 +66,15 @@ IsAddedWithin net files pieces count x m = (line : ℕ) × (line ≤ count) × (
 abbrev pub SelectsAny : Network → List File → Selector → Type 0
 SelectsAny net files selector = (m : ℕ) × Selects net files selector m
 
--- each entry has a mark for each of this many modules
+-- each set has so many marks
 abbrev pub AreSized : ℕ → List MarkedSet → Type 0
-AreSized nodes entries = (entry : MarkedSet) → Contains entries entry → length entry.marks.items ≡ nodes
+AreSized places sets = (s : ℕ) (set : MarkedSet) → slice_get sets s ≡ Some set → length set.marks.items ≡ places
+
+-- these are so many sets, each of so many indices of which none is marked
+pub record AreEmptySets (count places : ℕ) (sets : List MarkedSet) : Type 0 where
+  pub size : length sets ≡ count
+  pub sized : AreSized places sets
+  pub none : (s k : ℕ) (set : MarkedSet) → slice_get sets s ≡ Some set → marked set.marks.items k ≡ false
 
 -- how many patterns the selector has
 abbrev pub pattern_count : Selector → ℕ
@@ -86,25 +83,28 @@ pattern_count (Folder path) = 0
 pattern_count (Named pattern) = 1
 pattern_count Tree = 0
 
--- with the selected modules in the set of this number the one table is the other; it is returned whether there is any
-pub record IsAddition (net : Network) (files : List File) (old : SetTable) (name : ℕ) (selector : Selector) (any : Bool) (new : SetTable) : Type 0 where
-  pub any_is : (any ≡ true) ↔ SelectsAny net files selector
-  pub added : (number m : ℕ) → m < length net.names → IsMember files new number m ↔ (IsMember files old number m ⊎ ((name ≡ number) × Selects net files selector m))
-  pub patterns : new.patterns ≡ old.patterns + pattern_count selector
-  pub sized : AreSized (length net.names) new.marked.items
+-- the table has an index for each file and each module, and the names are those of the modules
+pub record IsTableFor (context : LineContext) (table : SetTable) : Type 0 where
+  pub sized : AreSized (length context.files.now + length context.net.now.names) table.sets.items
+  pub names : names_in context.names.now.modules.keys ≡ context.net.now.names
 
--- these are the first lines with the property, in order
-pub record AreLinesOf (P : ℕ → Type 0) (count : ℕ) (lines : List ℕ) : Type 0 where
-  pub each : (l : ℕ) → Contains lines l → (l ≤ count) × P l
-  pub all : (l : ℕ) → l ≤ count → P l → Contains lines l
-  pub ascending : AllPairs (λ i j. i < j) lines
+-- with the selected modules in the set at this index, if there is one, the one table is the other; it is returned whether there is any
+pub record IsAddition (net : Network) (files : List File) (old : SetTable) (place : Option ℕ) (selector : Selector) (any : Bool) (new : SetTable) : Type 0 where
+  pub any_is : (any ≡ true) ↔ SelectsAny net files selector
+  pub added : (s m : ℕ) → m < length net.names → InSet files new.sets.items s m ↔ (InSet files old.sets.items s m ⊎ ((place ≡ Some s) × Selects net files selector m))
+  pub patterns : new.patterns ≡ old.patterns + pattern_count selector
+  pub modules : new.modules ≡ old.modules
+  pub count : length new.sets.items ≡ length old.sets.items
+  pub sized : (places : ℕ) → AreSized places old.sets.items → AreSized places new.sets.items
 
 -- the table has the sets of the first lines, and counts their patterns
 pub record IsTable (net : Network) (files : List File) (sets pieces : List (List ℕ)) (count : ℕ) (table : SetTable) : Type 0 where
   pub are : (x : List ℕ) (number m : ℕ) → m < length net.names → number_of net sets x ≡ Some number → IsMember files table number m ↔ IsAddedWithin net files pieces count x m
   pub patterns : (lines : List ℕ) × AreLinesOf (HasPattern pieces) count lines × (length lines ≡ table.patterns)
   pub few : table.patterns ≤ 4096
-  pub sized : AreSized (length net.names) table.marked.items
+  pub modules : table.modules ≡ length net.names
+  pub size : length table.sets.items ≡ length sets
+  pub sized : AreSized (length files + length net.names) table.sets.items
 
 -- ---- rules
 
@@ -149,7 +149,6 @@ pub record IsDraft (net : Network) (files : List File) (sets pieces : List (List
   pub allowed : AreAllowed net pieces count draft.allowed.items
   pub stale : AreStale net pieces count draft.stale.items
   pub pairs : ArePairs draft.pairs (λ key. key.0.now) (λ key. key.1.now) pieces count
-  pub last_set : IsLastSet net sets draft.last_set
 
 -- the line of this number is the builder's last one, or this is the first fault of the text
 abbrev pub Takes : Network → List File → List (List ℕ) → List (List ℕ) → ℕ → Result (Unit {0}) RulesFault → Draft → Type 0
@@ -160,21 +159,20 @@ Takes net files sets pieces line (Err fault) draft = UnlessMemory fault (IsRefus
 pub record IsTextSoFar (context : LineContext) (pieces : List (List ℕ)) (draft : Draft) : Type 0 where
   pub place : ℕ
   pub number : context.line ≡ place + 1
-  pub sets_are : AreSets context.sets.now pieces
-  pub drafted : IsDraft context.net.now context.files.now (texts context.sets.now) pieces place draft
+  pub names : AreNames context.net.now pieces context.names.now
+  pub drafted : IsDraft context.net.now context.files.now (names_in context.names.now.sets.keys) pieces place draft
 
 -- and this is what the line states
 abbrev pub IsStated : LineContext → List (List ℕ) → RuleLine → Draft → Type 0
 IsStated context pieces content draft = IsTextSoFar context pieces draft × Says pieces context.line content
 
 -- the builder of no line
-pub record IsEmptyFor (net : Network) (draft : Draft) : Type 0 where
-  pub spans : draft.table.spans.items ≡ []
-  pub entries : draft.table.marked.items ≡ []
+pub record IsEmptyFor (context : LineContext) (draft : Draft) : Type 0 where
+  pub modules : draft.table.modules ≡ length context.net.now.names
+  pub sets : AreEmptySets (length context.names.now.sets.keys) (length context.files.now + length context.net.now.names) draft.table.sets.items
   pub patterns : draft.table.patterns ≡ 0
   pub rules : draft.rules.items ≡ []
-  pub size : length draft.allowed.items ≡ length net.imports
+  pub size : length draft.allowed.items ≡ length context.net.now.imports
   pub none : (k : ℕ) → marked draft.allowed.items k ≡ false
   pub stale : draft.stale.items ≡ []
   pub pairs : draft.pairs.keys ≡ []
-  pub last_set : draft.last_set ≡ None

@@ -3,7 +3,7 @@ pub mod Rules
 pub mod LineReading
 pub mod Faults
 pub mod Folders
-pub mod Tables
+pub mod Names
 pub mod Drafts
 pub mod Outcomes
 pub mod Verdicts

@@ -82,3 +82,13 @@ set_in (Allow m n) = None
 -- the set to which the bytes of a line add modules
 unfoldable pub set_of : List ℕ → Option (List ℕ)
 set_of piece = option_and_then set_in (rule_line_of piece)
+
+-- the names of a line that is a rule
+abbrev pub names_of_rule : RuleLine → Option (List ℕ × List ℕ)
+names_of_rule (Adds s selector) = None
+names_of_rule (Restricts kind x y) = Some (x, y)
+names_of_rule (Allow m n) = None
+
+-- the names of the rule that the bytes of a line are
+unfoldable pub rule_of : List ℕ → Option (List ℕ × List ℕ)
+rule_of piece = option_and_then names_of_rule (rule_line_of piece)

@@ -1,25 +1,25 @@
 //! Rules that are read line by line.
-ghost use Rattle.std.specs.Prelude.{◌≡◌, IfErr, IfOk, List, MatchResult, None, Some, ℕ, Contains};
-ghost use Rattle.cut_net.specs.Network.{texts};
-ghost use Rattle.cut_net.specs.WellFormed.{AreNamesInOrder};
-ghost use Rattle.cut_rules.specs.Drafts.{number_of, IsLastSet, IsSetNumber, IsStated, IsTextSoFar, Takes};
+ghost use Rattle.std.specs.Prelude.{◌≡◌, IfErr, IfOk, List, None, Some, ℕ, Contains};
+ghost use Rattle.cut_rules.specs.Drafts.{number_of, IsSetPlace, IsStated, IsTextSoFar, Takes};
 ghost use Rattle.cut_rules.specs.Faults.{cause_of, UnlessMemory};
 ghost use Rattle.cut_rules.specs.Folders.{ArePathsInOrder};
 ghost use Rattle.cut_rules.specs.LineReading.{selector_content};
+ghost use Rattle.cut_rules.specs.Names.{names_in, AreNames, IsKnown, IsNoted};
 ghost use Rattle.cut_rules.specs.RuleLines.{Adds, Allow, IsPieceAt, Restricts};
 ghost use Rattle.cut_rules.specs.Rules.{SetIsModule, NoSuchModule, empty_fault};
 
 use crate::File;
 use crate::fault::RulesFault;
 use crate::line::{Line, Selector, is_idle, line_in};
+use crate::names::{Names, place_in};
 use crate::rule::{Rule, RuleKind, StaleAllow};
 use crate::table::SetTable;
-use cut_net::{Net, import_named, place_of};
+use cut_net::{Net, import_named};
 use std::alloc::{AllocError, Global};
 use std::collections::BTreeSet;
 
 /// How many rules a text may have, and how many patterns.
-const MOST_LINES: usize = 4096;
+pub(crate) const MOST_LINES: usize = 4096;
 
 /// What the lines so far state.
 #[derive(Drop)]
@@ -31,15 +31,6 @@ pub(crate) struct Draft<'a> {
     pub(crate) stale: Vec<StaleAllow<'a>>,
     /// The two names of each `allow` line.
     pub(crate) pairs: BTreeSet<(&'a str, &'a str)>,
-    /// The set of the last line that adds modules, and its number: most lines have the same set as the line before.
-    pub(crate) last_set: Option<NumberedSet<'a>>,
-}
-
-/// The name of a set, and its number.
-#[derive(Clone, Copy)]
-pub(crate) struct NumberedSet<'a> {
-    pub(crate) name: &'a str,
-    pub(crate) number: usize,
 }
 
 /// What a line is read for.
@@ -49,24 +40,26 @@ pub(crate) struct LineContext<'a> {
     pub(crate) net: &'a Net,
     /// Sorted by their paths.
     pub(crate) files: &'a [File<'a>],
-    /// The names of the sets, in order.
-    pub(crate) sets: &'a [String],
+    pub(crate) names: &'a Names<'a>,
     /// The number of the line, from 1.
     pub(crate) line: u64,
 }
 
 impl LineContext<'_> {
-    /// The number of a name of the line, or `NoSuchModule` if it is neither a module nor a set.
+    /// The number of a name of a rule, or `NoSuchModule` if it is neither a module nor a set.
     fn number_of(&self, name: &str) -> Result<usize, RulesFault>
-        requires { AreNamesInOrder (texts self.now.sets.now) }
-        ensures found { IfOk result (λ number. number_of self.now.net.now (texts self.now.sets.now) name.now ≡ Some number) }
-        ensures none { IfErr result (λ fault. UnlessMemory fault ((number_of self.now.net.now (texts self.now.sets.now) name.now ≡ None) × (cause_of fault ≡ Some (self.now.line, NoSuchModule name.now)))) }
+        requires { (pieces : List (List ℕ)) × AreNames self.now.net.now pieces self.now.names.now }
+        ensures found { IfOk result (λ number. number_of self.now.net.now (names_in self.now.names.now.sets.keys) name.now ≡ Some number) }
+        ensures known { IfOk result (λ number. (pieces : List (List ℕ)) → AreNames self.now.net.now pieces self.now.names.now → IsKnown self.now.net.now pieces name.now) }
+        ensures none { IfErr result (λ fault. UnlessMemory fault ((cause_of fault ≡ Some (self.now.line, NoSuchModule name.now))
+            × ((pieces : List (List ℕ)) → AreNames self.now.net.now pieces self.now.names.now → IsNoted self.now.net.now self.now.names.now.sets.keys name.now → IsKnown self.now.net.now pieces name.now → ⊥))) }
     {
-        if let Some(module) = self.net.index_of(name) {
-            return Ok(module as usize);
+        self.net.keeps();
+        if let Some(module) = place_in(&self.names.modules, name.as_bytes()) {
+            return Ok(module);
         }
-        if let Some(place) = place_of(self.sets, name) {
-            return Ok(self.net.nodes() as usize + place);
+        if let Some(set) = self.names.declared_set(name) {
+            return Ok(self.net.nodes() as usize + set);
         }
         Err(RulesFault::NoSuchModule {
             line: self.line,
@@ -74,23 +67,22 @@ impl LineContext<'_> {
         })
     }
 
-    /// The number of the line's set, or `SetIsModule`.
-    fn set_number(&self, set: &str) -> Result<usize, RulesFault>
-        requires ascending { AreNamesInOrder (texts self.now.sets.now) }
-        requires known { Contains (texts self.now.sets.now) set.now }
-        ensures right { IfOk result (IsSetNumber self.now.net.now (texts self.now.sets.now) set.now) }
+    /// The index of the set of a line, if a rule names it; or `SetIsModule`.
+    fn set_place(&self, set: &str) -> Result<Option<usize>, RulesFault>
+        requires { (pieces : List (List ℕ)) × AreNames self.now.net.now pieces self.now.names.now }
+        ensures right { IfOk result (IsSetPlace self.now.net.now (names_in self.now.names.now.sets.keys) set.now) }
         ensures wrong { IfErr result (λ fault. UnlessMemory fault (Contains self.now.net.now.names set.now × (cause_of fault ≡ Some (self.now.line, SetIsModule set.now)))) }
     {
-        if self.net.index_of(set).is_some() {
-            return Err(RulesFault::SetIsModule {
-                line: self.line,
-                name: String::from_str(self.alloc, set)?,
-            });
+        if let Some(place) = place_in(&self.names.sets, set.as_bytes()) {
+            return Ok(Some(place));
         }
-        match place_of(self.sets, set) {
-            Some(place) => Ok(self.net.nodes() as usize + place),
-            None => unreachable!(),
+        if place_in(&self.names.modules, set.as_bytes()).is_none() {
+            return Ok(None);
         }
+        Err(RulesFault::SetIsModule {
+            line: self.line,
+            name: String::from_str(self.alloc, set)?,
+        })
     }
 
     /// The fault of a line that adds no module to its set.
@@ -115,44 +107,20 @@ impl LineContext<'_> {
     }
 }
 
-/// The number of the set of a line, or `SetIsModule`. It is looked up unless the last set is the same.
-fn number_of_set<'a>(
-    last: &mut Option<NumberedSet<'a>>,
-    context: &LineContext<'_>,
-    set: &'a str,
-) -> Result<usize, RulesFault>
-    requires ascending { AreNamesInOrder (texts context.now.sets.now) }
-    requires known { Contains (texts context.now.sets.now) set.now }
-    requires last { IsLastSet context.now.net.now (texts context.now.sets.now) last.old }
-    ensures right { IfOk result (IsSetNumber context.now.net.now (texts context.now.sets.now) set.now) }
-    ensures wrong { IfErr result (λ fault. UnlessMemory fault (Contains context.now.net.now.names set.now × (cause_of fault ≡ Some (context.now.line, SetIsModule set.now)))) }
-    ensures last { IsLastSet context.now.net.now (texts context.now.sets.now) last.new }
-{
-    if let Some(known) = *last
-        && known.name == set
-    {
-        return Ok(known.number);
-    }
-    let number = context.set_number(set)?;
-    *last = Some(NumberedSet { name: set, number });
-    Ok(number)
-}
-
 impl<'a> Draft<'a> {
     /// Adds the modules of a line to its set.
     fn add(
         &mut self,
         context: &LineContext<'_>,
-        set: &'a str,
+        set: &str,
         selector: Selector<'_>,
     ) -> Result<(), RulesFault>
-        requires ascending { AreNamesInOrder (texts context.now.sets.now) }
         requires sorted { ArePathsInOrder context.now.files.now }
         requires stated { (pieces : List (List ℕ)) × IsStated context.now pieces (Adds set.now (selector_content selector)) self.old }
-        ensures { (pieces : List (List ℕ)) → IsStated context.now pieces (Adds set.now (selector_content selector.entry)) self.old → Takes context.now.net.now context.now.files.now (texts context.now.sets.now) pieces context.now.line result self.new }
+        ensures { (pieces : List (List ℕ)) → IsStated context.now pieces (Adds set.now (selector_content selector.entry)) self.old → Takes context.now.net.now context.now.files.now (names_in context.now.names.now.sets.keys) pieces context.now.line result self.new }
     {
-        let name = number_of_set(&mut self.last_set, context, set)?;
-        if !self.table.add(context, name, selector)? {
+        let place = context.set_place(set)?;
+        if !self.table.add(context, place, selector)? {
             return Err(context.empty_fault(set, selector)?);
         }
         if self.table.patterns > MOST_LINES {
@@ -169,8 +137,8 @@ impl<'a> Draft<'a> {
         first: &str,
         second: &str,
     ) -> Result<(), RulesFault>
-        requires ascending { AreNamesInOrder (texts context.now.sets.now) }
-        ensures { (pieces : List (List ℕ)) → IsStated context.now pieces (Restricts kind first.now second.now) self.old → Takes context.now.net.now context.now.files.now (texts context.now.sets.now) pieces context.now.line result self.new }
+        requires { (pieces : List (List ℕ)) × IsStated context.now pieces (Restricts kind first.now second.now) self.old }
+        ensures { (pieces : List (List ℕ)) → IsStated context.now pieces (Restricts kind first.now second.now) self.old → Takes context.now.net.now context.now.files.now (names_in context.now.names.now.sets.keys) pieces context.now.line result self.new }
     {
         let first = context.number_of(first)?;
         let second = context.number_of(second)?;
@@ -195,7 +163,7 @@ impl<'a> Draft<'a> {
         imported: &'a str,
     ) -> Result<(), RulesFault>
         requires { (pieces : List (List ℕ)) × IsStated context.now pieces (Allow importer.now imported.now) self.old }
-        ensures { (pieces : List (List ℕ)) → IsStated context.now pieces (Allow importer.now imported.now) self.old → Takes context.now.net.now context.now.files.now (texts context.now.sets.now) pieces context.now.line result self.new }
+        ensures { (pieces : List (List ℕ)) → IsStated context.now pieces (Allow importer.now imported.now) self.old → Takes context.now.net.now context.now.files.now (names_in context.now.names.now.sets.keys) pieces context.now.line result self.new }
     {
         context.net.keeps();
         let line = context.line;
@@ -224,10 +192,9 @@ impl<'a> Draft<'a> {
         context: &LineContext<'_>,
         piece: &'a [u8],
     ) -> Result<(), RulesFault>
-        requires ascending { AreNamesInOrder (texts context.now.sets.now) }
         requires sorted { ArePathsInOrder context.now.files.now }
         requires there { (pieces : List (List ℕ)) × IsPieceAt pieces context.now.line piece.now × IsTextSoFar context.now pieces self.old }
-        ensures { (pieces : List (List ℕ)) → IsPieceAt pieces context.now.line piece.now → IsTextSoFar context.now pieces self.old → Takes context.now.net.now context.now.files.now (texts context.now.sets.now) pieces context.now.line result self.new }
+        ensures { (pieces : List (List ℕ)) → IsPieceAt pieces context.now.line piece.now → IsTextSoFar context.now pieces self.old → Takes context.now.net.now context.now.files.now (names_in context.now.names.now.sets.keys) pieces context.now.line result self.new }
     {
         if is_idle(piece) {
             return Ok(());

@@ -1,7 +1,7 @@
 //! The lines of a rules text.
-ghost use Rattle.std.specs.Prelude.{◌≡◌, option_map};
+ghost use Rattle.std.specs.Prelude.{◌≡◌, ℕ, List, Some, option_map};
 ghost use Rattle.std.specs.List.{position};
-ghost use Rattle.cut_rules.specs.LineReading.{is_comment, is_idle, kind_of, last_name_of, line_after, line_content, line_of_fields, rule_line_of, text_of};
+ghost use Rattle.cut_rules.specs.LineReading.{is_comment, is_idle, kind_of, last_name_of, line_after, line_content, line_of_fields, rule_line_of, rule_of, set_of, text_of};
 ghost use Rattle.cut_rules.specs.RuleLines.{is_blank};
 
 use crate::rule::RuleKind;
@@ -145,4 +145,37 @@ pub(crate) fn line_in(piece: &[u8]) -> Option<Line<'_>>
 {
     let (word, fields) = cut_at_byte(piece, b' ')?;
     line_of_fields(word, fields)
+}
+
+/// The two names of the rule that the bytes of a line are. Most lines have another keyword, and aren't parsed.
+#[tactic(auto, unfolding(crate::specs::LineReading::rule_of, crate::specs::LineReading::rule_line_of))]
+pub(crate) fn rule_in(piece: &[u8]) -> Option<(&str, &str)>
+    ensures { option_map (λ names. (names.0.now, names.1.now)) result ≡ rule_of piece.now }
+{
+    let (word, fields) = cut_at_byte(piece, b' ')?;
+    kind_of(word)?;
+    match line_of_fields(word, fields)? {
+        Line::Restricts(_, first, second) => Some((first, second)),
+        Line::Adds(_, _) | Line::Allow(_, _) => None,
+    }
+}
+
+/// The set to which the bytes of a line add modules.
+#[tactic(auto, unfolding(crate::specs::LineReading::set_of))]
+pub(crate) fn set_in(piece: &[u8]) -> Option<&str>
+    ensures { option_map (λ name. name.now) result ≡ set_of piece.now }
+{
+    match line_in(piece)? {
+        Line::Adds(set, _) => Some(set),
+        Line::Restricts(_, _, _) | Line::Allow(_, _) => None,
+    }
+}
+
+/// The field in which a line that adds modules to a set has its name.
+pub(crate) fn set_field(piece: &[u8]) -> Option<&[u8]>
+    ensures { (s : List ℕ) → set_of piece.now ≡ Some s → option_map (λ field. field.now) result ≡ Some s }
+{
+    let (_, fields) = cut_at_byte(piece, b' ')?;
+    let end = blank_index(fields).unwrap_or(fields.len());
+    Some(&fields[..end])
 }

@@ -1,13 +1,9 @@
 //! The modules of a name: of a module itself, or of a set.
-ghost use Rattle.std.specs.Prelude.{◌≡◌, ◌↔◌, ◌⊎◌, ◌<◌, ◌≤◌, ℕ, AllPairs, Contains, IfOk, List, Some, length, true};
+ghost use Rattle.std.specs.Prelude.{◌≡◌, ◌↔◌, ◌⊎◌, ◌<◌, ◌≤◌, ℕ, AllPairs, Contains, IfOk, List, Some, length, true, vec_len};
 ghost use Rattle.digraph.specs.Marks.{marked};
-ghost use Rattle.cut_rules.specs.Drafts.{HasPlace, InMarks, InSpans, IsAtPlace};
-ghost use Rattle.cut_rules.specs.Outcomes.{AreRulesOf};
+ghost use Rattle.cut_rules.specs.Drafts.{HasMark, IsAtPlace, IsMember};
 ghost use Rattle.cut_rules.specs.Judged.{IsNamed};
-ghost use Rattle.cut_rules.specs.Tables.{AreByName, AreByStart};
-ghost use Rattle.cut_rules.specs.declared.file.File.{File as TreeFile};
 
-use crate::table::{MarkedSet, Span};
 use crate::{File, Rules};
 use cut_net::Net;
 use std::alloc::{AllocError, Global};
@@ -33,66 +29,15 @@ fn mark(marks: &mut [bool], node: usize)
     }
 }
 
-/// Marks the modules of a span.
-fn mark_span(files: &[File<'_>], marks: &mut [bool], span: Span)
+/// Marks the modules at the marked indices among the files and, after these, all modules.
+fn mark_places(files: &[File<'_>], places: &[bool], marks: &mut [bool])
     ensures size { length marks.new ≡ length marks.old }
-    ensures marks { (m : ℕ) → m < length marks.old → (marked marks.new m ≡ true) ↔ ((marked marks.old m ≡ true) ⊎ HasPlace files.now span.from span.to m) }
+    ensures marks { (m : ℕ) → m < length marks.old → (marked marks.new m ≡ true) ↔ ((marked marks.old m ≡ true) ⊎ HasMark files.now places.now m) }
 {
-    for place in span.from..span.to {
-        mark(marks, module_at(files, place));
-    }
-}
-
-/// Marks the modules of the spans of a set.
-fn mark_spans(files: &[File<'_>], spans: &[Span], marks: &mut [bool], name: usize)
-    requires by_name { AreByName spans.now }
-    requires by_start { AreByStart spans.now }
-    ensures size { length marks.new ≡ length marks.old }
-    ensures marks { (m : ℕ) → m < length marks.old → (marked marks.new m ≡ true) ↔ ((marked marks.old m ≡ true) ⊎ InSpans files.now spans.now name m) }
-{
-    let start = spans.partition_point(|span| span.name < name);
-    let mut covered = 0;
-    for at in start..spans.len() {
-        if spans[at].name != name {
-            return;
+    for place in 0..places.len() {
+        if places[place] {
+            mark(marks, module_at(files, place));
         }
-        // Spans overlap if folders are nested: each place is marked once.
-        let to = spans[at].to;
-        let from = spans[at].from.max(covered);
-        mark_span(files, marks, Span { name, from, to });
-        covered = covered.max(to);
-    }
-}
-
-/// Marks the modules that have a mark in the other list.
-pub(crate) fn unite(marks: &mut [bool], others: &[bool])
-    ensures size { length marks.new ≡ length marks.old }
-    ensures marks { (m : ℕ) → m < length marks.old → (marked marks.new m ≡ true) ↔ ((marked marks.old m ≡ true) ⊎ (marked others.now m ≡ true)) }
-{
-    for node in 0..others.len() {
-        if others[node] {
-            mark(marks, node);
-        }
-    }
-}
-
-/// Marks the modules of an entry, if it is of this set.
-fn mark_entry(entry: &MarkedSet, marks: &mut [bool], name: usize)
-    ensures size { length marks.new ≡ length marks.old }
-    ensures marks { (m : ℕ) → m < length marks.old → (marked marks.new m ≡ true) ↔ ((marked marks.old m ≡ true) ⊎ ((entry.now.name ≡ name) × (marked entry.now.marks.items m ≡ true))) }
-{
-    if entry.name == name {
-        unite(marks, entry.marks.as_slice());
-    }
-}
-
-/// Marks the marked modules of a set.
-fn mark_marked(entries: &[MarkedSet], marks: &mut [bool], name: usize)
-    ensures size { length marks.new ≡ length marks.old }
-    ensures marks { (m : ℕ) → m < length marks.old → (marked marks.new m ≡ true) ↔ ((marked marks.old m ≡ true) ⊎ InMarks entries.now name m) }
-{
-    for place in 0..entries.len() {
-        mark_entry(&entries[place], marks, name);
     }
 }
 
@@ -112,25 +57,59 @@ fn marked_nodes(alloc: Global, marks: &[bool]) -> Result<Vec<u32>, AllocError>
 }
 
 impl Rules<'_> {
-    /// The modules of the name of this number, sorted: the module itself, or those in the set.
+    /// Marks the modules in the set of this number, if a set has it.
+    fn mark_set(&self, marks: &mut [bool], name: usize)
+        ensures size { length marks.new ≡ length marks.old }
+        ensures marks { (m : ℕ) → m < length marks.old → (marked marks.new m ≡ true) ↔ ((marked marks.old m ≡ true) ⊎ IsMember self.now.files.now self.now.table name m) }
+    {
+        if name < self.table.modules {
+            return;
+        }
+        let place = name - self.table.modules;
+        if place >= self.table.sets.len() {
+            return;
+        }
+        mark_places(self.files, self.table.sets[place].marks.as_slice(), marks);
+    }
+
+    /// Marks the modules of the name of this number: the module itself, or those in the set.
+    fn mark_named(&self, marks: &mut [bool], name: usize)
+        ensures size { length marks.new ≡ length marks.old }
+        ensures marks { (m : ℕ) → m < length marks.old → (marked marks.new m ≡ true) ↔ ((marked marks.old m ≡ true) ⊎ IsNamed self.now name m) }
+    {
+        mark(marks, name);
+        self.mark_set(marks, name);
+    }
+
+    /// Per module whether it has the name of this number.
+    pub(crate) fn marks(
+        &self,
+        alloc: Global,
+        net: &Net,
+        name: usize,
+    ) -> Result<Vec<bool>, AllocError>
+        ensures size { IfOk result (λ marks. vec_len marks ≡ length net.now.names) }
+        ensures are { IfOk result (λ marks. (m : ℕ) → m < length net.now.names → (marked marks.items m ≡ true) ↔ IsNamed self.now name m) }
+    {
+        let mut marks = vec![in alloc; false; net.nodes() as usize]?;
+        self.mark_named(marks.as_mut_slice(), name);
+        Ok(marks)
+    }
+
+    /// The modules of the name of this number, sorted.
     pub(crate) fn members_of(
         &self,
         alloc: Global,
         net: &Net,
         name: usize,
     ) -> Result<Vec<u32>, AllocError>
-        requires { (files : List TreeFile) × (pieces : List (List ℕ)) × AreRulesOf net.now files pieces self.now }
         ensures within { IfOk result (λ members. (m : ℕ) → Contains members.items m → m < length net.now.names) }
         ensures are { IfOk result (λ members. (m : ℕ) → m < length net.now.names → Contains members.items m ↔ IsNamed self.now name m) }
         ensures ascending { IfOk result (λ members. AllPairs (λ v w. v < w) members.items) }
     {
         net.keeps();
-        let mut marks = vec![in alloc; false; net.nodes() as usize]?;
-        let marks = marks.as_mut_slice();
-        mark(marks, name);
-        mark_spans(self.files, self.table.spans.as_slice(), marks, name);
-        mark_marked(self.table.marked.as_slice(), marks, name);
-        let members = marked_nodes(alloc, marks)?;
+        let marks = self.marks(alloc, net, name)?;
+        let members = marked_nodes(alloc, marks.as_slice())?;
         Ok(members)
     }
 }

@@ -1,17 +1,16 @@
 //! Reading the rules of a tree from their text.
 ghost use Rattle.std.specs.Prelude.{◌≡◌, ◌+◌, IfErr, IfOk, length};
-ghost use Rattle.cut_net.specs.Network.{texts};
-ghost use Rattle.cut_net.specs.WellFormed.{AreNamesInOrder};
-ghost use Rattle.cut_rules.specs.Drafts.{AreSets, IsDraft, IsEmptyFor};
+ghost use Rattle.cut_rules.specs.Drafts.{IsDraft, IsEmptyFor};
 ghost use Rattle.cut_rules.specs.Faults.{IsRefusal, UnlessMemory};
 ghost use Rattle.cut_rules.specs.Folders.{ArePathsInOrder};
+ghost use Rattle.cut_rules.specs.Names.{names_in, AreNames};
 ghost use Rattle.cut_rules.specs.Outcomes.{AreRulesOf};
 ghost use Rattle.cut_rules.specs.RuleLines.{pieces_of};
 
 use crate::draft::{Draft, LineContext};
+use crate::names::{Names, names_of};
 use crate::rule::{Rule, StaleAllow};
-use crate::sets::sets_of;
-use crate::table::{SetTable, sort_spans};
+use crate::table::{SetTable, empty_sets};
 use crate::{File, RulesFault};
 use cut_net::Net;
 use std::alloc::{AllocError, Global};
@@ -21,7 +20,7 @@ use std::collections::BTreeSet;
 #[derive(Drop)]
 pub struct Rules<'a> {
     pub(crate) files: &'a [File<'a>],
-    pub(crate) sets: Vec<String>,
+    pub(crate) names: Names<'a>,
     pub(crate) table: SetTable,
     /// In the order of their lines.
     pub(crate) rules: Vec<Rule>,
@@ -32,32 +31,33 @@ pub struct Rules<'a> {
 }
 
 /// The builder before the first line.
-fn empty<'a>(alloc: Global, net: &Net) -> Result<Draft<'a>, AllocError>
-    ensures { IfOk result (IsEmptyFor net.now) }
+fn empty<'a>(context: &LineContext<'_>) -> Result<Draft<'a>, AllocError>
+    ensures { IfOk result (IsEmptyFor context.now) }
 {
+    let alloc = context.alloc;
+    let modules = context.net.nodes() as usize;
+    let places = context.files.len() + modules;
     Ok(Draft {
         table: SetTable {
-            spans: Vec::new(alloc),
-            marked: Vec::new(alloc),
+            modules,
+            sets: empty_sets(alloc, context.names.sets.len(), places)?,
             patterns: 0,
         },
         rules: Vec::new(alloc),
-        allowed: vec![in alloc; false; net.imports().len()]?,
+        allowed: vec![in alloc; false; context.net.imports().len()]?,
         stale: Vec::new(alloc),
         pairs: BTreeSet::new(alloc),
-        last_set: None,
     })
 }
 
 /// What all lines state, or the fault of the first line that has one.
 fn draft_of<'a>(context: &LineContext<'_>, bytes: &'a [u8]) -> Result<Draft<'a>, RulesFault>
-    requires ascending { AreNamesInOrder (texts context.now.sets.now) }
     requires sorted { ArePathsInOrder context.now.files.now }
-    requires sets { AreSets context.now.sets.now (pieces_of bytes.now) }
-    ensures drafted { IfOk result (IsDraft context.now.net.now context.now.files.now (texts context.now.sets.now) (pieces_of bytes.now) (length (pieces_of bytes.now))) }
+    requires names { AreNames context.now.net.now (pieces_of bytes.now) context.now.names.now }
+    ensures drafted { IfOk result (IsDraft context.now.net.now context.now.files.now (names_in context.now.names.now.sets.keys) (pieces_of bytes.now) (length (pieces_of bytes.now))) }
     ensures fault { IfErr result (λ fault. UnlessMemory fault (IsRefusal context.now.net.now context.now.files.now (pieces_of bytes.now) fault)) }
 {
-    let mut draft = empty(context.alloc, context.net)?;
+    let mut draft = empty(context)?;
     let mut line = 0;
     for piece in bytes.split(|b| *b == b'\n') {
         line += 1;
@@ -95,26 +95,24 @@ impl Rules<'_> {
         // The fault is the text's first one.
         ensures fault { IfErr result (λ fault. UnlessMemory fault (IsRefusal net.now files.now (pieces_of bytes.now) fault)) }
     {
-        let sets = sets_of(alloc, bytes)?;
+        let names = names_of(alloc, net, bytes)?;
         let context = LineContext {
             alloc,
             net: &*net,
             files: &*files,
-            sets: sets.as_slice(),
+            names: &names,
             line: 0,
         };
-        let draft = draft_of(&context, bytes)?;
         let Draft {
-            mut table,
+            table,
             rules,
             allowed,
             stale,
             ..
-        } = draft;
-        sort_spans(&mut table.spans);
+        } = draft_of(&context, bytes)?;
         Ok(Rules {
             files,
-            sets,
+            names,
             table,
             rules,
             allowed,

@@ -3,8 +3,6 @@ ghost use Rattle.std.specs.Prelude.{◌≡◌, ◌↔◌, ◌<◌, ℕ, All, IfO
 ghost use Rattle.digraph.specs.Graphs.{IsGraph};
 ghost use Rattle.digraph.specs.Marks.{marked};
 ghost use Rattle.cut_rules.specs.Judged.{IsBarredBy, IsMarkSet, IsMayOf, IsNamed, IsOutsider, IsRepeated, IsRuleSearch, IsTarget};
-ghost use Rattle.cut_rules.specs.Outcomes.{AreRulesOf};
-ghost use Rattle.cut_rules.specs.declared.file.File.{File as TreeFile};
 
 use crate::Rules;
 use crate::rule::{Rule, RuleKind};
@@ -57,21 +55,8 @@ impl Rules<'_> {
         false
     }
 
-    /// Per module whether it has the name of this number.
-    fn marks(&self, alloc: Global, net: &Net, name: usize) -> Result<Vec<bool>, AllocError>
-        requires { (files : List TreeFile) × (pieces : List (List ℕ)) × AreRulesOf net.now files pieces self.now }
-        ensures size { IfOk result (λ marks. vec_len marks ≡ length net.now.names) }
-        ensures are { IfOk result (λ marks. (m : ℕ) → m < length net.now.names → (marked marks.items m ≡ true) ↔ IsNamed self.now name m) }
-    {
-        let members = self.members_of(alloc, net, name)?;
-        let mut marks = vec![in alloc; false; net.nodes() as usize]?;
-        set_marks(&mut marks, members.as_slice(), true);
-        Ok(marks)
-    }
-
     /// Per module whether the `may` rules of the name of this number forbid to import it.
     fn outsiders(&self, alloc: Global, net: &Net, first: usize) -> Result<Vec<bool>, AllocError>
-        requires { (files : List TreeFile) × (pieces : List (List ℕ)) × AreRulesOf net.now files pieces self.now }
         ensures size { IfOk result (λ marks. vec_len marks ≡ length net.now.names) }
         ensures are { IfOk result (λ marks. (n : ℕ) → n < length net.now.names → (marked marks.items n ≡ true) ↔ IsOutsider self.now first n) }
     {
@@ -89,7 +74,6 @@ impl Rules<'_> {
 
     /// Per module whether the rule forbids to import it.
     fn targets(&self, alloc: Global, net: &Net, rule: Rule) -> Result<Vec<bool>, AllocError>
-        requires { (files : List TreeFile) × (pieces : List (List ℕ)) × AreRulesOf net.now files pieces self.now }
         ensures size { IfOk result (λ marks. vec_len marks ≡ length net.now.names) }
         ensures are { IfOk result (λ marks. (n : ℕ) → n < length net.now.names → (marked marks.items n ≡ true) ↔ IsTarget self.now rule n) }
     {
@@ -101,7 +85,6 @@ impl Rules<'_> {
 
     /// Per module whether no path of the rule may enter it: all are barred by a rule whose paths have one import.
     fn barrier(&self, alloc: Global, net: &Net, rule: Rule) -> Result<Vec<bool>, AllocError>
-        requires { (files : List TreeFile) × (pieces : List (List ℕ)) × AreRulesOf net.now files pieces self.now }
         ensures { IfOk result (λ marks. (n : ℕ) → n < length net.now.names → (marked marks.items n ≡ true) ↔ IsBarredBy self.now rule rule.kind n) }
     {
         match rule.kind {
@@ -120,7 +103,6 @@ impl Rules<'_> {
     ) -> Result<RuleSearch, AllocError>
         requires graph { IsGraph graph.now }
         requires nodes { vec_len graph.now.after ≡ length net.now.names }
-        requires rules { (files : List TreeFile) × (pieces : List (List ℕ)) × AreRulesOf net.now files pieces self.now }
         ensures { IfOk result (IsRuleSearch self.now (length net.now.names) graph.now.edges.now rule) }
     {
         let starts = self.members_of(alloc, net, rule.first)?;

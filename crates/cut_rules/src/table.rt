@@ -1,202 +1,141 @@
 //! The sets of a text: the modules that its lines add to each.
-ghost use Rattle.std.specs.Prelude.{◌≡◌, ◌↔◌, ◌⊎◌, ◌+◌, ◌<◌, ◌≤◌, ℕ, Contains, IfOk, IfSome, List, Some, length, slice_get, true};
+ghost use Rattle.std.specs.Prelude.{◌≡◌, ◌↔◌, ◌⊎◌, ◌+◌, ◌<◌, ◌≤◌, ℕ, IfOk, IfSome, List, Some, length, true};
 ghost use Rattle.digraph.specs.Marks.{marked};
-ghost use Rattle.cut_net.specs.Network.{name_of};
-ghost use Rattle.cut_rules.specs.Drafts.{AreSized, HasPlace, InMarks, InSpans, IsAddition};
+ghost use Rattle.cut_rules.specs.Drafts.{AreEmptySets, AreSized, HasPlace, InSet, IsAddition, IsTableFor};
 ghost use Rattle.cut_rules.specs.Folders.{ArePathsInOrder};
 ghost use Rattle.cut_rules.specs.LineReading.{selector_content};
 ghost use Rattle.cut_rules.specs.RuleLines.{Module, Named};
-ghost use Rattle.glob.specs.Globs.{Fits};
-ghost use Rattle.cut_rules.specs.Tables.{AreByName, AreByStart};
 ghost use Rattle.cut_rules.specs.declared.file.File.{File as TreeFile};
-ghost use Rattle.cut_rules.specs.declared.table.MarkedSet.{MarkedSet as TableEntry};
-ghost use Rattle.cut_rules.specs.declared.table.Span.{Span as TableSpan};
 
 use crate::draft::LineContext;
 use crate::folders::places_below;
 use crate::line::Selector;
-use crate::members::unite;
-use cut_net::Net;
+use crate::names::place_in;
 use glob::Glob;
 use std::alloc::{AllocError, Global};
 
-/// Some modules are in the set whose name has this number, by their indices among the files or, after those of all files, their own numbers.
-#[derive(Clone, Copy, PartialEq, Eq)]
-pub struct Span {
-    pub name: usize,
-    pub from: usize,
-    pub to: usize,
-}
-
-/// The marked modules are in the set whose name has this number.
+/// The modules of a set: for each file and then for each module whether the set has its module. The files of a folder are adjacent, so that a line adds them at once.
 #[derive(Drop)]
 pub struct MarkedSet {
-    pub name: usize,
     pub marks: Vec<bool>,
 }
 
 /// The sets of the lines so far.
 #[derive(Drop)]
 pub(crate) struct SetTable {
-    /// The modules of names and folders, and of whole trees.
-    pub(crate) spans: Vec<Span>,
-    /// The modules of patterns, one entry for each set that has any.
-    pub(crate) marked: Vec<MarkedSet>,
+    /// The number of the first set, which is the number of modules.
+    pub(crate) modules: usize,
+    /// Those that rules name.
+    pub(crate) sets: Vec<MarkedSet>,
     /// How many lines have a pattern.
     pub(crate) patterns: usize,
 }
 
-/// Sorts the spans, each once.
-pub(crate) fn sort_spans(spans: &mut Vec<Span>)
-    ensures by_name { AreByName spans.new.items }
-    ensures by_start { AreByStart spans.new.items }
-    ensures same { (span : TableSpan) → Contains spans.new.items span ↔ Contains spans.old.items span }
+/// So many sets without modules.
+pub(crate) fn empty_sets(
+    alloc: Global,
+    count: usize,
+    places: usize,
+) -> Result<Vec<MarkedSet>, AllocError>
+    ensures { IfOk result (λ sets. AreEmptySets count places sets.items) }
 {
-    spans.sort_unstable_by_key(|span| (span.name, span.from, span.to));
-    spans.dedup();
+    let mut sets = Vec::with_capacity(alloc, count)?;
+    for _ in 0..count {
+        let marks = vec![in alloc; false; places]?;
+        sets.push(MarkedSet { marks })?;
+    }
+    Ok(sets)
 }
 
-/// For each module whether its name matches the pattern.
-fn matching(alloc: Global, net: &Net, pattern: &Glob<'_>) -> Result<Vec<bool>, AllocError>
-    ensures size { IfOk result (λ marks. length marks.items ≡ length net.now.names) }
-    ensures marks { IfOk result (λ marks. (m : ℕ) → m < length net.now.names → (marked marks.items m ≡ true) ↔ Fits pattern.now (name_of net.now m)) }
+/// Marks what is at the indices from the first up to the second, which is excluded.
+fn mark_between(marks: &mut [bool], from: usize, to: usize)
+    requires { to ≤ length marks.old }
+    ensures size { length marks.new ≡ length marks.old }
+    ensures marks { (k : ℕ) → (marked marks.new k ≡ true) ↔ ((marked marks.old k ≡ true) ⊎ ((from ≤ k) × (k < to))) }
 {
-    net.keeps();
-    let mut marks = Vec::new(alloc);
-    for node in 0..net.nodes() {
-        marks.push(pattern.matches(net.name(node).as_bytes()))?;
+    for place in from..to {
+        marks[place] = true;
     }
-    Ok(marks)
-}
-
-/// Whether there is a mark.
-fn has_mark(marks: &[bool]) -> bool
-    ensures { (result ≡ true) ↔ ((m : ℕ) × (marked marks.now m ≡ true)) }
-{
-    for node in 0..marks.len() {
-        if marks[node] {
-            return true;
-        }
-    }
-    false
-}
-
-/// The index of the entry of a set.
-fn entry_of(entries: &[MarkedSet], name: usize) -> Option<usize>
-    ensures { IfSome result (λ k. (e : TableEntry) × (slice_get entries.now k ≡ Some e) × (e.name ≡ name)) }
-{
-    for place in 0..entries.len() {
-        if entries[place].name == name {
-            return Some(place);
-        }
-    }
-    None
-}
-
-/// Adds the marked modules to a set.
-fn add_marks(
-    entries: &mut Vec<MarkedSet>,
-    name: usize,
-    mut marks: Vec<bool>,
-) -> Result<(), AllocError>
-    requires { AreSized (length marks.items) entries.old.items }
-    ensures sized { IfOk result (λ u. AreSized (length marks.items) entries.new.items) }
-    ensures added { IfOk result (λ u. (number m : ℕ) → InMarks entries.new.items number m ↔ (InMarks entries.old.items number m ⊎ ((name ≡ number) × (marked marks.items m ≡ true)))) }
-{
-    if let Some(place) = entry_of(entries.as_slice(), name) {
-        unite(marks.as_mut_slice(), entries[place].marks.as_slice());
-        entries[place] = MarkedSet { name, marks };
-        return Ok(());
-    }
-    entries.push(MarkedSet { name, marks })?;
-    Ok(())
 }
 
 impl SetTable {
-    /// Adds a span, if it has a module, and returns whether it has.
-    fn add_span(&mut self, span: Span) -> Result<bool, AllocError>
-        ensures any { IfOk result (λ any. (any ≡ true) ↔ (span.from < span.to)) }
-        ensures spans { IfOk result (λ any. (files : List TreeFile) (number m : ℕ) → InSpans files self.new.spans.items number m ↔ (InSpans files self.old.spans.items number m ⊎ ((span.name ≡ number) × HasPlace files span.from span.to m))) }
-        ensures marked { self.new.marked ≡ self.old.marked }
+    /// Adds the modules at the indices from the first up to the second to a set, if there is one, and returns whether there is such a module.
+    fn add_span(&mut self, set: Option<usize>, from: usize, to: usize) -> bool
+        requires set { IfSome set (λ s. s < length self.old.sets.items) }
+        requires sized { (places : ℕ) × AreSized places self.old.sets.items × (to ≤ places) }
+        ensures any { (result ≡ true) ↔ (from < to) }
+        ensures sets { (files : List TreeFile) (s m : ℕ) → InSet files self.new.sets.items s m ↔ (InSet files self.old.sets.items s m ⊎ ((set ≡ Some s) × HasPlace files from to m)) }
+        ensures sized { (places : ℕ) → AreSized places self.old.sets.items → AreSized places self.new.sets.items }
+        ensures count { length self.new.sets.items ≡ length self.old.sets.items }
+        ensures modules { self.new.modules ≡ self.old.modules }
         ensures patterns { self.new.patterns ≡ self.old.patterns }
     {
-        if span.to <= span.from {
-            return Ok(false);
+        if let Some(set) = set {
+            mark_between(self.sets[set].marks.as_mut_slice(), from, to);
         }
-        self.spans.push(span)?;
-        Ok(true)
+        from < to
     }
 
     /// Adds the module of this name, if there is one, and returns whether there is.
-    fn add_module(
-        &mut self,
-        context: &LineContext<'_>,
-        name: usize,
-        text: &str,
-    ) -> Result<bool, AllocError>
-        requires { AreSized (length context.now.net.now.names) self.old.marked.items }
-        ensures { IfOk result (λ any. IsAddition context.now.net.now context.now.files.now self.old name (Module text.now) any self.new) }
+    fn add_module(&mut self, context: &LineContext<'_>, set: Option<usize>, text: &str) -> bool
+        requires set { IfSome set (λ s. s < length self.old.sets.items) }
+        requires table { IsTableFor context.now self.old }
+        ensures { IsAddition context.now.net.now context.now.files.now self.old set (Module text.now) result self.new }
     {
         context.net.keeps();
-        let Some(number) = context.net.index_of(text) else {
-            return Ok(false);
+        let Some(number) = place_in(&context.names.modules, text.as_bytes()) else {
+            return false;
         };
-        let from = context.files.len() + number as usize;
-        let any = self.add_span(Span {
-            name,
-            from,
-            to: from + 1,
-        })?;
-        Ok(any)
+        let place = context.files.len() + number;
+        self.add_span(set, place, place + 1)
     }
 
     /// Adds the modules whose names match the pattern, and returns whether there is one.
     fn add_matching(
         &mut self,
         context: &LineContext<'_>,
-        name: usize,
+        set: Option<usize>,
         text: &str,
     ) -> Result<bool, AllocError>
-        requires sized { AreSized (length context.now.net.now.names) self.old.marked.items }
+        requires set { IfSome set (λ s. s < length self.old.sets.items) }
+        requires table { IsTableFor context.now self.old }
         requires few { self.old.patterns ≤ 4096 }
-        ensures { IfOk result (λ any. IsAddition context.now.net.now context.now.files.now self.old name (Named text.now) any self.new) }
+        ensures { IfOk result (λ any. IsAddition context.now.net.now context.now.files.now self.old set (Named text.now) any self.new) }
     {
-        self.patterns += 1;
+        context.net.keeps();
         let pattern = Glob::new(context.alloc, text.as_bytes())?;
-        let marks = matching(context.alloc, context.net, &pattern)?;
-        let any = has_mark(marks.as_slice());
-        add_marks(&mut self.marked, name, marks)?;
+        let mut any = false;
+        for node in 0..context.net.nodes() {
+            if pattern.matches(context.net.name(node).as_bytes()) {
+                let place = context.files.len() + node as usize;
+                any = self.add_span(set, place, place + 1);
+            }
+        }
+        self.patterns += 1;
         Ok(any)
     }
 
-    /// Adds the selected modules to the set whose name has this number, and returns whether there is one.
+    /// Adds the selected modules to the set at this index, if there is one, and returns whether there is such a module.
     pub(crate) fn add(
         &mut self,
         context: &LineContext<'_>,
-        name: usize,
+        set: Option<usize>,
         selector: Selector<'_>,
     ) -> Result<bool, AllocError>
         requires sorted { ArePathsInOrder context.now.files.now }
-        requires sized { AreSized (length context.now.net.now.names) self.old.marked.items }
+        requires set { IfSome set (λ s. s < length self.old.sets.items) }
+        requires table { IsTableFor context.now self.old }
         requires few { self.old.patterns ≤ 4096 }
-        ensures { IfOk result (λ any. IsAddition context.now.net.now context.now.files.now self.old name (selector_content selector.entry) any self.new) }
+        ensures { IfOk result (λ any. IsAddition context.now.net.now context.now.files.now self.old set (selector_content selector.entry) any self.new) }
     {
         match selector {
-            Selector::Module(module) => self.add_module(context, name, module),
+            Selector::Module(module) => Ok(self.add_module(context, set, module)),
             Selector::Folder(path) => {
                 let (from, to) = places_below(context.alloc, context.files, path.as_bytes())?;
-                let any = self.add_span(Span { name, from, to })?;
-                Ok(any)
+                Ok(self.add_span(set, from, to))
             }
-            Selector::Named(pattern) => self.add_matching(context, name, pattern),
-            Selector::Tree => {
-                let any = self.add_span(Span {
-                    name,
-                    from: 0,
-                    to: context.files.len(),
-                })?;
-                Ok(any)
-            }
+            Selector::Named(pattern) => self.add_matching(context, set, pattern),
+            Selector::Tree => Ok(self.add_span(set, 0, context.files.len())),
         }
     }
 }

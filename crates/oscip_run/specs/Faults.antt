@@ -1,5 +1,5 @@
 -- The conversion of faults of other crates to those of a run, the texts of faults, and their exit statuses.
-use Rattle.std.specs.Prelude.{ℕ, Bool, true, false, List, ◌++◌, codes, if◌then◌else◌}
+use Rattle.std.specs.Prelude.{ℕ, Bool, true, false, List, [], ◌++◌, codes, if◌then◌else◌}
 use Rattle.std.specs.List.{flat_map}
 use Rattle.std.specs.Fmt.{decimal}
 use Rattle.std.specs.String.{string_bytes}
@@ -110,6 +110,16 @@ rules_fault_text (rules.EmptySet line text) = decimal line ++ (codes ": EmptySet
 rules_fault_text (rules.TooMany line) = decimal line ++ codes ": TooMany"
 rules_fault_text rules.Memory = codes "Memory"
 
+-- the name, path or pattern at the end of the text of a fault of rules
+abbrev pub last_rules_name : RulesFault → List ℕ
+last_rules_name (rules.BadLine line) = []
+last_rules_name (rules.SetIsModule line name) = string_bytes name
+last_rules_name (rules.NoSuchModule line name) = string_bytes name
+last_rules_name (rules.TwiceAllowed line importer imported) = string_bytes imported
+last_rules_name (rules.EmptySet line text) = string_bytes text
+last_rules_name (rules.TooMany line) = []
+last_rules_name rules.Memory = []
+
 -- the text of a fault of a report
 abbrev pub report_fault_text : ReportFault → List ℕ
 report_fault_text (report.BadLine line) = decimal line ++ codes ": BadLine"
@@ -138,6 +148,20 @@ fault_text style (Rules fault) = rules_fault_text fault
 fault_text style (Query fault) = query_fault_text fault
 fault_text style Device = codes "cannot write"
 fault_text style Memory = codes "Memory"
+
+-- the name at the end of the text of a fault, if that may have as many bytes as the input
+abbrev pub last_name : RunFault → List ℕ
+last_name (CannotRead path) = []
+last_name (CannotWrite path) = []
+last_name (Tree fault) = []
+last_name (Net fault) = []
+last_name (Price fault) = []
+last_name (Report fault) = []
+last_name (Solve fault) = []
+last_name (Rules fault) = last_rules_name fault
+last_name (Query fault) = []
+last_name Device = []
+last_name Memory = []
 
 -- the status of a fault of a network: 1 for rejected input, 4 for memory
 abbrev pub net_status : NetFault → ℕ

@@ -1,7 +1,7 @@
 //! The faults of runs, the lines that report them, and their exit statuses.
 ghost use Rattle.std.specs.Prelude.{◌≡◌, ◌++◌, IfOk, codes};
 ghost use Rattle.std.specs.String.{string_bytes};
-ghost use Rattle.oscip_run.specs.Faults.{fault_text, net_status, net_fault_text, price_fault_text, price_status, report_status, report_fault_text, rules_fault_text, rules_status, solve_fault_text, solve_status, status_number, tree_status};
+ghost use Rattle.oscip_run.specs.Faults.{fault_text, last_name, last_rules_name, net_status, net_fault_text, price_fault_text, price_status, report_status, report_fault_text, rules_fault_text, rules_status, solve_fault_text, solve_status, status_number, tree_status};
 ghost use Rattle.text_escape.specs.Escapes.{escaped, IsOneLine};
 ghost use Rattle.text_escape.specs.Places.{style_of};
 
@@ -14,7 +14,7 @@ use index_store::{QueryFault, query_fault_text, query_status};
 use oscip_tree::{TreeFault, after_spaces, tree_fault_text, wants_memory};
 use std::alloc::{AllocError, Global};
 use text_escape::laws::no_control;
-use text_escape::{PlaceStyle, escaped};
+use text_escape::{EscapingWriter, PlaceStyle};
 use thiserror::Error;
 
 /// Why a run fails. The conversions from faults of other crates map a failed allocation to `Memory` and a failed device to `Device`.
@@ -211,25 +211,34 @@ fn price_fault_text(alloc: Global, fault: &PriceFault) -> Result<String, AllocEr
     }
 }
 
-fn rules_fault_text(alloc: Global, fault: &RulesFault) -> Result<String, AllocError>
-    ensures { IfOk result (λ t. string_bytes t ≡ rules_fault_text fault.now) }
+/// The text of a fault of rules, up to its last name.
+fn rules_fault_start(alloc: Global, fault: &RulesFault) -> Result<String, AllocError>
+    ensures { IfOk result (λ t. string_bytes t ++ last_rules_name fault.now ≡ rules_fault_text fault.now) }
 {
     match fault {
         RulesFault::BadLine { line } => format!(in alloc; "{line}: BadLine"),
-        RulesFault::SetIsModule { line, name } => {
-            format!(in alloc; "{line}: SetIsModule {name}")
+        RulesFault::SetIsModule { line, .. } => format!(in alloc; "{line}: SetIsModule "),
+        RulesFault::NoSuchModule { line, .. } => format!(in alloc; "{line}: NoSuchModule "),
+        RulesFault::TwiceAllowed { line, importer, .. } => {
+            format!(in alloc; "{line}: TwiceAllowed {importer} ")
         }
-        RulesFault::NoSuchModule { line, name } => {
-            format!(in alloc; "{line}: NoSuchModule {name}")
-        }
-        RulesFault::TwiceAllowed {
-            line,
-            importer,
-            imported,
-        } => format!(in alloc; "{line}: TwiceAllowed {importer} {imported}"),
-        RulesFault::EmptySet { line, text } => format!(in alloc; "{line}: EmptySet {text}"),
+        RulesFault::EmptySet { line, .. } => format!(in alloc; "{line}: EmptySet "),
         RulesFault::TooMany { line } => format!(in alloc; "{line}: TooMany"),
         RulesFault::Memory => String::from_str(alloc, "Memory"),
+    }
+}
+
+/// The name, path or pattern at the end of the text of a fault of rules.
+fn last_rules_name(fault: &RulesFault) -> &str
+    ensures { result.now ≡ last_rules_name fault.now }
+{
+    match fault {
+        RulesFault::SetIsModule { name, .. } | RulesFault::NoSuchModule { name, .. } => {
+            name.as_str()
+        }
+        RulesFault::TwiceAllowed { imported, .. } => imported.as_str(),
+        RulesFault::EmptySet { text, .. } => text.as_str(),
+        RulesFault::BadLine { .. } | RulesFault::TooMany { .. } | RulesFault::Memory => "",
     }
 }
 
@@ -256,8 +265,9 @@ fn solve_fault_text(alloc: Global, fault: &SolveFault) -> Result<String, AllocEr
     }
 }
 
-fn text_of(alloc: Global, style: PlaceStyle<'_>, fault: &RunFault) -> Result<String, AllocError>
-    ensures { IfOk result (λ t. string_bytes t ≡ fault_text (style_of style.entry) fault.now) }
+/// The text of a fault, up to the last name if that may have as many bytes as the input. So no copy is made of such a name but that in the line.
+fn start_of(alloc: Global, style: PlaceStyle<'_>, fault: &RunFault) -> Result<String, AllocError>
+    ensures { IfOk result (λ t. string_bytes t ++ last_name fault.now ≡ fault_text (style_of style.entry) fault.now) }
 {
     match fault {
         RunFault::CannotRead { path } => format!(in alloc; "cannot read {path}"),
@@ -265,12 +275,31 @@ fn text_of(alloc: Global, style: PlaceStyle<'_>, fault: &RunFault) -> Result<Str
         RunFault::Tree(fault) => tree_fault_text(alloc, style, fault),
         RunFault::Net(fault) => net_fault_text(alloc, fault),
         RunFault::Price(fault) => price_fault_text(alloc, fault),
-        RunFault::Rules(fault) => rules_fault_text(alloc, fault),
+        RunFault::Rules(fault) => rules_fault_start(alloc, fault),
         RunFault::Report(fault) => report_fault_text(alloc, fault),
         RunFault::Solve(fault) => solve_fault_text(alloc, fault),
         RunFault::Query(fault) => query_fault_text(alloc, fault),
         RunFault::Device => String::from_str(alloc, "cannot write"),
         RunFault::Memory => String::from_str(alloc, "Memory"),
+    }
+}
+
+/// The name at the end of the text of a fault that may have as many bytes as the input.
+fn last_name(fault: &RunFault) -> &str
+    ensures { result.now ≡ last_name fault.now }
+{
+    match fault {
+        RunFault::Rules(fault) => last_rules_name(fault),
+        RunFault::CannotRead { .. }
+        | RunFault::CannotWrite { .. }
+        | RunFault::Tree(_)
+        | RunFault::Net(_)
+        | RunFault::Price(_)
+        | RunFault::Report(_)
+        | RunFault::Solve(_)
+        | RunFault::Query(_)
+        | RunFault::Device
+        | RunFault::Memory => "",
     }
 }
 
@@ -287,9 +316,13 @@ pub fn fault_line(
     ensures one_line { IfOk result (λ t. IsOneLine (string_bytes t)) }
 {
     no_control();
-    let text = text_of(alloc, style, fault)?;
-    let shown = escaped(alloc, text.as_str())?;
-    format!(in alloc; "oscip: {shown}\n")
+    let start = start_of(alloc, style, fault)?;
+    let mut line = String::from_str(alloc, "oscip: ")?;
+    let mut writer = EscapingWriter::new();
+    writer.push(&mut line, start.as_str())?;
+    writer.push(&mut line, last_name(fault))?;
+    line.push('\n')?;
+    Ok(line)
 }
 
 fn net_status(fault: &NetFault) -> u8

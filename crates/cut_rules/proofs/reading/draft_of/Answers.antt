@@ -5,15 +5,15 @@ use Rattle.std.proofs.lemmas.Option.{slice_get_read}
 use Rattle.std.proofs.lemmas.Result.{err_from_is_err_and}
 use Rattle.std.proofs.lemmas.Iterator.Consumers.{YieldsList-at, YieldsList-turn, YieldsList-end}
 use Rattle.std.proofs.lemmas.Iterator.Splits.{YieldsList-from_slice_split}
-use Rattle.cut_net.specs.Network.{texts}
 use Rattle.cut_rules.specs.declared.fault.RulesFault.{RulesFault}
+use Rattle.cut_rules.specs.Names.{names_in}
 use Rattle.cut_rules.specs.Drafts.{IsDraft}
 use Rattle.cut_rules.specs.RuleLines.{pieces_of}
 use Rattle.cut_rules.proofs.TextLaws.{empty_draft}
 use Rattle.cut_rules.proofs.reading.draft_of.Goals as goal
 
 pub loop-piece-init : goal.loop-piece-init
-loop-piece-init c = (refl, empty_draft c.args.context.now.net.now c.args.context.now.files.now (texts c.args.context.now.sets.now) (pieces_of c.args.bytes.now) c.in_ok-draft.draft c.in_ok-draft.ensures)
+loop-piece-init c = (refl, empty_draft c.args.context.now (pieces_of c.args.bytes.now) c.in_ok-draft.draft c.in_ok-draft.ensures)
 
 pub take-requires-clause-there : goal.take-requires-clause-there
 take-requires-clause-there c =
@@ -25,7 +25,7 @@ take-requires-clause-there c =
     let there = slice_get_read pieces _ count c.in-Some.piece.now refl turn.0 turn.1 in
     let (number, drafted) = c.loop-piece.invariant in
     let next = ap (λ (n : ℕ). n + 1) number in
-    (pieces, record { place = count; number = next; there = there }, record { place = count; number = next; sets_are = c.requires.sets; drafted = drafted })
+    (pieces, record { place = count; number = next; there = there }, record { place = count; number = next; names = c.requires.names; drafted = drafted })
 
 pub returns-in_err-take-clause-fault : goal.returns-in_err-take-clause-fault
 returns-in_err-take-clause-fault c =
@@ -39,7 +39,7 @@ returns-in_err-take-clause-fault c =
     let next = ap (λ (n : ℕ). n + 1) number in
     let given = err_from_is_err_and c.from_residual-in_err-take.result c.from_residual-in_err-take.ensures.1 in
     rw (given.1 ∙ ap (λ (e : RulesFault). Err e) given.2)
-    (c.in_err-take.ensures pieces (record { place = count; number = next; there = there }) (record { place = count; number = next; sets_are = c.requires.sets; drafted = drafted }))
+    (c.in_err-take.ensures pieces (record { place = count; number = next; there = there }) (record { place = count; number = next; names = c.requires.names; drafted = drafted }))
 
 pub loop-piece-preserved : goal.loop-piece-preserved
 loop-piece-preserved c =
@@ -53,8 +53,8 @@ loop-piece-preserved c =
     let next = ap (λ (n : ℕ). n + 1) number in
     let long = next ∙ sym (length_push c.loop-piece.yielded c.in-Some.piece) in (
       long,
-      subst (λ (n : ℕ). IsDraft c.args.context.now.net.now c.args.context.now.files.now (texts c.args.context.now.sets.now) pieces n c.take.new.self) long
-          (c.in_ok-take.ensures pieces (record { place = count; number = next; there = there }) (record { place = count; number = next; sets_are = c.requires.sets; drafted = drafted })),
+      subst (λ (n : ℕ). IsDraft c.args.context.now.net.now c.args.context.now.files.now (names_in c.args.context.now.names.now.sets.keys) pieces n c.take.new.self) long
+          (c.in_ok-take.ensures pieces (record { place = count; number = next; there = there }) (record { place = count; number = next; names = c.requires.names; drafted = drafted })),
     )
 
 pub returns-clause-drafted : goal.returns-clause-drafted
@@ -63,4 +63,4 @@ returns-clause-drafted c =
     (YieldsList-from_slice_split _ (λ b. eqb b 10) c.args.bytes.now c.split-piece-items.ensures.rest c.split-piece-items.ensures.done c.split-piece-items.ensures.closure (λ x b q k. search (rules, tests))))
     c.loop-piece.yielded _ c.loop-piece.yielded_by _ _ c.in-None.is c.next.ensures.steps in
     let (number, drafted) = c.loop-piece.invariant in
-    subst (λ (n : ℕ). IsDraft c.args.context.now.net.now c.args.context.now.files.now (texts c.args.context.now.sets.now) (pieces_of c.args.bytes.now) n c.loop-piece.draft) done.1 drafted
+    subst (λ (n : ℕ). IsDraft c.args.context.now.net.now c.args.context.now.files.now (names_in c.args.context.now.names.now.sets.keys) (pieces_of c.args.bytes.now) n c.loop-piece.draft) done.1 drafted

@@ -1,4 +1,4 @@
-use Rattle.std.proofs.Common.{◌≡◌, ◌<◌, ℕ, List, length, arith, subst}
+use Rattle.std.proofs.Common.{◌<◌, ℕ, List, length, arith, subst}
 use Rattle.std.proofs.lemmas.List.{take_all}
 use Rattle.cut_rules.specs.Judged.{IsMarkSet}
 use Rattle.cut_rules.proofs.NodeMarks.{mark_next}

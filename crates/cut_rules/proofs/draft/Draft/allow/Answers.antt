@@ -1,11 +1,11 @@
 -- A line that allows an import.
 use Rattle.std.proofs.Common.{◌≡◌, ◌∙◌, ◌+◌, ℕ, Bool, true, false, not, List, Some, refl, sym, ap₂, subst, arith}
 use Rattle.std.proofs.lemmas.Bool.{false≢true}
-use Rattle.cut_net.specs.Network.{texts}
 use Rattle.cut_net.proofs.Noting.{absent_is}
 use Rattle.cut_rules.specs.RuleLines.{Adds, Allow, Restricts, Says}
 use Rattle.cut_rules.specs.Rules.{TwiceAllowed}
 use Rattle.cut_rules.specs.Drafts.{AreStale}
+use Rattle.cut_rules.specs.Names.{names_in}
 use Rattle.cut_rules.proofs.LineLaws.{says_one}
 use Rattle.cut_rules.proofs.FaultLaws.{allow_right, right_line, twice_first, wrong_line}
 use Rattle.cut_rules.proofs.PairLaws.{pairs_added}
@@ -41,7 +41,7 @@ returns-in_default c = λ pieces (t, says).
     let context = c.args.context.now in
     let net = context.net.now in
     let files = context.files.now in
-    let sets = texts context.sets.now in
+    let sets = names_in context.names.now.sets.keys in
     let m = c.args.importer.now in
     let n = c.args.imported.now in
     let here : Says pieces (t.place + 1) (Allow m n) = subst (λ (l : ℕ). Says pieces l (Allow m n)) t.number says in
@@ -57,14 +57,13 @@ returns-in_default c = λ pieces (t, says).
     (subst (AreStale net pieces (t.place + 1)) (sym c.in_ok-push.ensures.items)
     (stale_added net files sets pieces t.place m n here c.args.self.now.stale.items (record { line = context.line; importer = c.args.importer; imported = c.args.imported }) t.number refl refl lacks t.drafted.stale))
     (pairs_added (λ key. key.0.now) (λ key. key.1.now) pieces t.place c.args.self.now.pairs c.insert.new.self (c.args.importer, c.args.imported) c.in_ok-insert.ensures.keys here t.drafted.pairs)
-    t.drafted.last_set
 
 pub returns : goal.returns
 returns c = λ pieces (t, says).
     let context = c.args.context.now in
     let net = context.net.now in
     let files = context.files.now in
-    let sets = texts context.sets.now in
+    let sets = names_in context.names.now.sets.keys in
     let m = c.args.importer.now in
     let n = c.args.imported.now in
     let here : Says pieces (t.place + 1) (Allow m n) = subst (λ (l : ℕ). Says pieces l (Allow m n)) t.number says in
@@ -79,4 +78,3 @@ returns c = λ pieces (t, says).
     (allowed_added net files sets pieces t.place m n here c.keeps.ensures.network c.args.self.now.allowed.items c.in-Some.number found.0 found.1 t.drafted.allowed)
     (stale_same net files sets pieces t.place c.args.self.now.stale.items (fresh net files sets pieces t.place m n here c.in-Some.number found.0 found.1) t.drafted.stale)
     (pairs_added (λ key. key.0.now) (λ key. key.1.now) pieces t.place c.args.self.now.pairs c.insert.new.self (c.args.importer, c.args.imported) c.in_ok-insert.ensures.keys here t.drafted.pairs)
-    t.drafted.last_set

@@ -1,10 +1,10 @@
 -- What a line states.
 use Rattle.std.proofs.Common.{◌≡◌, ◌∙◌, ◌+◌, ℕ, List, Some, refl, sym, ap, subst}
-use Rattle.cut_net.specs.Network.{texts}
 use Rattle.cut_rules.specs.declared.line.Line.{Line}
 use Rattle.cut_rules.specs.LineReading.{line_content, rule_line_of, selector_content}
 use Rattle.cut_rules.specs.RuleLines.{RuleLine, Adds, Allow, IsPieceAt, Restricts, Says}
 use Rattle.cut_rules.specs.Rules.{BadLine}
+use Rattle.cut_rules.specs.Names.{names_in}
 use Rattle.cut_rules.proofs.LineLaws.{idle_says, line_takes}
 use Rattle.cut_rules.proofs.FaultLaws.{bad_line, idle_line}
 use Rattle.cut_rules.proofs.DraftLaws.{allowed_same, made, pairs_same, rules_same, stale_same, table_same}
@@ -19,7 +19,7 @@ returns-then-is_idle c = λ pieces at t.
     let context = c.args.context.now in
     let net = context.net.now in
     let files = context.files.now in
-    let sets = texts context.sets.now in
+    let sets = names_in context.names.now.sets.keys in
     let piece = c.args.piece.now in
     let idle = sym c.is_idle.ensures ∙ c.if-is_idle.true in
     let here : IsPieceAt pieces (t.place + 1) piece = subst (λ (n : ℕ). IsPieceAt pieces n piece) t.number at in
@@ -30,7 +30,6 @@ returns-then-is_idle c = λ pieces at t.
     (allowed_same net files sets pieces t.place c.args.self.now.allowed.items (λ m n. none (Allow m n)) t.drafted.allowed)
     (stale_same net files sets pieces t.place c.args.self.now.stale.items (λ m n is. none (Allow m n) is.0) t.drafted.stale)
     (pairs_same net files sets pieces t.place c.args.self.now.pairs (λ key. key.0.now) (λ key. key.1.now) (λ m n. none (Allow m n)) t.drafted.pairs)
-    t.drafted.last_set
 
 pub returns-in-None : goal.returns-in-None
 returns-in-None c = λ pieces at t.
@@ -45,6 +44,11 @@ pub add-requires-clause-stated : goal.add-requires-clause-stated
 add-requires-clause-stated c =
     let (pieces, at, t) = c.requires.there in
     (pieces, (t, stated pieces c.args.context.now.line c.args.piece.now (Adds c.in-Some-Adds.set.now (selector_content c.in-Some-Adds.selector)) at (sym c.in-Some-Adds.ensures ∙ ap (λ (l : Line). Some (line_content l)) c.in-Some-Adds.field-0-is)))
+
+pub restrict-requires : goal.restrict-requires
+restrict-requires c =
+    let (pieces, at, t) = c.requires.there in
+    (pieces, (t, stated pieces c.args.context.now.line c.args.piece.now (Restricts c.in-Some-Restricts.kind c.in-Some-Restricts.first.now c.in-Some-Restricts.second.now) at (sym c.in-Some-Restricts.ensures ∙ ap (λ (l : Line). Some (line_content l)) c.in-Some-Restricts.field-0-is)))
 
 pub allow-requires : goal.allow-requires
 allow-requires c =

@@ -1,20 +1,45 @@
-use Rattle.std.proofs.Common.{◌+◌, ◌∙◌, ℕ, List, Some, sym, ap}
-use Rattle.digraph.proofs.Ordered.{sorted_strings}
+use Rattle.std.proofs.Common.{◌+◌, ◌∙◌, ℕ, List, Some, inl, sym, ap}
 use Rattle.cut_rules.specs.Rules.{NoSuchModule}
-use Rattle.cut_rules.proofs.Numbers.{no_number, no_some, set_numbered}
+use Rattle.cut_rules.specs.Names.{names_in}
+use Rattle.cut_rules.proofs.Numbers.{is_module, module_index, no_some, number_module, set_apart, set_known, set_numbered, unknown}
 use Rattle.cut_rules.proofs.draft.LineContext.number_of.Goals as goal
 
-pub place_of-requires : goal.place_of-requires
-place_of-requires c = sorted_strings c.args.self.now.sets.now c.requires
+pub declared_set-requires : goal.declared_set-requires
+declared_set-requires c = let (pieces, names) = c.requires in names.declared.size
 
-pub returns-in-Some-place_of-clause-found : goal.returns-in-Some-place_of-clause-found
-returns-in-Some-place_of-clause-found c =
-    let none = sym c.index_of.ensures ∙ no_some c.index_of.result c.in_default.not-Some in
-    let place = c.in-Some-place_of.place in
-    set_numbered c.args.self.now.net.now c.args.self.now.sets.now c.args.name.now place none (sym c.place_of.ensures ∙ c.in-Some-place_of.is) ∙ ap (λ (n : ℕ). Some (n + place)) (sym c.nodes.ensures)
+pub returns-in-Some-clause-found : goal.returns-in-Some-clause-found
+returns-in-Some-clause-found c =
+    let context = c.args.self.now in
+    let (pieces, names) = c.requires in
+    number_module context.net.now (names_in context.names.now.sets.keys) c.args.name.now c.in-Some.module
+    (module_index context.net.now pieces context.names.now names c.args.name.now c.place_in.result (rw c.as_bytes.ensures.value at c.place_in.ensures.place) ∙ c.in-Some.is)
+
+pub returns-in-Some-clause-known : goal.returns-in-Some-clause-known
+returns-in-Some-clause-known c pieces names =
+    let context = c.args.self.now in
+    inl (is_module context.net.now c.args.name.now c.in-Some.module
+    (module_index context.net.now pieces context.names.now names c.args.name.now c.place_in.result (rw c.as_bytes.ensures.value at c.place_in.ensures.place) ∙ c.in-Some.is))
+
+pub returns-in-Some-declared_set-clause-found : goal.returns-in-Some-declared_set-clause-found
+returns-in-Some-declared_set-clause-found c =
+    let context = c.args.self.now in
+    let (pieces, names) = c.requires in
+    let set = c.in-Some-declared_set.set in
+    let (there, is) = c.in-Some-declared_set.ensures.found in
+    set_numbered context.net.now (names_in context.names.now.sets.keys) c.args.name.now set (set_apart context.net.now pieces context.names.now names c.args.name.now set there) there ∙ ap (λ (n : ℕ). Some (n + set)) (sym c.nodes.ensures)
+
+pub returns-in-Some-declared_set-clause-known : goal.returns-in-Some-declared_set-clause-known
+returns-in-Some-declared_set-clause-known c pieces names =
+    let context = c.args.self.now in
+    let (there, is) = c.in-Some-declared_set.ensures.found in
+    set_known context.net.now pieces context.names.now names c.args.name.now c.in-Some-declared_set.set there is
 
 pub returns-clause-none : goal.returns-clause-none
 returns-clause-none c =
-    let none = sym c.index_of.ensures ∙ no_some c.index_of.result c.in_default.not-Some in
-    let missing = sym c.place_of.ensures ∙ no_some c.place_of.result c.in_default-place_of.not-Some in
-    (no_number c.args.self.now.net.now c.args.self.now.sets.now c.args.name.now none missing, ap (λ (t : List ℕ). Some (c.args.self.now.line, NoSuchModule t)) c.in_ok-from_str.ensures.ok)
+    let context = c.args.self.now in (
+      ap (λ (t : List ℕ). Some (context.line, NoSuchModule t)) c.in_ok-from_str.ensures.ok,
+      λ pieces names.
+          unknown context.net.now pieces context.names.now names c.args.name.now
+          (module_index context.net.now pieces context.names.now names c.args.name.now c.place_in.result (rw c.as_bytes.ensures.value at c.place_in.ensures.place) ∙ no_some c.place_in.result c.in_default.not-Some)
+          c.in_default-declared_set.ensures.none,
+    )

@@ -1,24 +1,23 @@
-use Rattle.std.proofs.Common.{◌≡◌, ℕ, Bool, List, true, false, get_or, ap, subst, ◌∙◌, arith}
-use Rattle.std.specs.Prelude.{Contains}
-use Rattle.std.proofs.lemmas.List.{get_or-replicate}
-use Rattle.std.proofs.lemmas.List.Elements.{Contains-get_or}
+use Rattle.std.proofs.Common.{◌≡◌, ◌∙◌, Bool, List, true, false, inl, inr, length, sym, ap, arith}
+use Rattle.std.proofs.lemmas.List.{with_items_is}
 use Rattle.digraph.specs.Marks.{marked}
-use Rattle.cut_rules.specs.Judged.{IsMarkSet}
-use Rattle.cut_rules.proofs.NodeMarks.{marked_all}
+use Rattle.cut_rules.proofs.Marking.{no_marks}
 use Rattle.cut_rules.proofs.reading.Rules.marks.Goals as goal
 
-pub set_marks-requires : goal.set_marks-requires
-set_marks-requires c = λ k d lt.
-    let items = c.as_slice.result.now in
-    let low = c.in_ok-members.ensures.within (get_or items k d) (subst (λ (l : List ℕ). Contains l (get_or items k d)) c.as_slice.ensures.value (Contains-get_or items k d lt)) in
-    let long = c.in_ok-marks.ensures.len in
-    let nodes = c.nodes.ensures in
-    omega arith
+pub returns-clause-size : goal.returns-clause-size
+returns-clause-size c = let long = c.in_ok-marks.ensures.len in let nodes = c.nodes.ensures in omega arith
 
 pub returns-clause-are : goal.returns-clause-are
-returns-clause-are c = λ m low.
-    let set = subst (λ (l : List ℕ). IsMarkSet l true c.in_ok-marks.marks.items c.set_marks.new.marks.items m) c.as_slice.ensures.value (c.set_marks.ensures.marks m) in
-    let none : marked c.in_ok-marks.marks.items m ≡ false = ap (λ (ms : List Bool). marked ms m) (c.in_ok-marks.ensures.items_if_clones_equal (λ y e. e)) ∙ get_or-replicate c.nodes.result m false false (let nodes = c.nodes.ensures in omega arith) in
-    let all = marked_all c.in_ok-members.members.items c.in_ok-marks.marks.items c.set_marks.new.marks.items m set none in
-    let are = c.in_ok-members.ensures.are m low in
-    (λ e. are.0 (all.0 e), λ named. all.1 (are.1 named))
+returns-clause-are c m low =
+    let start = c.as_mut_slice.ensures.value in
+    let begun = ap length start in
+    let ok = c.in_ok-marks.marks.ok.0 in
+    let long = c.in_ok-marks.ensures.len in
+    let nodes = c.nodes.ensures in
+    let size = c.mark_named.ensures.size in
+    let whole = ap (λ (ms : List Bool). marked ms m) (with_items_is c.in_ok-marks.marks c.mark_named.new.marks (omega arith)) in
+    let none : marked c.as_mut_slice.result.now m ≡ false = ap (λ (ms : List Bool). marked ms m) (start ∙ c.in_ok-marks.ensures.items_if_clones_equal (λ y e. e)) ∙ no_marks c.nodes.result m in
+    let law = c.mark_named.ensures.marks m (omega arith) in (
+      λ e. elim (law.0 (sym whole ∙ e)) [ inl was ↦ absurd (let bad : true ≡ false = sym was ∙ none in cc) | inr named ↦ named ],
+      λ named. whole ∙ law.1 (inr named),
+    )

@@ -1,27 +1,30 @@
-use Rattle.std.proofs.Common.{◌∙◌, sym, refl, arith}
+use Rattle.std.proofs.Common.{◌∙◌, ◌+◌, ℕ, List, [], length, refl, sym, ap, arith}
+use Rattle.cut_net.specs.Network.{index_of, unpinned}
+use Rattle.cut_net.proofs.Places.{index_takes}
 use Rattle.cut_rules.specs.RuleLines.{Module}
-use Rattle.cut_rules.proofs.Numbers.{no_some}
-use Rattle.cut_rules.proofs.TableLaws.{members_added, module_placed, module_selected, no_module_selected, nothing_added}
+use Rattle.cut_rules.proofs.TableLaws.{module_addition, no_module_selected, nothing_added}
 use Rattle.cut_rules.proofs.table.SetTable.add_module.Goals as goal
 
 pub returns-in_default : goal.returns-in_default
 returns-in_default c =
     let net = c.args.context.now.net.now in
     let files = c.args.context.now.files.now in
-    nothing_added net files c.args.self.now c.args.self.now c.args.name (Module c.args.text.now) refl refl (omega arith) c.requires
-    (no_module_selected net c.keeps.ensures.network files c.args.text.now (sym c.index_of.ensures ∙ no_some c.index_of.result c.in_default.not-Some))
+    let place = rw c.as_bytes.ensures.value at c.place_in.ensures.place in
+    nothing_added net files c.args.self.now c.args.set (Module c.args.text.now) refl
+    (no_module_selected net c.keeps.ensures.network files c.args.text.now (ap (λ (ns : List (List ℕ)). index_of (unpinned ns []) c.args.text.now) (sym c.requires.table.names) ∙ sym place ∙ c.in_default.is))
+
+pub add_span-requires-clause-sized : goal.add_span-requires-clause-sized
+add_span-requires-clause-sized c =
+    let net = c.args.context.now.net.now in
+    let place = rw c.as_bytes.ensures.value at c.place_in.ensures.place in
+    let low = (index_takes net c.args.text.now c.in-Some.number (ap (λ (ns : List (List ℕ)). index_of (unpinned ns []) c.args.text.now) (sym c.requires.table.names) ∙ sym place ∙ c.in-Some.is)).0 in
+    (length c.args.context.now.files.now + length net.names, c.requires.table.sized, omega arith)
 
 pub returns : goal.returns
 returns c =
     let net = c.args.context.now.net.now in
     let files = c.args.context.now.files.now in
-    let text = c.args.text.now in
-    let i = c.in-Some.number in
-    let there = sym c.index_of.ensures ∙ c.in-Some.is in
-    let count = c.add_span.ensures.patterns in
-    record {
-      any_is = ((λ e. (i, module_selected net files text i there)), (λ is. c.in_ok-any.ensures.any.1 (omega arith)));
-      added = members_added net files c.args.self.now c.add_span.new.self c.args.name _ _ (Module text) c.in_ok-any.any (λ m low. module_placed net c.keeps.ensures.network files text i there m low) c.add_span.ensures.marked (c.in_ok-any.ensures.spans files);
-      patterns = omega arith;
-      sized = rw c.add_span.ensures.marked c.requires;
-    }
+    let place = rw c.as_bytes.ensures.value at c.place_in.ensures.place in
+    let is = c.add_span.ensures in
+    module_addition net files c.args.self.now c.add_span.new.self c.args.set _ _ c.add_span.result is.sets is.any is.patterns is.modules is.count is.sized c.keeps.ensures.network c.args.text.now c.in-Some.number
+    (ap (λ (ns : List (List ℕ)). index_of (unpinned ns []) c.args.text.now) (sym c.requires.table.names) ∙ sym place ∙ c.in-Some.is) refl refl

@@ -1,4 +1,4 @@
-use Rattle.std.proofs.Common.{◌≡◌, ◌∙◌, drop, take, rules}
+use Rattle.std.proofs.Common.{◌∙◌, drop, take}
 use Rattle.std.specs.String.{string_bytes}
 use Rattle.std.proofs.lemmas.Result.{err_from_is_err_and}
 use Rattle.text_pieces.proofs.Joining.{lines, lines_split, some_front}

@@ -1,0 +1,5 @@
+use Rattle.cut_rules.specs.Drafts.{AreEmptySets}
+use Rattle.cut_rules.proofs.table.empty_sets.Given as goal
+
+abbrev pub invariant-loop : goal.invariant-loop
+invariant-loop l = AreEmptySets l.counter l.places l.sets.items
