@@ -10,7 +10,7 @@ pub data Entry : Type 0 where
   Link : List ℕ → Entry
   Other : Entry
 
--- its kind
+-- the kind of what a path names
 abbrev pub kind_of : Entry → FileKind
 kind_of Missing = kinds.Missing
 kind_of (File bytes) = kinds.File
@@ -24,15 +24,15 @@ IsFileOrMissing (File bytes) = Unit {0}
 IsFileOrMissing (Link target) = ⊥
 IsFileOrMissing Other = ⊥
 
--- each path names what it named
+-- each path names what it named before
 abbrev pub KeepsAll : (List ℕ → Entry) → (List ℕ → Entry) → Type 0
 KeepsAll old new = (path : List ℕ) → new path ≡ old path
 
--- each path but this one names what it named
+-- each path but this one names what it named before
 abbrev pub KeepsOthers : (List ℕ → Entry) → (List ℕ → Entry) → List ℕ → Type 0
 KeepsOthers old new changed = (path : List ℕ) → path ≢ changed → new path ≡ old path
 
--- one path lost its file, another names a file with these bytes, and each other one what it named
+-- the path `from` names nothing, the path `to` names a file with these bytes, and each other path names what it named before
 pub record RenamedTo (old new : List ℕ → Entry) (from to bytes : List ℕ) : Type 0 where
   pub from_is : new from ≡ Missing
   pub to_is : new to ≡ File bytes

@@ -1,17 +1,17 @@
--- What the faults of a replacement say.
+-- Properties of the errors of a replacement.
 use Rattle.std.specs.Prelude.{◌≡◌, ℕ, List}
 use Rattle.std.specs.String.{string_bytes}
 use Rattle.atomic_file.specs.declared.replace.ReplaceFault.{ReplaceFault}
 use Rattle.atomic_file.specs.declared.replace.ReplaceFault.TheVariants.{Target, Partial, Content, Memory}
 
--- the path that is to be replaced, or memory
+-- the error is `Target` or `Memory`
 abbrev pub IsOfTarget : {E : Type 0} → ReplaceFault E → Type 0
 IsOfTarget Target = Unit {0}
 IsOfTarget (Partial path) = ⊥
 IsOfTarget (Content fault) = ⊥
 IsOfTarget Memory = Unit {0}
 
--- a fault of the new file has this path
+-- if the error is one of the new file, it has this path
 abbrev pub HasPath : {E : Type 0} → ReplaceFault E → List ℕ → Type 0
 HasPath Target path = Unit {0}
 HasPath (Partial it) path = string_bytes it ≡ path
@@ -25,7 +25,7 @@ IsMemory (Partial path) = ⊥
 IsMemory (Content fault) = ⊥
 IsMemory Memory = Unit {0}
 
--- a fault of the content is one that the content has
+-- if the error is one of the content, the content's writer may return it
 abbrev pub IsFaultOf : {E : Type 0} → (E → Type 0) → ReplaceFault E → Type 0
 IsFaultOf HasFault Target = Unit {0}
 IsFaultOf HasFault (Partial path) = Unit {0}

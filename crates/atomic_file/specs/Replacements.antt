@@ -2,15 +2,15 @@
 use Rattle.std.specs.Prelude.{◌≡◌, ℕ, List, [], ◌++◌, Option, Some, codes}
 use Rattle.atomic_file.specs.Entries.{Entry, Missing, File, Link, Other, RenamedTo}
 
--- the path of the file that a path stands for: where a link leads, or the path itself
+-- the path of the file to replace: the target of a link, or else the path itself
 abbrev pub target_of : (List ℕ → Entry) → List ℕ → List ℕ
 target_of entries path = elim (entries path) [ Missing ↦ path | File bytes ↦ path | Link target ↦ target | Other ↦ path ]
 
--- the path of the new file that is to replace the file of this path
+-- the path of the new file for a file with this path
 abbrev pub partial_path : List ℕ → List ℕ
 partial_path target = target ++ codes ".oscip-partial"
 
--- a link leads to a file
+-- the entry is a file
 abbrev pub IsFile : Entry → Type 0
 IsFile Missing = ⊥
 IsFile (File bytes) = Unit {0}
@@ -21,11 +21,11 @@ IsFile Other = ⊥
 abbrev pub CanBeReplaced : (List ℕ → Entry) → List ℕ → Type 0
 CanBeReplaced entries path = elim (entries path) [ Missing ↦ Unit {0} | File bytes ↦ Unit {0} | Link target ↦ IsFile (entries target) | Other ↦ ⊥ ]
 
--- the writer returned so, of some file as it was before and after its call
+-- the writer returned so for some file before and after its call
 abbrev pub IsReturned : {F : Type 0} → (F → F → Type 0) → Type 0
 IsReturned {F} Returns = (before after : F) × Returns before after
 
--- the writer was called on an empty file and returned so, and these bytes are what the file then had
+-- the writer was called on an empty file and returned so, and the file then had these bytes
 pub record IsWritten {F : Type 0} (IsKnown : Type 0) (taken : F → Option (List ℕ)) (Returns : F → F → Type 0) (bytes : Option (List ℕ)) : Type 0 where
   pub before : F
   pub after : F
@@ -33,7 +33,7 @@ pub record IsWritten {F : Type 0} (IsKnown : Type 0) (taken : F → Option (List
   pub returned : Returns before after
   pub bytes_are : taken after ≡ bytes
 
--- the new file was renamed to the target, with the bytes that the writer left in it, which was empty
+-- the writer left bytes in the new file, which was empty before, and this file was renamed to the target
 pub record IsRenamed {F : Type 0} (IsKnown : Type 0) (old new : List ℕ → Entry) (partial target : List ℕ) (taken : F → Option (List ℕ)) (Returns : F → F → Type 0) : Type 0 where
   pub left : Option (List ℕ)
   pub is_written : IsWritten IsKnown taken Returns left

@@ -1,8 +1,8 @@
--- What the fault of a step of a replacement says.
+-- A property of the errors of a step.
 use Rattle.atomic_file.specs.declared.replace.StepFault.{StepFault}
 use Rattle.atomic_file.specs.declared.replace.StepFault.TheVariants.{Target, Partial, Content}
 
--- a fault of the content is one that the content has
+-- if the error is one of the content, the content's writer may return it
 abbrev pub IsStepFaultOf : {E : Type 0} → (E → Type 0) → StepFault E → Type 0
 IsStepFaultOf HasFault Target = Unit {0}
 IsStepFaultOf HasFault Partial = Unit {0}

@@ -1,4 +1,4 @@
-//! What the replacement of a file needs of a file system and of the content's writer.
+//! The operations that the replacement of a file needs, and the errors of a content's writer.
 ghost use Rattle.std.specs.Prelude.{◌≡◌, ℕ, List, [], Some, OnOk, IfOk, IsSome, IsTrue, OnErr};
 ghost use Rattle.std.specs.String.{string_bytes};
 ghost use Rattle.atomic_file.specs.Entries.{Entry, Link, IsFileOrMissing, KeepsAll, KeepsOthers, RenamedTo, kind_of};
@@ -7,7 +7,7 @@ use byte_sink::Sink;
 use std::alloc::Global;
 use thiserror::Error;
 
-/// Why a file system or a file didn't do what it was asked for.
+/// Why an operation on a file system or a file failed.
 #[derive(Clone, Copy, Debug, PartialEq, Eq, Error)]
 pub enum FileFault {
     /// An allocation failed.
@@ -18,7 +18,7 @@ pub enum FileFault {
     System,
 }
 
-/// What a path names. A link at its end isn't followed.
+/// The kind of what a path names. A link at the end of the path isn't followed.
 #[derive(Clone, Copy, Debug, PartialEq, Eq)]
 pub enum FileKind {
     /// Nothing.
@@ -27,92 +27,113 @@ pub enum FileKind {
     File,
     /// A symbolic link.
     Link,
-    /// Anything else, as a folder, a named pipe or a device.
+    /// Anything else, such as a folder, a named pipe or a device.
     Other,
 }
 
-/// A file system, as far as the replacement of a file needs it.
+/// The operations of a file system that the replacement of a file needs. Clauses about what paths name are claimed only if `is_known`
+/// holds.
 pub trait FileSystem {
     /// A new file that is open and locked. It is closed and unlocked when it is dropped.
     type NewFile: Sink + Drop;
 
-    /// Whether the clauses know what paths name. Of the system's files they don't.
+    /// Whether the clauses describe what paths name. For the system's files they don't.
     ghost is_known: { Type 0 };
 
-    /// What a path names.
+    /// What a path names: nothing, a file with its content, a link, or anything else.
     ghost entry_at: { Self → List ℕ → Entry };
 
-    /// The path names this open file, and no other path does.
+    /// This open file has this path, and no other.
     ghost is_named: { Self → List ℕ → Self.NewFile → Type 0 };
 
-    /// The file was given to the disk after its last write.
+    /// The file was synced to the disk after its last write.
     ghost is_synced: { Self.NewFile → Type 0 };
 
-    /// The file has the owner and the mode of what the path names, if that is a file.
+    /// The file has the owner and the mode of the file with this path, if there is one.
     ghost is_like: { Self → List ℕ → Self.NewFile → Type 0 };
 
     /// What the path names.
     fn kind(&self, path: &str) -> Result<FileKind, FileFault>
+        // The result is the kind of what the path names.
         ensures { IfOk result (λ kind. is_known → kind ≡ kind_of (entry_at self.now path.now)) };
 
-    /// The path that a link leads to, with all links on the way followed.
+    /// The path that a link leads to, with all links in that path followed too.
     fn target(&self, alloc: Global, link: &str) -> Result<String, FileFault>
+        // The path names a link to the returned path.
         ensures { IfOk result (λ target. is_known → entry_at self.now link.now ≡ Link (string_bytes target)) };
 
     /// Whether this user may write the file.
     fn is_writable(&self, path: &str) -> bool;
 
-    /// Opens a new file, which is made if the path names nothing, and locks it. Its content stays. Returns an error if another
-    /// process holds the lock. If the file is made and is to be private, no other user may read it.
+    /// Opens and locks a new file, which is created if the path names nothing; its content stays. Fails if another process holds the lock.
+    /// If `is_private` is true and the file is created, no other user may read it.
     fn open_new(&mut self, path: &str, is_private: bool) -> Result<Self::NewFile, FileFault>
+        // The path names a file or nothing.
         requires kind { is_known → IsFileOrMissing (entry_at self.old path.now) }
+        // All other paths name what they named before.
         ensures others { is_known → KeepsOthers (entry_at self.old) (entry_at self.new) path.now };
 
-    /// Whether the path names this open file, and no other path does.
+    /// Whether this open file has this path, and no other.
     fn names(&self, path: &str, file: &Self::NewFile) -> bool
+        // With `true` the open file has this path.
         ensures { IsTrue result → is_named self.now path.now file.now };
 
-    /// Empties the file. If it is to be private, no other user may read it from then on.
+    /// Truncates the file to no bytes. If `is_private` is true, no other user may read it from then on.
     fn empty(&self, path: &str, file: &mut Self::NewFile, is_private: bool) -> Result<(), FileFault>
+        // The open file has this path.
         requires named { is_named self.now path.now file.old }
+        // With `Ok` the file has no bytes.
         ensures emptied { OnOk result (is_known → Self.NewFile.taken file.new ≡ Some []) };
 
-    /// Gives the content of the file to the disk.
+    /// Syncs the content of the file to the disk.
     fn sync(&self, file: &mut Self::NewFile) -> Result<(), FileFault>
+        // With `Ok` the file is synced.
         ensures synced { OnOk result (is_synced file.new) }
+        // The bytes of the file are unchanged.
         ensures taken { Self.NewFile.taken file.new ≡ Self.NewFile.taken file.old };
 
-    /// Gives the file the mode of what the path names, and its owner if the system allows it. Does nothing if the path names
-    /// nothing, and returns an error if it names anything but a file.
+    /// Sets the mode of the file to that of the file with this path, and the owner too if the system permits it. Does nothing if the path
+    /// names nothing, and fails if it names anything but a file.
     fn copy_attributes(&self, path: &str, file: &mut Self::NewFile) -> Result<(), FileFault>
+        // With `Ok` the file has the owner and the mode of the file with this path.
         ensures like { OnOk result (is_like self.now path.now file.new) }
+        // A synced file remains synced.
         ensures synced { is_synced file.old → is_synced file.new }
+        // The bytes of the file are unchanged.
         ensures taken { Self.NewFile.taken file.new ≡ Self.NewFile.taken file.old };
 
-    /// Gives the file the name `to`, which a file with this name loses.
+    /// Renames the file from `from` to `to`. A file that has the path `to` is replaced.
     fn rename(&mut self, from: &str, file: &Self::NewFile, to: &str) -> Result<(), FileFault>
+        // The file is synced.
         requires synced { is_synced file.now }
+        // The open file has this path.
         requires named { is_named self.old from.now file.now }
+        // The file has the owner and the mode of the file that it replaces.
         requires like { is_like self.old to.now file.now }
+        // The path names a file or nothing.
         requires kind { is_known → IsFileOrMissing (entry_at self.old to.now) }
+        // With `Ok` the path `to` names a file with these bytes, and the path `from` names nothing.
         ensures renamed { OnOk result (is_known → (bytes : List ℕ) → Self.NewFile.taken file.now ≡ Some bytes
             → RenamedTo (entry_at self.old) (entry_at self.new) from.now to.now bytes) }
-        ensures kept { OnErr result (is_known → KeepsAll (entry_at self.old) (entry_at self.new)) };
+        // After an error each path names what it named before.
+        ensures unchanged { OnErr result (is_known → KeepsAll (entry_at self.old) (entry_at self.new)) };
 
     /// Removes the file with this path.
     fn remove(&mut self, path: &str, file: &Self::NewFile)
+        // The open file has this path.
         requires named { is_named self.old path.now file.now }
+        // All other paths name what they named before.
         ensures others { is_known → KeepsOthers (entry_at self.old) (entry_at self.new) path.now };
 
-    /// If the clauses know what paths name, they know what a new file took.
+    /// If the clauses describe what paths name, they also describe the bytes that a new file took.
     ghost knows_taken: { is_known → (file : Self.NewFile) → IsSome (Self.NewFile.taken file) };
 }
 
-/// Why a content wasn't written whole.
+/// Why a content wasn't written as a whole.
 #[derive(Drop)]
 pub enum ContentFault<E> {
     /// The sink's device failed.
     Device,
-    /// The content's own fault.
+    /// The error of the content's writer itself.
     Other(E),
 }

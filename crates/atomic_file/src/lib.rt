@@ -1,7 +1,8 @@
-//! Replaces the content of a file as a whole, over any file system.
-//! Depends on `byte_sink` for what is written, with `thiserror` for its faults.
-//! Its contract: at Ok the file has the whole content; after a fault each file but the new one is as it was. A file is renamed only
-//! if it was synced after its last write, has the owner and the mode of the file that it replaces, and is what its path names.
+//! Replaces the content of a file atomically, over any file system: the content is written to a new file beside it, which is then renamed.
+//! Depends on `byte_sink` for the output to the new file and on `thiserror` for errors.
+//! The main call is `replace_file`. With `Ok` the file has the whole content; after an error each file but the new one is unchanged.
+//! A file is renamed only if it was synced after its last write, has the owner and the mode of the file that it replaces, and is still the
+//! one that its path names.
 #![tactic(auto)]
 
 mod file_system;

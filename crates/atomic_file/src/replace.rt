@@ -11,27 +11,26 @@ ghost use Rattle.atomic_file.specs.Replacements.{CanBeReplaced, IsRenamed, IsRet
 use crate::{ContentFault, FileFault, FileKind, FileSystem};
 use std::alloc::Global;
 
-/// What the path of a new file has after that of the file which it is to replace.
+/// The suffix of the path of the new file.
 const SUFFIX: &str = ".oscip-partial";
 
 /// Why the content of a file wasn't replaced.
 #[derive(Drop)]
 pub enum ReplaceFault<E> {
-    /// The path names something other than a regular file, a link to one, or nothing; or this user may not write the file; or
-    /// the rename failed.
+    /// The path names neither a regular file, nor a link to one, nor nothing; or this user may not write the file; or the rename failed.
     Target,
-    /// The new file can't be opened or written, is locked, or isn't what its path names any more.
+    /// The new file can't be opened or written, is locked by another process, or no longer has its path.
     Partial {
         /// The path of the new file.
         path: String,
     },
-    /// There is no content.
+    /// The content's writer failed.
     Content(E),
     /// An allocation failed.
     Memory,
 }
 
-/// Why a step failed. It has no path, which the caller knows.
+/// Why a step failed, without the path, which the caller has.
 #[derive(Drop)]
 enum StepFault<E> {
     Target,
@@ -50,18 +49,18 @@ impl<E> From<FileFault> for StepFault<E> {
     }
 }
 
-/// Where the content goes.
+/// The paths of a replacement.
 #[derive(Drop)]
 struct Paths {
-    /// The file to replace; no link.
+    /// The path of the file to replace, which isn't a link.
     target: String,
-    /// The new file, beside it.
+    /// The path of the new file, in the same folder.
     partial: String,
-    /// Whether the target was there.
+    /// Whether the file to replace exists.
     is_file: bool,
 }
 
-/// The path of the file to replace, and whether it is there.
+/// The path of the file to replace, with all links followed, and whether the file exists.
 fn find_target<F: FileSystem>(
     alloc: Global,
     files: &F,
@@ -91,7 +90,7 @@ fn copy_of(alloc: Global, path: &str) -> Result<String, FileFault>
     String::from_str(alloc, path).map_err(|_| FileFault::Memory)
 }
 
-/// The paths of the file to replace, which this user may write if it is there, and of the new one.
+/// The path of the file to replace, which this user may write if it exists, and that of the new file.
 fn find_paths<F: FileSystem>(alloc: Global, files: &F, path: &str) -> Result<Paths, FileFault>
     ensures target { IfOk result (λ paths. F.is_known → string_bytes paths.target ≡ target_of (F.entry_at files.now) path.now) }
     ensures partial { IfOk result (λ paths. string_bytes paths.partial ≡ partial_path (string_bytes paths.target)) }
@@ -113,7 +112,7 @@ fn find_paths<F: FileSystem>(alloc: Global, files: &F, path: &str) -> Result<Pat
     })
 }
 
-/// Opens and locks the new file, if its path names nothing or a file, which it names still once the lock is held.
+/// Opens and locks the new file, if its path names nothing or a file, and the open file still has this path once the lock is held.
 fn open_new<F: FileSystem>(files: &mut F, paths: &Paths) -> Option<F::NewFile>
     ensures named { IfSome result (λ file. F.is_named files.new (string_bytes paths.now.partial) file) }
     ensures others { F.is_known → KeepsOthers (F.entry_at files.old) (F.entry_at files.new) (string_bytes paths.now.partial) }
@@ -133,7 +132,7 @@ fn open_new<F: FileSystem>(files: &mut F, paths: &Paths) -> Option<F::NewFile>
     }
 }
 
-/// Calls what writes the content of a file.
+/// Calls the content's writer.
 fn call<F, R, W: FnOnce(&mut F) -> R>(file: &mut F, write: W) -> R
     requires { W.IsAlwaysCallable write }
     ensures { FnOnceReturnsAtMut W.FnOnce write file.old result file.new }
@@ -157,8 +156,8 @@ fn write_content<F, E: Drop, W: FnOnce(&mut F) -> Result<(), ContentFault<E>>>(
     }
 }
 
-/// Empties the new file, calls what writes its content, syncs it, and gives it the attributes of the target. The path of the new file
-/// names it before it is emptied, and at the end.
+/// Truncates the new file, calls the content's writer, syncs the file, and copies the attributes of the target. Fails if the file no longer
+/// has its path before it is truncated, or at the end.
 fn write_new<F: FileSystem, E: Drop, W: FnOnce(&mut F::NewFile) -> Result<(), ContentFault<E>>>(
     files: &F,
     paths: &Paths,
@@ -184,7 +183,7 @@ fn write_new<F: FileSystem, E: Drop, W: FnOnce(&mut F::NewFile) -> Result<(), Co
     }
 }
 
-/// Removes the new file if its path names it still.
+/// Removes the new file if it still has its path.
 fn remove_new<F: FileSystem>(files: &mut F, paths: &Paths, file: &F::NewFile)
     ensures { F.is_known → KeepsOthers (F.entry_at files.old) (F.entry_at files.new) (string_bytes paths.now.partial) }
 {
@@ -194,7 +193,7 @@ fn remove_new<F: FileSystem>(files: &mut F, paths: &Paths, file: &F::NewFile)
     }
 }
 
-/// Writes the whole content to the new file and renames it to the target. Removes it after a fault.
+/// Writes the whole content to the new file and renames it to the target. Removes the new file after an error.
 fn write_and_rename<
     F: FileSystem,
     E: Drop,
@@ -242,28 +241,30 @@ fn replace_target<
     }
 }
 
-/// Replaces the content of the file with this path as a whole. If the path names a link, the file that it leads to is replaced, and
-/// the link stays. The new file is written beside it, with `.oscip-partial` after its path, and renamed once it was synced; after a
-/// fault it is removed. Returns `Target` with nothing made if the path names anything but a file, a link to one, or nothing.
+/// Replaces the content of the file with this path as a whole. If the path names a link, the file that it leads to is replaced, and the
+/// link stays.
+/// The new file has the path of that file with the suffix `.oscip-partial`. It is renamed once it is synced, and removed after an error.
+/// Fails with `Target`, and creates no file, if the path names neither a file, nor a link to one, nor nothing.
 pub fn replace_file<
     F: FileSystem,
     E: Drop,
     W: FnOnce(&mut F::NewFile) -> Result<(), ContentFault<E>>,
 >(alloc: Global, files: &mut F, path: &str, write: W) -> Result<(), ReplaceFault<E>>
+    // The writer may be called on any file.
     requires { W.IsAlwaysCallable write }
-    // At Ok the file has the whole content, and nothing else changed but that no path names the new file.
+    // With `Ok` the file has the whole content, the path of the new file names nothing, and all other paths are unchanged.
     ensures replaced { OnOk result (IsRenamed F.is_known (F.entry_at files.old) (F.entry_at files.new)
         (partial_path (target_of (F.entry_at files.old) path.now)) (target_of (F.entry_at files.old) path.now) F.NewFile.taken (λ before after. FnOnceReturnsAtMut W.FnOnce write before (Ok tt) after)) }
-    // After a fault each path but that of the new file names what it named.
-    ensures kept { OnErr result (F.is_known → KeepsOthers (F.entry_at files.old) (F.entry_at files.new)
+    // After an error each path but that of the new file names what it named before.
+    ensures unchanged { OnErr result (F.is_known → KeepsOthers (F.entry_at files.old) (F.entry_at files.new)
         (partial_path (target_of (F.entry_at files.old) path.now))) }
-    // What isn't a file, a link to one, or nothing is refused, and then nothing changed.
+    // If the path names neither a file, nor a link to one, nor nothing, the call fails and nothing is changed.
     ensures unreplaced { F.is_known → ¬ CanBeReplaced (F.entry_at files.old) path.now → IsErrAnd result (λ fault. IsOfTarget fault × KeepsAll (F.entry_at files.old) (F.entry_at files.new)) }
-    // If an allocation of its own failed, nothing changed.
+    // If an allocation of this call itself failed, nothing is changed.
     ensures memory { IfErr result (λ fault. IsMemory fault → F.is_known → KeepsAll (F.entry_at files.old) (F.entry_at files.new)) }
-    // A fault of the content is one that the content has.
+    // An error of the content is one that its writer returned.
     ensures content { IfErr result (IsFaultOf (λ fault. IsReturned (λ before after. FnOnceReturnsAtMut W.FnOnce write before (Err (Other fault)) after))) }
-    // The path in a fault is that of the new file.
+    // The path in an error is that of the new file.
     ensures partial { IfErr result (λ fault. F.is_known → HasPath fault (partial_path (target_of (F.entry_at files.old) path.now))) }
 {
     let paths = match find_paths(alloc, files, path) {

@@ -1,4 +1,4 @@
-//! The file system of std. Its clauses don't know what paths name.
+//! The file system of `std`. Its clauses don't describe what paths name.
 
 use crate::{FileFault, FileKind, FileSystem};
 use byte_sink::{Sink, SinkFault};
@@ -11,20 +11,20 @@ use std::rt::Files;
 
 /// The mode of a file that no other user may read.
 const PRIVATE: u32 = 0o600;
-/// The mode that a new file has but for the bits of the process's mask.
+/// The mode of a new file, without the bits of the process's umask.
 const PUBLIC: u32 = 0o666;
-/// The bits of a mode that say who may read, write and run a file.
+/// The permission bits of a mode.
 const PERMISSIONS: u32 = 0o777;
 
-/// The file system of std.
+/// The file system of `std`.
 #[derive(Drop)]
 pub struct StdFiles<'a, R>(pub &'a R);
 
-/// An open and locked file of std.
+/// An open and locked file of `std`.
 #[derive(Drop)]
 pub struct StdFile {
     file: File,
-    /// How often a write failed. At 2^64 - 1 the count stays.
+    /// The number of failed writes, at most 2^64 - 1.
     failures: u64,
 }
 
@@ -56,7 +56,7 @@ fn kind_of(metadata: &Metadata) -> FileKind {
     }
 }
 
-/// Gives the file the owner and the group of another, or the group alone, or neither, as the system allows it; and then its mode.
+/// Sets the owner and the group of the file to those of another, or the group alone, or neither, as the system permits, and then the mode.
 fn give_attributes(file: &File, metadata: &Metadata) -> Result<(), FileFault> {
     let (owner, group) = (metadata.uid(), metadata.gid());
     if fchown(file, Some(owner), Some(group)).is_err() {

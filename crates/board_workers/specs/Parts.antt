@@ -1,6 +1,6 @@
 -- The shared parts that a worker is given, and the entries that all workers together make.
 use Rattle.std.specs.Prelude.{◌≡◌, ◌<◌, ℕ, List, length, slice_index_or, slice_set, true, false}
-use Rattle.work_board.specs.Graphs.{row_at, Modules}
+use Rattle.work_board.specs.Graphs.{list_at, Modules}
 use Rattle.work_board.specs.Cores.{has_entry, is_claimed, AreOf, AreShares, Core}
 
 -- the shared parts of right entries of all modules that the module reaches, sorted by name
@@ -11,15 +11,15 @@ AreSharedPartsOf {E = E} is_of shared_of g n parts =
 -- an entry for each module, by number, that is the entry of the module of this name
 pub record AreEntries {E : Type 0} (is_of : List ℕ → E → Type 0) (g : Modules) (entries : List E) : Type 0 where
   pub size : length entries ≡ length g.names
-  pub own : (n : ℕ) (d : E) → n < length entries → is_of (row_at g.names n) (slice_index_or entries n d)
+  pub own : (n : ℕ) (d : E) → n < length entries → is_of (list_at g.names n) (slice_index_or entries n d)
 
 -- the input of a worker: a module, and the shared parts for its entry
 abbrev pub IsJob : {E X : Type 0} → (List ℕ → E → Type 0) → (E → X) → Modules → ℕ → List X → Type 0
 IsJob is_of shared_of g n parts = (n < length g.names) × AreSharedPartsOf is_of shared_of g n parts
 
 -- each module has its entry
-abbrev pub AreAllThere : {E : Type 0} → Core E → Type 0
-AreAllThere c = (n : ℕ) → n < length c.entries → has_entry c.entries n ≡ true
+abbrev pub AreAllDelivered : {E : Type 0} → Core E → Type 0
+AreAllDelivered c = (n : ℕ) → n < length c.entries → has_entry c.entries n ≡ true
 
 -- n was not delivered in c; in d it is claimed, and nothing else differs
 pub record IsHeld {E : Type 0} (c : Core E) (n : ℕ) (d : Core E) : Type 0 where

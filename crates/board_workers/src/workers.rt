@@ -6,7 +6,7 @@ ghost use Rattle.work_board.specs.Graphs.{IsAcyclic};
 ghost use Rattle.work_board.specs.Cores.{IsOver};
 ghost use Rattle.board_workers.specs.Parts.{AreEntries, IsJob};
 
-use crate::alone::finish;
+use crate::single_thread::finish;
 use crate::{BoardGate, Work};
 use std::alloc::{AllocError, Global};
 use std::marker::Brand;
@@ -32,12 +32,12 @@ fn take<T: NamedTree, E: WorkEntry>(
     ensures job { IfOk result (λ job. IfSome job (λ j. IsJob E.is_of E.shared_of T.graph j.0 (map arc_value j.1.items))) }
     ensures over { IfOk result (λ job. IfNone job (IsOver board.new)) }
 {
-    board.keeps();
+    board.invariants();
     match board.claim() {
         Claim::Finished => Ok(None),
         Claim::Later => Err(Later),
         Claim::Module { number } => {
-            board.keeps();
+            board.invariants();
             match board.interfaces(number) {
                 Ok(parts) => Ok(Some((number, parts))),
                 Err(BoardFault::Memory) => {
@@ -72,7 +72,7 @@ fn next<'l, 'g, T: NamedTree, E: WorkEntry, R: Wait>(
 }
 
 /// Delivers an entry, or abandons the module if an allocation failed. Drops an entry that isn't accepted.
-fn hand_in<T: NamedTree, E: WorkEntry>(
+fn submit<T: NamedTree, E: WorkEntry>(
     board: &mut Board<'_, T, E>,
     number: u32,
     made: Result<E, AllocError>,
@@ -110,14 +110,14 @@ fn worker<'l, 'g, T: NamedTree, W: Work, G: BoardGate, R: Wait>(
         gate.at(number, turn);
         turn = turn.saturating_add(1);
         let made = work.make(module, parts.as_slice());
-        hand_in(&mut *locked.lock(rt), module, made);
+        submit(&mut *locked.lock(rt), module, made);
         changed.notify_all();
     }
     unreachable!()
 }
 
 /// Starts the other workers, each in a thread, and runs worker 0. Goes on without a thread that can't be started.
-fn in_threads<
+fn run_threads<
     T: NamedTree + Send + Sync,
     W: Work + Sync,
     G: BoardGate + Sync,
@@ -171,7 +171,7 @@ where
     ensures { IfOk result (λ entries. AreEntries W.Entry.is_of T.graph entries.items) }
 {
     let locked: Locked<'_, T, W::Entry> = Mutex::new(Board::new(alloc, graph)?);
-    in_threads(rt, &locked, workers, work, gate);
+    run_threads(rt, &locked, workers, work, gate);
     finish(alloc, locked.into_inner(), work)
 }
 

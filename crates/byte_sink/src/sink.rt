@@ -1,35 +1,39 @@
-//! Where bytes go, and what became of them.
+//! The trait of byte sinks, with sinks over a vector and over a writer of std.
 ghost use Rattle.std.specs.Prelude.{◌≡◌, ℕ, ◌<◌, ◌≤◌, List, Option, Some, length, IfOk};
-ghost use Rattle.byte_sink.specs.Sinks.{failures_after, Puts, Takes};
+ghost use Rattle.byte_sink.specs.Sinks.{failures_after, Writes, Takes};
 
 use std::io;
 use thiserror::Error;
 
-/// Why a sink took nothing.
+/// Why a sink accepted no byte.
 #[derive(Clone, Copy, Debug, PartialEq, Eq, Error)]
 pub enum SinkFault {
-    /// A growth of memory was refused.
+    /// An allocation failed.
     #[error("memory ran out")]
     Memory,
-    /// The device failed, and the sink counted it.
+    /// The device failed. The sink counted the failure.
     #[error("the device failed")]
     Device,
 }
 
-/// Takes bytes from the front of what it is given.
+/// Accepts bytes, some at each call.
 pub trait Sink {
-    /// The bytes taken so far, where the sink tells them.
+    /// The bytes accepted so far, or `None` if the sink does not report them.
     ghost taken: { Self → Option (List ℕ) };
 
-    /// How many calls the device has failed. At 2^64 - 1 the count stays.
+    /// The number of calls that failed at the device. It saturates at 2^64 - 1.
     ghost failures: { Self → ℕ };
 
-    /// Takes the first bytes, at least one of a slice that isn't empty, and says how many.
-    /// Refuses with Memory or Device, and has then taken none.
+    /// Accepts a prefix of the bytes, of at least one byte unless `bytes` is empty, and returns its length.
+    /// After an error, Memory or Device, it has accepted none of them.
     fn put(&mut self, bytes: &[u8]) -> Result<usize, SinkFault>
+        // The count is at most the number of bytes.
         ensures bound { IfOk result (λ k. k ≤ length bytes.now) }
+        // It is not 0 unless `bytes` is empty.
         ensures some { 0 < length bytes.now → IfOk result (λ k. 0 < k) }
+        // The known bytes grow by the accepted prefix, and after an error they are unchanged.
         ensures takes { Takes (taken self.old) (taken self.new) result bytes.now }
+        // The count of failures grows by one exactly if the result is Device.
         ensures failures { failures self.new ≡ failures_after result (failures self.old) };
 }
 
@@ -45,7 +49,7 @@ impl Sink for Vec<u8> {
     }
 }
 
-/// A sink over a writer of std. A writer that takes nothing of a slice that isn't empty fails, and so does one that was
+/// A sink over a writer of std. A writer that accepts nothing of a slice that is not empty counts as failed, and so does a write that was
 /// interrupted.
 #[derive(Drop)]
 pub struct ToWrite<W: io::Write> {
@@ -54,9 +58,11 @@ pub struct ToWrite<W: io::Write> {
 }
 
 impl<W: io::Write> ToWrite<W> {
-    /// A sink that has not failed.
+    /// A sink over `writer` without failures.
     pub fn new(writer: W) -> Self
+        // The writer is unchanged.
         ensures writer { result.writer ≡ writer }
+        // No failure is counted yet.
         ensures failures { result.failures ≡ 0 }
     {
         ToWrite {
@@ -82,9 +88,12 @@ impl<W: io::Write> Sink for ToWrite<W> {
     }
 }
 
-/// Puts all the bytes, call by call, and calls for no empty slice. At a refusal a front of them is taken.
-pub fn put_all<S: Sink>(sink: &mut S, bytes: &[u8]) -> Result<(), SinkFault>
-    ensures puts { Puts (S.taken sink.old) (S.taken sink.new) result bytes.now }
+/// Writes all bytes with as many calls of `put` as the sink needs, none of them with an empty slice. After an error the sink has accepted
+/// a prefix of them.
+pub fn write_fully<S: Sink>(sink: &mut S, bytes: &[u8]) -> Result<(), SinkFault>
+    // The known bytes grow by all bytes, or after an error by a prefix of them.
+    ensures writes { Writes (S.taken sink.old) (S.taken sink.new) result bytes.now }
+    // The count of failures grows by one exactly if the result is Device.
     ensures failures { S.failures sink.new ≡ failures_after result (S.failures sink.old) }
 {
     let mut rest = bytes;

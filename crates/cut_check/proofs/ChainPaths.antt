@@ -6,10 +6,10 @@ use Rattle.cut_net.specs.declared.priced.Priced.{Priced}
 use Rattle.cut_net.specs.Cuts.{IsChain, Chain}
 use Rattle.cut_net.specs.WellFormed.{AreBetween}
 use Rattle.cut_net.proofs.Chains.{joined, step}
-use Rattle.cut_residual.specs.declared.arc.Arc.{Arc}
-use Rattle.cut_residual.specs.declared.arc.ResidualArc.{ResidualArc}
-use Rattle.cut_residual.specs.Graphs.{AreClosed, HasResidual, HasArc, Reaches, head, is_seen, no_arc, room, tail}
-use Rattle.cut_residual.proofs.Walking.{along}
+use Rattle.residual_graph.specs.declared.arc.Arc.{Arc}
+use Rattle.residual_graph.specs.declared.arc.ResidualArc.{ResidualArc}
+use Rattle.residual_graph.specs.Graphs.{AreClosed, HasResidual, HasArc, Reaches, head, is_flagged, no_arc, room, tail}
+use Rattle.residual_graph.proofs.Walking.{along}
 use Rattle.cut_check.specs.Reaching.{AreArcs, IsAllowed, any, arc_for}
 
 -- the arcs of the first k imports
@@ -51,10 +51,10 @@ module _ (imports : List Priced) (allowed : List Bool) (nodes : ℕ) (arcs : Lis
   chain_from_path start m (path, way) =
       along (Chain imports (IsAllowed imports allowed) start) arcs (on start) start path m way.is_path.leads way.is_path.known way.left ([], refl)
 
-  pub marked_by_chain : (seen : List Bool) → AreClosed arcs seen → (m : ℕ) (more : List ℕ) (b : ℕ) → is_seen seen m ≡ true →
-      IsChain imports (IsAllowed imports allowed) m more b → is_seen seen b ≡ true
-  marked_by_chain seen closed m [] b h e = subst (λ v. is_seen seen v ≡ true) e h
-  marked_by_chain seen closed m (n ∷ more) b h ((i, c, from_is, to_is, (k, in_k, at_k, open_k)), rest) =
+  pub marked_by_chain : (reached_flags : List Bool) → AreClosed arcs reached_flags → (m : ℕ) (more : List ℕ) (b : ℕ) → is_flagged reached_flags m ≡ true →
+      IsChain imports (IsAllowed imports allowed) m more b → is_flagged reached_flags b ≡ true
+  marked_by_chain reached_flags closed m [] b h e = subst (λ v. is_flagged reached_flags v ≡ true) e h
+  marked_by_chain reached_flags closed m (n ∷ more) b h ((i, c, from_is, to_is, (k, in_k, at_k, open_k)), rest) =
       let size = are.size in
       let s : ResidualArc = record { arc = k; forward = true } in
       let i_is : get_or imports k any ≡ i = get_or_default imports k any i in_k ∙ at_k in
@@ -62,5 +62,5 @@ module _ (imports : List Priced) (allowed : List Bool) (nodes : ℕ) (arcs : Lis
       let left : HasResidual arcs s = subst (λ (r : Arc). 0 < room r true) (sym arc_is) (omega arith) in
       let tail_is : tail arcs s ≡ m = ap (λ (r : Arc). r.from) arc_is ∙ from_is in
       let head_is : head arcs s ≡ n = ap (λ (r : Arc). r.to) arc_is ∙ to_is in
-      let marked = closed s (omega arith) left (subst (λ v. is_seen seen v ≡ true) (sym tail_is) h) in
-      marked_by_chain seen closed n more b (subst (λ v. is_seen seen v ≡ true) head_is marked) rest
+      let marked = closed s (omega arith) left (subst (λ v. is_flagged reached_flags v ≡ true) (sym tail_is) h) in
+      marked_by_chain reached_flags closed n more b (subst (λ v. is_flagged reached_flags v ≡ true) head_is marked) rest

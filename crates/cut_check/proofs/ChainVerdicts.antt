@@ -3,7 +3,7 @@ use Rattle.std.proofs.Common.{◌≡◌, ℕ, ◌+◌, ◌-◌, ◌<◌, List, l
 use Rattle.std.proofs.lemmas.Bool.{cases_eq, cases_lt, cases_order}
 use Rattle.cut_net.specs.Network.{Network}
 use Rattle.cut_net.specs.Pins.{ByPin, IsPinChain}
-use Rattle.cut_net.specs.Said.{BlockedBy}
+use Rattle.cut_net.specs.AnswerClaim.{BlockedBy}
 use Rattle.cut_check.specs.Verdicts.{AreChainEnds, HasVerdict, IsChainVerdict, IsFirstUnpinned, IsPinnedAt}
 use Rattle.cut_check.specs.declared.verdict.Verdict.{Verdict}
 use Rattle.cut_check.specs.declared.verdict.Verdict.TheVariants.{Yes, NoSuchImport, StillChain, WrongWeight, OverWeight, NotKept, WrongValue, NotPinned}
@@ -18,7 +18,7 @@ module _ (net : Network) (a b : ℕ) (chain : List ℕ) where
         | everywhere all ↦ (Yes, to_chain net a b chain ends (λ k within. all k (omega arith)))
         | first_not k within fails before ↦ (
           NotPinned (get_or chain k 0) (get_or chain (k + 1) 0),
-          (ends, record { place = k; within = omega arith; ends = (refl, refl); unpinned = fails; before = before }),
+          (ends, record { index = k; within = omega arith; ends = (refl, refl); unpinned = fails; before = before }),
         )
       ]
 
@@ -34,11 +34,11 @@ module _ (net : Network) (a b : ℕ) (chain : List ℕ) where
     ]
   ]
 
-  earlier : (from to f t : ℕ) (s : IsFirstUnpinned net chain from to) (r : IsFirstUnpinned net chain f t) → s.place < r.place → ⊥
-  earlier from to f t s r lt = s.unpinned (r.before s.place lt)
+  earlier : (from to f t : ℕ) (s : IsFirstUnpinned net chain from to) (r : IsFirstUnpinned net chain f t) → s.index < r.index → ⊥
+  earlier from to f t s r lt = s.unpinned (r.before s.index lt)
 
   same_unpinned : (from to f t : ℕ) → IsFirstUnpinned net chain from to → IsFirstUnpinned net chain f t → NotPinned from to ≡ NotPinned f t
-  same_unpinned from to f t s r = elim (cases_order s.place r.place) [
+  same_unpinned from to f t s r = elim (cases_order s.index r.index) [
     | inl e ↦
         let from_is : from ≡ f = sym s.ends.0 ∙ ap (λ k. get_or chain k 0) e ∙ r.ends.0 in
         let to_is : to ≡ t = sym s.ends.1 ∙ ap (λ k. get_or chain (k + 1) 0) e ∙ r.ends.1 in
@@ -47,7 +47,7 @@ module _ (net : Network) (a b : ℕ) (chain : List ℕ) where
   ]
 
   all_pinned : (from to : ℕ) → IsPinChain net a b chain → IsFirstUnpinned net chain from to → ⊥
-  all_pinned from to p s = s.unpinned (pinned_of net a b chain p s.place s.within)
+  all_pinned from to p s = s.unpinned (pinned_of net a b chain p s.index s.within)
 
   Is : Verdict → Type 0
   Is v = IsChainVerdict net a b chain v

@@ -32,23 +32,23 @@ module _ (net : Network) (flow : Priced → ℕ) (amounts : List (Option ℕ)) (
 
   pub first_over : (i : Priced) → IsFirstAbove net amounts i → IsFirstOver net flow i.from i.to
   first_over i p = record {
-    place = p.place;
+    index = p.index;
     import = i;
-    at_place = p.at_place;
+    at_index = p.at_index;
     ends = (refl, refl);
     free = p.free;
     over =
-        let in_place : p.place < length net.imports = slice_get_within net.imports p.place i p.at_place in
-        let flow_is = are p.place i in_place ∙ ap flow (get_or_from_slice_get net.imports p.place i i p.at_place) in
+        let in_place : p.index < length net.imports = slice_get_within net.imports p.index i p.at_index in
+        let flow_is = are p.index i in_place ∙ ap flow (get_or_from_slice_get net.imports p.index i i p.at_index) in
         let above = p.above in
         omega arith;
     before = λ j c free over.
         let q = c.0 in
         let in_take = c.1 in
-        let in_place : p.place < length net.imports = slice_get_within net.imports p.place i p.at_place in
-        let len : length (take p.place net.imports) ≡ p.place = length-take-le p.place net.imports (omega arith) in
-        let q_in : q < p.place = omega arith in
-        let j_is : get_or net.imports q j ≡ j = sym (get_or-take p.place net.imports q j q_in) ∙ c.2 in
+        let in_place : p.index < length net.imports = slice_get_within net.imports p.index i p.at_index in
+        let len : length (take p.index net.imports) ≡ p.index = length-take-le p.index net.imports (omega arith) in
+        let q_in : q < p.index = omega arith in
+        let j_is : get_or net.imports q j ≡ j = sym (get_or-take p.index net.imports q j q_in) ∙ c.2 in
         let small : flow (get_or net.imports q j) ≤ (get_or net.imports q j).amount = subst (λ n. n ≤ (get_or net.imports q j).amount) (are q j (omega arith)) (p.before q j q_in (ap (is_pinned net) j_is ∙ free)) in
         let le : flow j ≤ j.amount = subst (λ v. flow v ≤ v.amount) j_is small in
         absurd (omega arith);

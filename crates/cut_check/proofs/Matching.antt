@@ -7,7 +7,7 @@ use Rattle.std.proofs.lemmas.List.{get_or_default, take_more, get_or_push, get_o
 use Rattle.std.specs.Option.{option_or}
 use Rattle.std.proofs.lemmas.Grind.{common_steps}
 use Rattle.cut_net.specs.declared.priced.Priced.{Priced}
-use Rattle.cut_net.specs.Cuts.{same_ends}
+use Rattle.cut_net.specs.Cuts.{have_equal_ends}
 use Rattle.cut_net.specs.Network.{Network}
 use Rattle.cut_net.specs.Lines.{comes_before, IsAscending}
 use Rattle.cut_net.proofs.Ends.{Same, same_from, same_true, same_sym, same_trans, Before, before_from, before_true, apart, one_way, before_same}
@@ -16,7 +16,7 @@ use Rattle.cut_check.specs.Matched.{AreMatched, IsLineAt}
 
 -- the line of an import among the first lines
 abbrev pub line_among : Priced → List Priced → ℕ → Option ℕ
-line_among i lines n = option_map (λ (l : Priced). l.amount) (find (same_ends i) (take n lines))
+line_among i lines n = option_map (λ (l : Priced). l.amount) (find (have_equal_ends i) (take n lines))
 
 -- the first imports and the first lines have gone by: each line that has gone by has its import, and the next line has none yet
 pub record Matching (imports lines : List Priced) (k next : ℕ) (found : List (Option ℕ)) : Type 0 where
@@ -62,8 +62,8 @@ module _ (imports lines : List Priced) (k next : ℕ) (found : List (Option ℕ)
   earlier j d h = before_from (get_or imports j d) (get_or imports k d) (ascending j k d h in_k)
 
   -- no line that has gone by is of this import
-  none_yet : (d : Priced) → find (same_ends (get_or imports k d)) (take next lines) ≡ None
-  none_yet d = find_none (same_ends (get_or imports k d)) lines next (λ q e h in_q.
+  none_yet : (d : Priced) → find (have_equal_ends (get_or imports k d)) (take next lines) ≡ None
+  none_yet d = find_none (have_equal_ends (get_or imports k d)) lines next (λ q e h in_q.
       false_from_ne_true _ (λ t.
       let at_j = m.placed q d h in
       let first = earlier at_j.0 d at_j.1 in
@@ -104,13 +104,13 @@ module _ (imports lines : List Priced) (k next : ℕ) (found : List (Option ℕ)
     ];
     values = λ j d e h. elim (cases_eq j k) [
       | inl eq ↦ rw eq (get_or_push found (Some x) e k m.size ∙ ap Some (x_is d) ∙
-          sym (ap (option_map (λ (l : Priced). l.amount)) (find_at_last (same_ends (get_or imports k d)) lines next d in_next (same_true _ _ (same d)) (none_yet d))))
+          sym (ap (option_map (λ (l : Priced). l.amount)) (find_at_last (have_equal_ends (get_or imports k d)) lines next d in_next (same_true _ _ (same d)) (none_yet d))))
       | inr ne ↦
           let size = m.size in
-          let other : same_ends (get_or imports j d) (get_or lines next d) ≡ false = false_from_ne_true _ (λ t.
+          let other : have_equal_ends (get_or imports j d) (get_or lines next d) ≡ false = false_from_ne_true _ (λ t.
           apart (earlier j d (omega arith)) (same_trans (same_from (get_or imports j d) (get_or lines next d) t) (same d))) in
           get_or_append_left found (Some x ∷ []) e j (omega arith) ∙ m.values j d e (omega arith) ∙
-          sym (ap (option_map (λ (l : Priced). l.amount)) (find_last (same_ends (get_or imports j d)) lines next d in_next other))
+          sym (ap (option_map (λ (l : Priced). l.amount)) (find_last (have_equal_ends (get_or imports j d)) lines next d in_next other))
     ];
     least = λ j d h in_after same_j. (
       omega arith,
@@ -127,7 +127,7 @@ module _ (imports lines : List Priced) (k next : ℕ) (found : List (Option ℕ)
 
   pub matching_none : (i : Priced) → i ≡ get_or imports k i → IsLineAt i lines next None → Matching imports lines (k + 1) next (found ++ None ∷ [])
   matching_none i i_is line = matching_no (λ d in_next same.
-      both_ways (same_ends i (get_or lines next d)) (line d in_next) (same_true i (get_or lines next d) (same_trans (subst (λ j. Same i j) (i_is ∙ get_or_default imports k i d in_k) (record { from = refl; to = refl })) (same_sym same))))
+      both_ways (have_equal_ends i (get_or lines next d)) (line d in_next) (same_true i (get_or lines next d) (same_trans (subst (λ j. Same i j) (i_is ∙ get_or_default imports k i d in_k) (record { from = refl; to = refl })) (same_sym same))))
 
   pub matching_some : (i : Priced) → i ≡ get_or imports k i → (x : ℕ) → IsLineAt i lines next (Some x) → Matching imports lines (k + 1) (next + 1) (found ++ Some x ∷ [])
   matching_some i i_is x line =

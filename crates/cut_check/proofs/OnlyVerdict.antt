@@ -37,38 +37,38 @@ same_place xs p q x y from to f t e at_p at_q x_ends y_ends =
     record { from_is = sym x_ends.0 ∙ ap (λ (v : Priced). v.from) same ∙ y_ends.0; to_is = sym x_ends.1 ∙ ap (λ (v : Priced). v.to) same ∙ y_ends.1 }
 
 module _ (net : Network) (lines : List Priced) where
-  later_stray : (from to f t : ℕ) (s : IsFirstStray net lines from to) (r : IsFirstStray net lines f t) → s.place < r.place → ⊥
+  later_stray : (from to f t : ℕ) (s : IsFirstStray net lines from to) (r : IsFirstStray net lines f t) → s.index < r.index → ⊥
   later_stray from to f t s r lt =
-      let in_lines = slice_get_within lines r.place r.line r.at_place in
-      let len : length (take r.place lines) ≡ r.place = length-take-le r.place lines (omega arith) in
-      s.stray (subst (AreImportsInOrder net) (take-take (s.place + 1) r.place lines (omega arith)) (front_in_order net (take r.place lines) (s.place + 1) (omega arith) r.before))
+      let in_lines = slice_get_within lines r.index r.line r.at_index in
+      let len : length (take r.index lines) ≡ r.index = length-take-le r.index lines (omega arith) in
+      s.stray (subst (AreImportsInOrder net) (take-take (s.index + 1) r.index lines (omega arith)) (front_in_order net (take r.index lines) (s.index + 1) (omega arith) r.before))
 
   stray_same : (from to f t : ℕ) → IsFirstStray net lines from to → IsFirstStray net lines f t → Ends from to f t
-  stray_same from to f t s r = elim (cases_order s.place r.place) [
-    | inl e ↦ same_place lines s.place r.place s.line r.line from to f t e s.at_place r.at_place s.ends r.ends
+  stray_same from to f t s r = elim (cases_order s.index r.index) [
+    | inl e ↦ same_place lines s.index r.index s.line r.line from to f t e s.at_index r.at_index s.ends r.ends
     | inr h ↦ elim h [ inl lt ↦ absurd (later_stray from to f t s r lt) | inr lt ↦ absurd (later_stray f t from to r s lt) ]
   ]
 
   not_stray : (from to : ℕ) → AreImportsInOrder net lines → IsFirstStray net lines from to → ⊥
-  not_stray from to o s = let in_lines = slice_get_within lines s.place s.line s.at_place in s.stray (front_in_order net lines (s.place + 1) (omega arith) o)
+  not_stray from to o s = let in_lines = slice_get_within lines s.index s.line s.at_index in s.stray (front_in_order net lines (s.index + 1) (omega arith) o)
 
 module _ (net : Network) (flow : Priced → ℕ) where
-  earlier_over : (from to f t : ℕ) (s : IsFirstOver net flow from to) (r : IsFirstOver net flow f t) → s.place < r.place → ⊥
+  earlier_over : (from to f t : ℕ) (s : IsFirstOver net flow from to) (r : IsFirstOver net flow f t) → s.index < r.index → ⊥
   earlier_over from to f t s r lt =
-      let in_s = slice_get_within net.imports s.place s.import s.at_place in
-      let in_r = slice_get_within net.imports r.place r.import r.at_place in
-      let len : length (take r.place net.imports) ≡ r.place = length-take-le r.place net.imports (omega arith) in
-      r.before s.import (s.place, omega arith, get_or-take r.place net.imports s.place s.import lt ∙ get_or_from_slice_get net.imports s.place s.import s.import s.at_place) s.free s.over
+      let in_s = slice_get_within net.imports s.index s.import s.at_index in
+      let in_r = slice_get_within net.imports r.index r.import r.at_index in
+      let len : length (take r.index net.imports) ≡ r.index = length-take-le r.index net.imports (omega arith) in
+      r.before s.import (s.index, omega arith, get_or-take r.index net.imports s.index s.import lt ∙ get_or_from_slice_get net.imports s.index s.import s.import s.at_index) s.free s.over
 
   over_same : (from to f t : ℕ) → IsFirstOver net flow from to → IsFirstOver net flow f t → Ends from to f t
-  over_same from to f t s r = elim (cases_order s.place r.place) [
-    | inl e ↦ same_place net.imports s.place r.place s.import r.import from to f t e s.at_place r.at_place s.ends r.ends
+  over_same from to f t s r = elim (cases_order s.index r.index) [
+    | inl e ↦ same_place net.imports s.index r.index s.import r.import from to f t e s.at_index r.at_index s.ends r.ends
     | inr h ↦ elim h [ inl lt ↦ absurd (earlier_over from to f t s r lt) | inr lt ↦ absurd (earlier_over f t from to r s lt) ]
   ]
 
   not_over : (from to : ℕ) → AreUnder net flow → IsFirstOver net flow from to → ⊥
   not_over from to under s =
-      under s.import (s.place, slice_get_within net.imports s.place s.import s.at_place, get_or_from_slice_get net.imports s.place s.import s.import s.at_place) s.free s.over
+      under s.import (s.index, slice_get_within net.imports s.index s.import s.at_index, get_or_from_slice_get net.imports s.index s.import s.import s.at_index) s.free s.over
 
   off_same : (a b m n : ℕ) → IsFirstOff net a b flow m → IsFirstOff net a b flow n → m ≡ n
   off_same a b m n s r = elim (cases_order m n) [

@@ -7,13 +7,13 @@ use Rattle.std.proofs.lemmas.List.Elements.{All-take}
 use Rattle.std.proofs.lemmas.Option.{slice_get_within, slice_get-get_or}
 use Rattle.cut_net.specs.declared.priced.Priced.{Priced}
 use Rattle.cut_net.specs.Network.{Network}
-use Rattle.cut_net.specs.Cuts.{Chain, Outside, weight, same_ends}
+use Rattle.cut_net.specs.Cuts.{Chain, Outside, weight, have_equal_ends}
 use Rattle.cut_net.specs.Lines.{AreImportsInOrder, IsImport, amount_in, removed_by, flow_by}
 use Rattle.cut_net.specs.Pins.{AreWeightsWithPins, IsRemovable}
 use Rattle.cut_net.proofs.Chains.{widened}
 use Rattle.cut_check.specs.Matched.{AreMatched}
 use Rattle.cut_check.specs.Reaching.{IsAllowed}
-use Rattle.cut_check.specs.Sums.{AreAmounts, AreMarks, AreTheirWeights}
+use Rattle.cut_check.specs.Sums.{AreAmounts, HaveAmounts, AreTheirWeights}
 use Rattle.cut_check.specs.Sums.{IsFlowVerdict}
 use Rattle.cut_check.specs.Verdicts.{HasCut, IsFirstStray, IsCutVerdict}
 use Rattle.cut_check.specs.declared.verdict.Verdict.{Verdict}
@@ -34,15 +34,15 @@ front_in_order net lines n short o =
 pub record AllMatched (net : Network) (lines : List Priced) (amounts : List (Option ℕ)) : Type 0 where
   pub in_order : AreImportsInOrder net lines
   pub size : length amounts ≡ length net.imports
-  pub each : (k : ℕ) (d : Priced) → k < length net.imports → get_or amounts k None ≡ option_map (λ (l : Priced). l.amount) (find (same_ends (get_or net.imports k d)) lines)
+  pub each : (k : ℕ) (d : Priced) → k < length net.imports → get_or amounts k None ≡ option_map (λ (l : Priced). l.amount) (find (have_equal_ends (get_or net.imports k d)) lines)
 
-pub all_read : (net : Network) (lines : List Priced) (count : ℕ) (amounts : List (Option ℕ)) → AreMatched net lines count amounts → length lines ≤ count → AllMatched net lines amounts
-all_read net lines count amounts m h =
+pub read_modules : (net : Network) (lines : List Priced) (count : ℕ) (amounts : List (Option ℕ)) → AreMatched net lines count amounts → length lines ≤ count → AllMatched net lines amounts
+read_modules net lines count amounts m h =
     let whole = take_all count lines h in
     record {
       in_order = subst (AreImportsInOrder net) whole m.in_order;
       size = m.size;
-      each = λ k d in_k. subst (λ v. get_or amounts k None ≡ option_map (λ (l : Priced). l.amount) (find (same_ends (get_or net.imports k d)) v)) whole (m.each k d None in_k);
+      each = λ k d in_k. subst (λ v. get_or amounts k None ≡ option_map (λ (l : Priced). l.amount) (find (have_equal_ends (get_or net.imports k d)) v)) whole (m.each k d None in_k);
     }
 
 some_of : (o : Option Priced) → is_some (option_map (λ (l : Priced). l.amount) o) ≡ is_some o
@@ -54,11 +54,11 @@ amount_of None = refl
 amount_of (Some l) = refl
 
 module _ (net : Network) (lines : List Priced) (amounts : List (Option ℕ)) (r : AllMatched net lines amounts) where
-  pub marks : AreMarks net.imports (removed_by lines) amounts
-  marks k d in_k = ap is_some (r.each k d in_k) ∙ some_of (find (same_ends (get_or net.imports k d)) lines)
+  pub marks : HaveAmounts net.imports (removed_by lines) amounts
+  marks k d in_k = ap is_some (r.each k d in_k) ∙ some_of (find (have_equal_ends (get_or net.imports k d)) lines)
 
   pub flows : AreAmounts net.imports (flow_by lines) amounts
-  flows k d in_k = ap (λ o. unwrap_or o 0) (r.each k d in_k) ∙ amount_of (find (same_ends (get_or net.imports k d)) lines)
+  flows k d in_k = ap (λ o. unwrap_or o 0) (r.each k d in_k) ∙ amount_of (find (have_equal_ends (get_or net.imports k d)) lines)
 
   module _ (allowed : List Bool) (allowed_is : allowed ≡ map (λ (o : Option ℕ). not (is_some o)) amounts) where
     test_at : (k : ℕ) → k < length net.imports → get_or allowed k false ≡ not (is_some (get_or amounts k None))
@@ -84,14 +84,14 @@ module _ (net : Network) (lines : List Priced) (amounts : List (Option ℕ)) (r 
   line_weight_back None w h = tt
   line_weight_back (Some l) w h = h
 
-  pub weights : AreTheirWeights net.imports amounts → (i : Priced) → Contains net.imports i → IfSome (find (same_ends i) lines) (λ line. line.amount ≡ i.amount)
+  pub weights : AreTheirWeights net.imports amounts → (i : Priced) → Contains net.imports i → IfSome (find (have_equal_ends i) lines) (λ line. line.amount ≡ i.amount)
   weights w i c =
       let h = w c.0 i c.1 in
-      let at_i : IfSome (find (same_ends (get_or net.imports c.0 i)) lines) (λ line. line.amount ≡ (get_or net.imports c.0 i).amount) =
+      let at_i : IfSome (find (have_equal_ends (get_or net.imports c.0 i)) lines) (λ line. line.amount ≡ (get_or net.imports c.0 i).amount) =
       line_weight _ _ (subst (λ o. IfSome o (λ x. x ≡ (get_or net.imports c.0 i).amount)) (r.each c.0 i c.1) h) in
-      subst (λ v. IfSome (find (same_ends v) lines) (λ line. line.amount ≡ v.amount)) c.2 at_i
+      subst (λ v. IfSome (find (have_equal_ends v) lines) (λ line. line.amount ≡ v.amount)) c.2 at_i
 
-  pub weights_back : ((i : Priced) → Contains net.imports i → IfSome (find (same_ends i) lines) (λ line. line.amount ≡ i.amount)) → AreTheirWeights net.imports amounts
+  pub weights_back : ((i : Priced) → Contains net.imports i → IfSome (find (have_equal_ends i) lines) (λ line. line.amount ≡ i.amount)) → AreTheirWeights net.imports amounts
   weights_back w k d in_k =
       let i = get_or net.imports k d in
       let h = w i (k, in_k, get_or_default net.imports k i d in_k) in
@@ -109,13 +109,13 @@ some line = Some line
 -- the line after those in order is the first stray one
 pub stray_from : (net : Network) (lines : List Priced) (count : ℕ) (amounts : List (Option ℕ)) → AreMatched net lines count amounts →
     (line : Priced) → slice_get lines count ≡ Some line → IsFirstStray net lines line.from line.to
-stray_from net lines count amounts m line at_place = record {
-  place = count;
+stray_from net lines count amounts m line at_index = record {
+  index = count;
   line = line;
-  at_place = at_place;
+  at_index = at_index;
   ends = (refl, refl);
   before = m.in_order;
-  stray = m.no_more (slice_get_within lines count line at_place);
+  stray = m.no_more (slice_get_within lines count line at_index);
 }
 
 pub if_ok : {A E : Type 0} (P Q : A → Type 0) (r : Result A E) → ((v : A) → P v → Q v) → IfOk r P → IfOk r Q

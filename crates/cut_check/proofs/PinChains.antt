@@ -5,18 +5,18 @@ use Rattle.std.proofs.lemmas.Bool.{both_ways, cases_Bool, cases_eq}
 use Rattle.std.proofs.lemmas.List.Elements.{All-contains}
 use Rattle.cut_net.specs.declared.priced.Priced.{Priced}
 use Rattle.cut_net.specs.Network.{Network}
-use Rattle.cut_net.specs.Cuts.{Imports, IsChain, same_ends}
+use Rattle.cut_net.specs.Cuts.{Imports, IsChain, have_equal_ends}
 use Rattle.cut_net.specs.Lines.{IsImport}
 use Rattle.cut_net.specs.Pins.{is_pinned, ArePins, ByPin, IsPinChain, PinChain}
 use Rattle.cut_net.proofs.Ends.{same_from}
-use Rattle.cut_net.proofs.ListSums.{here, there}
+use Rattle.cut_net.proofs.ListSums.{here, present}
 use Rattle.cut_check.specs.Verdicts.{AreChainEnds, IsPinnedAt}
 
 found_member : (p : Priced → Bool) (xs : List Priced) → is_some (find p xs) ≡ true → (x : Priced) × Contains xs x × (p x ≡ true)
 found_member p [] e = absurd cc
 found_member p (x ∷ xs) e = elim (cases_Bool (p x)) [
   | inl t ↦ (x, here x xs, t)
-  | inr f ↦ let rest = found_member p xs (rw f at e) in (rest.0, there x xs rest.0 rest.1, rest.2)
+  | inr f ↦ let rest = found_member p xs (rw f at e) in (rest.0, present x xs rest.0 rest.1, rest.2)
 ]
 
 pinned_by_ends : (net : Network) (i j : Priced) → i.from ≡ j.from → i.to ≡ j.to → is_pinned net i ≡ is_pinned net j
@@ -25,8 +25,8 @@ pinned_by_ends net i j ef et = ap₂ (λ (f : ℕ) (t : ℕ). is_some (find (λ 
 -- ends of a pin are those of a pinned import
 pub from_pin : (net : Network) → ArePins net → (pair : Priced) → is_pinned net pair ≡ true → Imports net.imports (ByPin net) pair.from pair.to
 from_pin net pins pair t =
-    let (pin, there, same) = found_member (same_ends pair) net.pins t in
-    let (i, c, ef, et, _) = All-contains (IsImport net) net.pins pin pins.in_order.known there in
+    let (pin, present, same) = found_member (have_equal_ends pair) net.pins t in
+    let (i, c, ef, et, _) = All-contains (IsImport net) net.pins pin pins.in_order.known present in
     let ends = same_from pair pin same in
     let from_is = ef ∙ sym ends.from in
     let to_is = et ∙ sym ends.to in
@@ -45,7 +45,7 @@ import_or_none (x ∷ xs) Allowed decide m n =
     let more : ((x.from ≡ m) × (x.to ≡ n) × Allowed x → ⊥) → (Imports xs Allowed m n → ⊥) → Imports (x ∷ xs) Allowed m n → ⊥ =
     λ not_here none s. elim (import_at x xs Allowed m n s.0 s.1.0 s.1.1 s.1.2 s.2 s.3 s.4) [ inl h ↦ not_here h | inr h ↦ none h ] in
     elim (import_or_none xs Allowed decide m n) [
-      | inl s ↦ inl (s.0, there x xs s.0 s.1, s.2, s.3, s.4)
+      | inl s ↦ inl (s.0, present x xs s.0 s.1, s.2, s.3, s.4)
       | inr none ↦ elim (cases_eq x.from m) [
         | inr ne ↦ inr (more (λ h. ne h.0) none)
         | inl ef ↦ elim (cases_eq x.to n) [

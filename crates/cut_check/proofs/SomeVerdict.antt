@@ -6,8 +6,8 @@ use Rattle.std.proofs.lemmas.List.{get_or_default, get_or-take, length-take-le}
 use Rattle.std.proofs.lemmas.Option.{slice_get-get_or}
 use Rattle.cut_net.specs.declared.priced.Priced.{Priced}
 use Rattle.cut_net.specs.Network.{Network}
-use Rattle.cut_net.specs.Said.{CutOf}
-use Rattle.cut_net.specs.Cuts.{Outside, entering, leaving, same_ends, weight}
+use Rattle.cut_net.specs.AnswerClaim.{CutOf}
+use Rattle.cut_net.specs.Cuts.{Outside, entering, leaving, have_equal_ends, weight}
 use Rattle.cut_net.specs.Lines.{AreImportsInOrder, IsAscending, removed_by, flow_by}
 use Rattle.cut_net.specs.Pins.{is_pinned, AreWeightsWithPins, IsRemovable}
 use Rattle.cut_net.specs.WellFormed.{IsNetwork}
@@ -18,7 +18,7 @@ use Rattle.cut_check.specs.Verdicts.{AreConserved, AreRead, AreUnder, HasCut, Ha
 use Rattle.cut_check.specs.declared.verdict.Verdict.TheVariants.{Yes, NoSuchImport, StillChain, WrongWeight, OverWeight, NotKept, WrongValue}
 use Rattle.cut_check.proofs.Flows.{beyond}
 use Rattle.cut_check.proofs.Matching.{Matching, matching_start, matching_more, matching_end}
-use Rattle.cut_check.proofs.Parts.{all_read, stray_at}
+use Rattle.cut_check.proofs.Parts.{read_modules, stray_at}
 
 -- a fact that holds below n, or the first place where it doesn't
 pub data Below (P : ℕ → Type 0) (n : ℕ) : Type 0 where
@@ -38,11 +38,11 @@ below P decide (suc n) = elim (below P decide n) [
 line_at : (i : Priced) (lines : List Priced) (next : ℕ) → (o : Option ℕ) × IsLineAt i lines next o
 line_at i lines next = elim (cases_lt next (length lines)) [
   | inr le ↦ (None, λ d lt. absurd (omega arith))
-  | inl lt ↦ elim (cases_Bool (same_ends i (get_or lines next any))) [
-    | inr differs ↦ (None, λ d _. ap (same_ends i) (get_or_default lines next d any lt) ∙ differs)
+  | inl lt ↦ elim (cases_Bool (have_equal_ends i (get_or lines next any))) [
+    | inr differs ↦ (None, λ d _. ap (have_equal_ends i) (get_or_default lines next d any lt) ∙ differs)
     | inl same ↦ (
       Some (get_or lines next any).amount,
-      (lt, λ d. (ap (same_ends i) (get_or_default lines next d any lt) ∙ same, ap (λ (l : Priced). l.amount) (get_or_default lines next any d lt))),
+      (lt, λ d. (ap (have_equal_ends i) (get_or_default lines next d any lt) ∙ same, ap (λ (l : Priced). l.amount) (get_or_default lines next any d lt))),
     )
   ]
 ]
@@ -72,7 +72,7 @@ in_order_or_stray net lines ascending =
     let p = passed net.imports lines ascending (length net.imports) (omega arith) in
     let matched = matching_end net lines p.next p.found p.done in
     elim (cases_lt p.next (length lines)) [
-      | inr le ↦ inl (all_read net lines p.next p.found matched le).in_order
+      | inr le ↦ inl (read_modules net lines p.next p.found matched le).in_order
       | inl lt ↦
           let line = get_or lines p.next any in
           inr (line.from, line.to, stray_at net lines p.next p.found matched line lt (get_or_default lines p.next any line lt))
@@ -166,9 +166,9 @@ module _ (net : Network) (a b : ℕ) (printed : List Priced) (total : ℕ) (flow
             cut,
             weigh,
             record {
-              place = k;
+              index = k;
               import = i;
-              at_place = slice_get-get_or net.imports k any lt;
+              at_index = slice_get-get_or net.imports k any lt;
               ends = (refl, refl);
               free = free_of k fails;
               over = over_of k fails;
@@ -184,7 +184,7 @@ module _ (net : Network) (a b : ℕ) (printed : List Priced) (total : ℕ) (flow
 
   -- the line of the import at a place, if it has one, has its weight
   WeightAt : ℕ → Type 0
-  WeightAt k = IfSome (find (same_ends (get_or net.imports k any)) printed) (λ line. line.amount ≡ (get_or net.imports k any).amount)
+  WeightAt k = IfSome (find (have_equal_ends (get_or net.imports k any)) printed) (λ line. line.amount ≡ (get_or net.imports k any).amount)
 
   if_some_or_not : (o : Option Priced) (w : ℕ) → (IfSome o (λ line. line.amount ≡ w)) ⊎ (IfSome o (λ line. line.amount ≡ w) → ⊥)
   if_some_or_not None w = inl tt
@@ -192,11 +192,11 @@ module _ (net : Network) (a b : ℕ) (printed : List Priced) (total : ℕ) (flow
 
   weight_or_not : (k : ℕ) → WeightAt k ⊎ (WeightAt k → ⊥)
   unfolding WeightAt
-  weight_or_not k = if_some_or_not (find (same_ends (get_or net.imports k any)) printed) (get_or net.imports k any).amount
+  weight_or_not k = if_some_or_not (find (have_equal_ends (get_or net.imports k any)) printed) (get_or net.imports k any).amount
 
-  weight_here : (i : Priced) (k : ℕ) → get_or net.imports k any ≡ i → WeightAt k → IfSome (find (same_ends i) printed) (λ line. line.amount ≡ i.amount)
+  weight_here : (i : Priced) (k : ℕ) → get_or net.imports k any ≡ i → WeightAt k → IfSome (find (have_equal_ends i) printed) (λ line. line.amount ≡ i.amount)
   unfolding WeightAt
-  weight_here i k e h = subst (λ v. IfSome (find (same_ends v) printed) (λ line. line.amount ≡ v.amount)) e h
+  weight_here i k e h = subst (λ v. IfSome (find (have_equal_ends v) printed) (λ line. line.amount ≡ v.amount)) e h
 
   -- the import at a place isn't both printed and pinned
   FreeAt : ℕ → Type 0

@@ -1,8 +1,8 @@
 -- The imports that a search may use, as arcs. For each import there is a flag, whether the search may use it.
 use Rattle.std.specs.Prelude.{◌≡◌, ℕ, ◌<◌, true, false, Bool, if◌then◌else◌, List, length, slice_index_or}
 use Rattle.cut_net.specs.declared.priced.Priced.{Priced}
-use Rattle.cut_residual.specs.declared.arc.Arc.{Arc}
-use Rattle.cut_residual.specs.Graphs.{no_arc}
+use Rattle.residual_graph.specs.declared.arc.Arc.{Arc}
+use Rattle.residual_graph.specs.Graphs.{no_arc}
 
 -- the search may use the import
 abbrev pub IsAllowed : List Priced → List Bool → Priced → Type 0

@@ -19,11 +19,11 @@ AreWithin net amounts count = (k : ℕ) (d : Priced) → k < count → is_pinned
 
 -- the first unpinned import with an amount above its weight
 pub record IsFirstAbove (net : Network) (amounts : List (Option ℕ)) (i : Priced) : Type 0 where
-  pub place : ℕ
-  pub at_place : slice_get net.imports place ≡ Some i
+  pub index : ℕ
+  pub at_index : slice_get net.imports index ≡ Some i
   pub free : is_pinned net i ≡ false
-  pub above : i.amount < unwrap_or (slice_index_or amounts place None) 0
-  pub before : AreWithin net amounts place
+  pub above : i.amount < unwrap_or (slice_index_or amounts index None) 0
+  pub before : AreWithin net amounts index
 
 -- the inflow and the outflow of each module
 pub record AreSums (imports : List Priced) (flow : Priced → ℕ) (modules : ℕ) (into out : List ℕ) : Type 0 where
@@ -31,8 +31,8 @@ pub record AreSums (imports : List Priced) (flow : Priced → ℕ) (modules : �
   pub out_is : (m : ℕ) → m < modules → slice_index out m ≡ leaving imports flow m
 
 -- exactly the imports of the set have amounts
-abbrev pub AreMarks : List Priced → (Priced → Bool) → List (Option ℕ) → Type 0
-AreMarks imports x amounts = (k : ℕ) (d : Priced) → k < length imports → is_some (slice_index_or amounts k None) ≡ x (slice_index_or imports k d)
+abbrev pub HaveAmounts : List Priced → (Priced → Bool) → List (Option ℕ) → Type 0
+HaveAmounts imports x amounts = (k : ℕ) (d : Priced) → k < length imports → is_some (slice_index_or amounts k None) ≡ x (slice_index_or imports k d)
 
 -- each amount is the weight of its import
 abbrev pub AreTheirWeights : List Priced → List (Option ℕ) → Type 0

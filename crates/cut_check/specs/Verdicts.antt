@@ -1,8 +1,9 @@
--- The verdict on a cut with a flow, or on a path of pinned imports: yes, or the first cause that holds. Each cause is defined by what it denies.
+-- The verdict on a cut with a flow, or on a path of pinned imports: yes, or the first cause that holds. Each cause is defined by what it
+-- denies.
 use Rattle.std.specs.Prelude.{◌≡◌, ◌≢◌, ◌⊎◌, ℕ, ◌+◌, ◌-◌, ◌<◌, false, List, Some, length, slice_get, slice_index, take, Contains}
 use Rattle.cut_net.specs.declared.priced.Priced.{Priced}
 use Rattle.cut_net.specs.Network.{Network}
-use Rattle.cut_net.specs.Said.{Said, CutOf, BlockedBy}
+use Rattle.cut_net.specs.AnswerClaim.{AnswerClaim, CutOf, BlockedBy}
 use Rattle.cut_net.specs.Cuts.{Chain, Imports, Outside, entering, leaving}
 use Rattle.cut_net.specs.Lines.{AreImportsInOrder, removed_by, flow_by}
 use Rattle.cut_net.specs.Pins.{is_pinned, AreWeightsWithPins, ByPin, IsPinChain, IsRightWithPins}
@@ -11,12 +12,12 @@ use Rattle.cut_check.specs.declared.verdict.Verdict.TheVariants.{Yes, NoSuchImpo
 
 -- the lines before this index are in order, and together with the line at the index, which has these ends, they aren't
 pub record IsFirstStray (net : Network) (lines : List Priced) (from to : ℕ) : Type 0 where
-  pub place : ℕ
+  pub index : ℕ
   pub line : Priced
-  pub at_place : slice_get lines place ≡ Some line
+  pub at_index : slice_get lines index ≡ Some line
   pub ends : (line.from ≡ from) × (line.to ≡ to)
-  pub before : AreImportsInOrder net (take place lines)
-  pub stray : AreImportsInOrder net (take (place + 1) lines) → ⊥
+  pub before : AreImportsInOrder net (take index lines)
+  pub stray : AreImportsInOrder net (take (index + 1) lines) → ⊥
 
 -- the first line of both lists that is out of order or no import, the reported imports before the flow
 abbrev pub IsStray : Network → List Priced → List Priced → ℕ → ℕ → Type 0
@@ -38,13 +39,13 @@ pub record HasCut (net : Network) (a b : ℕ) (printed flow : List Priced) : Typ
 
 -- the first unpinned import whose flow is above its weight has these ends
 pub record IsFirstOver (net : Network) (flow : Priced → ℕ) (from to : ℕ) : Type 0 where
-  pub place : ℕ
+  pub index : ℕ
   pub import : Priced
-  pub at_place : slice_get net.imports place ≡ Some import
+  pub at_index : slice_get net.imports index ≡ Some import
   pub ends : (import.from ≡ from) × (import.to ≡ to)
   pub free : is_pinned net import ≡ false
   pub over : import.amount < flow import
-  pub before : (i : Priced) → Contains (take place net.imports) i → is_pinned net i ≡ false → i.amount < flow i → ⊥
+  pub before : (i : Priced) → Contains (take index net.imports) i → is_pinned net i ≡ false → i.amount < flow i → ⊥
 
 -- no flow is above its import's weight, unless the import is pinned
 abbrev pub AreUnder : Network → (Priced → ℕ) → Type 0
@@ -87,15 +88,15 @@ AreChainEnds a b chain = (0 < length chain) × (slice_index chain 0 ≡ a) × (s
 
 -- the module at this index imports the next one by a pinned import
 abbrev pub IsPinnedAt : Network → List ℕ → ℕ → Type 0
-IsPinnedAt net chain place = Imports net.imports (ByPin net) (slice_index chain place) (slice_index chain (place + 1))
+IsPinnedAt net chain index = Imports net.imports (ByPin net) (slice_index chain index) (slice_index chain (index + 1))
 
 -- these are the first two consecutive modules without a pinned import from the one to the other
 pub record IsFirstUnpinned (net : Network) (chain : List ℕ) (from to : ℕ) : Type 0 where
-  pub place : ℕ
-  pub within : place + 1 < length chain
-  pub ends : (slice_index chain place ≡ from) × (slice_index chain (place + 1) ≡ to)
-  pub unpinned : IsPinnedAt net chain place → ⊥
-  pub before : (j : ℕ) → j < place → IsPinnedAt net chain j
+  pub index : ℕ
+  pub within : index + 1 < length chain
+  pub ends : (slice_index chain index ≡ from) × (slice_index chain (index + 1) ≡ to)
+  pub unpinned : IsPinnedAt net chain index → ⊥
+  pub before : (j : ℕ) → j < index → IsPinnedAt net chain j
 
 -- the verdict on a path of pinned imports, whose ends are compared first
 abbrev pub IsChainVerdict : Network → ℕ → ℕ → List ℕ → Verdict → Type 0
@@ -109,10 +110,10 @@ IsChainVerdict net a b chain WrongValue = ⊥
 IsChainVerdict net a b chain (NotPinned from to) = AreChainEnds a b chain × IsFirstUnpinned net chain from to
 
 -- the verdict on an answer about two modules
-abbrev pub IsVerdict : Network → ℕ → ℕ → Said → Verdict → Type 0
+abbrev pub IsVerdict : Network → ℕ → ℕ → AnswerClaim → Verdict → Type 0
 IsVerdict net a b (CutOf total printed flow) verdict = IsCutVerdict net a b printed total flow verdict
 IsVerdict net a b (BlockedBy chain) verdict = IsChainVerdict net a b chain verdict
 
 -- a verdict holds
-abbrev pub HasVerdict : Network → ℕ → ℕ → Said → Type 0
-HasVerdict net a b said = (verdict : Verdict) × IsVerdict net a b said verdict
+abbrev pub HasVerdict : Network → ℕ → ℕ → AnswerClaim → Type 0
+HasVerdict net a b claim = (verdict : Verdict) × IsVerdict net a b claim verdict

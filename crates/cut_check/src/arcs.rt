@@ -3,7 +3,7 @@ ghost use Rattle.std.specs.Prelude.{◌≡◌, ◌<◌, IfOk, length};
 ghost use Rattle.cut_check.specs.Reaching.{AreArcs, arc_for};
 
 use cut_net::Priced;
-use cut_residual::Arc;
+use residual_graph::Arc;
 use std::alloc::{AllocError, Global};
 
 fn arc_for(i: Priced, allowed: bool) -> Arc

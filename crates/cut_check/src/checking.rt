@@ -1,8 +1,8 @@
 //! The checker.
 ghost use Rattle.std.specs.Prelude.{◌≡◌, ◌<◌, ◌↔◌, IsTrue, IfOk, length};
 ghost use Rattle.cut_net.specs.Cuts.{Chain};
-ghost use Rattle.cut_net.specs.Answers.{said_by, said_by_cut};
-ghost use Rattle.cut_net.specs.Pins.{IsCheapestSaidWithPins};
+ghost use Rattle.cut_net.specs.Answers.{answer_claim, cut_claim};
+ghost use Rattle.cut_net.specs.Pins.{IsCheapestAnswerWithPins};
 ghost use Rattle.cut_check.specs.Reaching.{IsAllowed};
 ghost use Rattle.cut_check.specs.Verdicts.{IsVerdict};
 
@@ -14,7 +14,7 @@ use crate::pins::check_chain;
 use crate::weights::has_weights;
 use cut_net::laws::{certificate_with_pins, no_cut_of_pins};
 use cut_net::{Answer, Cut, Net};
-use cut_residual::marks;
+use residual_graph::marks;
 use std::alloc::{AllocError, Global};
 
 /// Whether a path leads from the one module to the other by imports that the search may use.
@@ -30,21 +30,21 @@ fn has_chain(
     requires allowed { length allowed.now ≡ length net.now.imports }
     ensures { IfOk result (λ yes. IsTrue yes ↔ Chain net.now.imports (IsAllowed net.now.imports allowed.now) from to) }
 {
-    net.keeps();
+    net.invariants();
     let arcs = arcs_of(alloc, net.imports(), allowed)?;
-    let seen = marks(alloc, &arcs, net.nodes(), from)?;
-    Ok(seen[to as usize])
+    let reached_flags = marks(alloc, &arcs, net.nodes(), from)?;
+    Ok(reached_flags[to as usize])
 }
 
 /// The verdict on a cut between two modules.
 fn check_cut(alloc: Global, net: &Net, from: u32, to: u32, cut: &Cut) -> Result<Verdict, AllocError>
     requires from { from < length net.now.names }
     requires to { to < length net.now.names }
-    ensures exact { IfOk result (IsVerdict net.now from to (said_by_cut cut.now)) }
-    ensures cheapest { IfOk result (λ v. v ≡ Verdict.Yes → IsCheapestSaidWithPins net.now from to (said_by_cut cut.now)) }
+    ensures exact { IfOk result (IsVerdict net.now from to (cut_claim cut.now)) }
+    ensures cheapest { IfOk result (λ v. v ≡ Verdict.Yes → IsCheapestAnswerWithPins net.now from to (cut_claim cut.now)) }
 {
     certificate_with_pins();
-    net.keeps();
+    net.invariants();
     let printed = match_lines(alloc, net, &cut.imports)?;
     if let Some(line) = cut.imports.get(printed.count) {
         return Ok(Verdict::NoSuchImport {
@@ -83,9 +83,9 @@ pub fn check(
     // `to` is a module.
     requires to { to < length net.now.names }
     // The verdict is the first cause that holds, or `Yes`.
-    ensures exact { IfOk result (IsVerdict net.now from to (said_by answer.now)) }
+    ensures exact { IfOk result (IsVerdict net.now from to (answer_claim answer.now)) }
     // After `Yes` no set of unpinned imports that is a cut weighs less; or no such set is a cut.
-    ensures cheapest { IfOk result (λ v. v ≡ Verdict.Yes → IsCheapestSaidWithPins net.now from to (said_by answer.now)) }
+    ensures cheapest { IfOk result (λ v. v ≡ Verdict.Yes → IsCheapestAnswerWithPins net.now from to (answer_claim answer.now)) }
 {
     no_cut_of_pins();
     match answer {

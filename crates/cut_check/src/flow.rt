@@ -22,13 +22,13 @@ fn first_above(net: &Net, amounts: &[Option<u64>]) -> Option<Priced>
     None
 }
 
-fn add_at(sums: &mut Vec<u128>, place: usize, amount: u64)
-    requires place { place < vec_len sums.old }
-    requires fits { slice_index sums.old.items place + amount < 2 ^ 128 }
-    ensures items { sums.new.items ≡ slice_set sums.old.items place (slice_index sums.old.items place + amount) }
+fn add_at(sums: &mut Vec<u128>, index: usize, amount: u64)
+    requires index { index < vec_len sums.old }
+    requires fits { slice_index sums.old.items index + amount < 2 ^ 128 }
+    ensures items { sums.new.items ≡ slice_set sums.old.items index (slice_index sums.old.items index + amount) }
     ensures size { vec_len sums.new ≡ vec_len sums.old }
 {
-    sums[place] += u128::from(amount);
+    sums[index] += u128::from(amount);
 }
 
 /// The inflow and the outflow of each module. With pinned imports they may exceed 64 bits.
@@ -104,7 +104,7 @@ pub(crate) fn check_flow(
     requires amounts { length amounts.now ≡ length net.now.imports }
     ensures { IfOk result (λ v. (flow : Priced → ℕ) → AreAmounts net.now.imports flow amounts.now → IsFlowVerdict net.now from to flow total v) }
 {
-    net.keeps();
+    net.invariants();
     let imports = net.imports();
     if let Some(over) = first_above(net, amounts) {
         return Ok(Verdict::OverWeight {

@@ -1,13 +1,13 @@
 //! The lines of a report, matched with the imports of the network.
 ghost use Rattle.std.specs.Prelude.{◌≡◌, ℕ, IfOk, Option, is_some, map, not};
-ghost use Rattle.cut_net.specs.Cuts.{same_ends};
+ghost use Rattle.cut_net.specs.Cuts.{have_equal_ends};
 ghost use Rattle.cut_check.specs.Matched.{AreMatched, IsLineAt};
 
 use cut_net::{Net, Priced};
 use std::alloc::{AllocError, Global};
 
-fn has_same_ends(i: Priced, j: Priced) -> bool
-    ensures { result ≡ same_ends i j }
+fn has_equal_ends(i: Priced, j: Priced) -> bool
+    ensures { result ≡ have_equal_ends i j }
 {
     i.from == j.from && i.to == j.to
 }
@@ -15,7 +15,7 @@ fn has_same_ends(i: Priced, j: Priced) -> bool
 fn amount_at(i: Priced, lines: &[Priced], next: usize) -> Option<u64>
     ensures { IsLineAt i lines.now next result }
 {
-    if next < lines.len() && has_same_ends(i, lines[next]) {
+    if next < lines.len() && has_equal_ends(i, lines[next]) {
         Some(lines[next].amount)
     } else {
         None
@@ -33,7 +33,7 @@ pub(crate) struct Matched {
 pub(crate) fn match_lines(alloc: Global, net: &Net, lines: &[Priced]) -> Result<Matched, AllocError>
     ensures { IfOk result (λ m. AreMatched net.now lines.now m.count m.amounts.items) }
 {
-    net.keeps();
+    net.invariants();
     let imports = net.imports();
     let mut amounts = Vec::new(alloc);
     let mut count = 0;

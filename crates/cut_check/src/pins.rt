@@ -10,7 +10,7 @@ use cut_net::{Net, Priced, line_of};
 pub(crate) fn is_pinned(net: &Net, import: Priced) -> bool
     ensures { result ≡ is_pinned net.now import }
 {
-    net.keeps();
+    net.invariants();
     line_of(net.pins(), import).is_some()
 }
 
@@ -20,7 +20,7 @@ fn first_unpinned(net: &Net, chain: &[u32]) -> Option<Priced>
         ((k : ℕ) → k + 1 < length chain.now → IsPinnedAt net.now chain.now k)
         (λ pair. IsFirstUnpinned net.now chain.now pair.from pair.to) }
 {
-    net.keeps();
+    net.invariants();
     for k in 1..chain.len() {
         let pair = Priced {
             from: chain[k - 1],

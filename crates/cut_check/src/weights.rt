@@ -3,7 +3,7 @@ ghost use Rattle.std.specs.Prelude.{◌≡◌, ◌<◌, ◌^◌, ◌↔◌, Bool
 ghost use Rattle.cut_net.specs.declared.priced.Priced.{Priced};
 ghost use Rattle.cut_net.specs.Cuts.{weight};
 ghost use Rattle.cut_net.specs.Pins.{IsRemovable};
-ghost use Rattle.cut_check.specs.Sums.{AreMarks, AreTheirWeights};
+ghost use Rattle.cut_check.specs.Sums.{HaveAmounts, AreTheirWeights};
 
 use crate::pins::is_pinned;
 use cut_net::{Net, Priced};
@@ -21,7 +21,7 @@ fn is_weight(amount: Option<u64>, weight: u64) -> bool
 fn add_up(imports: &[Priced], amounts: &[Option<u64>], total: u64) -> bool
     requires amounts { length amounts.now ≡ length imports.now }
     requires fits { sum_by (λ i. i.amount) imports.now < 2 ^ 64 }
-    ensures { (x : Priced → Bool) → AreMarks imports.now x amounts.now →
+    ensures { (x : Priced → Bool) → HaveAmounts imports.now x amounts.now →
         (IsTrue result ↔ (AreTheirWeights imports.now amounts.now × (total ≡ weight imports.now x))) }
 {
     let mut sum = 0;
@@ -37,7 +37,7 @@ fn add_up(imports: &[Priced], amounts: &[Option<u64>], total: u64) -> bool
 /// Whether no import with an amount is pinned.
 fn are_removable(net: &Net, amounts: &[Option<u64>]) -> bool
     requires { length amounts.now ≡ length net.now.imports }
-    ensures { (x : Priced → Bool) → AreMarks net.now.imports x amounts.now → (IsTrue result ↔ IsRemovable net.now x) }
+    ensures { (x : Priced → Bool) → HaveAmounts net.now.imports x amounts.now → (IsTrue result ↔ IsRemovable net.now x) }
 {
     for (k, i) in net.imports().iter().enumerate() {
         if amounts[k].is_some() && is_pinned(net, *i) {
@@ -50,9 +50,9 @@ fn are_removable(net: &Net, amounts: &[Option<u64>]) -> bool
 /// Whether no import with an amount is pinned, each amount is its import's weight, and the total is their sum.
 pub(crate) fn has_weights(net: &Net, amounts: &[Option<u64>], total: u64) -> bool
     requires { length amounts.now ≡ length net.now.imports }
-    ensures { (x : Priced → Bool) → AreMarks net.now.imports x amounts.now →
+    ensures { (x : Priced → Bool) → HaveAmounts net.now.imports x amounts.now →
         (IsTrue result ↔ (IsRemovable net.now x × AreTheirWeights net.now.imports amounts.now × (total ≡ weight net.now.imports x))) }
 {
-    net.keeps();
+    net.invariants();
     are_removable(net, amounts) && add_up(net.imports(), amounts, total)
 }

@@ -7,7 +7,7 @@ use Rattle.cut_net.specs.declared.priced.Priced.{Priced}
 use Rattle.cut_net.specs.Cuts.{Any, Chain}
 use Rattle.cut_net.specs.Network.{Network}
 use Rattle.cut_net.proofs.Chains.{joined}
-use Rattle.cut_part.specs.Inside.{inside}
+use Rattle.cut_part.specs.Subnetworks.{are_ends_in}
 use Rattle.cut_dot.specs.Ends.{is_chain_end}
 use Rattle.cut_dot.specs.Pictures.{drawn_imports, drawn_modules, is_drawn, is_reported, numbers, reported_imports, AreStillReached, IsFlowPicture, IsPicture}
 use Rattle.cut_dot.specs.Texts.{picture_text}
@@ -32,7 +32,7 @@ pub alone : (net : Network) (a b : ℕ) (printed flow : List Priced) (text : Lis
 alone net a b printed flow text is no_chain =
     let none : (m : ℕ) → is.between m ≡ false = λ m. false_from_ne_true _ (λ t. let on = (is.are_between m).0 t in no_chain (joined net.imports Any a m b on.0 on.1)) in
     let modules : drawn_modules net a b is.between ≡ filter (is_chain_end a b) (numbers net) = two_ends net a b is.between none in
-    let imports : drawn_imports net is.between ≡ [] = no_members (inside is.between) (λ i. ap (λ (t : Bool). t && is.between i.to) (none i.from)) net.imports in
+    let imports : drawn_imports net is.between ≡ [] = no_members (are_ends_in is.between) (λ i. ap (λ (t : Bool). t && is.between i.to) (none i.from)) net.imports in
     (is.reached, is.are_reached, is.text_is ∙ ap₂ (λ (ms : List ℕ) (some : List Priced). picture_text net a b printed flow is.reached ms some) modules imports)
 
 pub alone_by_flow : (net : Network) (a b : ℕ) (text : List ℕ) → IsFlowPicture net a b [] [] text

@@ -7,14 +7,14 @@ use Rattle.std.proofs.lemmas.List.Elements.{Contains-append_cases, Contains-appe
 use Rattle.digraph.proofs.Members.{first_member, later_member, no_member, one_member}
 use Rattle.cut_net.specs.declared.priced.Priced.{Priced}
 use Rattle.cut_net.specs.Cuts.{AreThose}
-use Rattle.cut_part.specs.Inside.{inside}
+use Rattle.cut_part.specs.Subnetworks.{are_ends_in}
 use Rattle.cut_part.specs.Marks.{with_ends}
 use Rattle.cut_part.proofs.Parts.{end_marked, start_marked, still_marked}
-use Rattle.cut_residual.specs.Graphs.{is_seen}
+use Rattle.residual_graph.specs.Graphs.{is_flagged}
 use Rattle.cut_dot.specs.Pictures.{IsAtEnd}
 
 -- where nothing is marked, no import is looked at
-pub none_at_end : (marks : List Bool) → ((m : ℕ) → is_seen marks m ≡ false) → AreThose (is_seen marks) (IsAtEnd [])
+pub none_at_end : (marks : List Bool) → ((m : ℕ) → is_flagged marks m ≡ false) → AreThose (is_flagged marks) (IsAtEnd [])
 none_at_end marks blank m = (λ t. let no = sym (blank m) ∙ t in absurd cc, λ (i, within, at). no_member i within)
 
 module _ (imports : List Priced) (k : ℕ) (d : Priced) (marks : List Bool) where
@@ -22,8 +22,8 @@ module _ (imports : List Priced) (k : ℕ) (d : Priced) (marks : List Bool) wher
   one_behind in_k i within = subst (λ (v : List Priced). Contains v i) (take_more imports k d in_k) within
 
   -- the marks, with the ends of the next import
-  pub one_more_at_end : k < length imports → (get_or imports k d).from < length marks → (get_or imports k d).to < length marks → AreThose (is_seen marks) (IsAtEnd (take k imports))
-      → AreThose (is_seen (with_ends marks (get_or imports k d).from (get_or imports k d).to)) (IsAtEnd (take (k + 1) imports))
+  pub one_more_at_end : k < length imports → (get_or imports k d).from < length marks → (get_or imports k d).to < length marks → AreThose (is_flagged marks) (IsAtEnd (take k imports))
+      → AreThose (is_flagged (with_ends marks (get_or imports k d).from (get_or imports k d).to)) (IsAtEnd (take (k + 1) imports))
   one_more_at_end in_k from_in to_in so_far m =
       let i = get_or imports k d in
       let whole = take_more imports k d in_k in
@@ -41,8 +41,8 @@ module _ (imports : List Priced) (k : ℕ) (d : Priced) (marks : List Bool) wher
         λ (j, within, at). elim (Contains-append_cases (take k imports) (i ∷ []) j (one_behind in_k j within)) [
           | inl before ↦ still_marked marks i.from i.to m ((so_far m).1 (j, before, at))
           | inr here ↦ let same = one_member i j here in elim at [
-            | inl from ↦ subst (λ (n : ℕ). is_seen (with_ends marks i.from i.to) n ≡ true) (ap (λ (x : Priced). x.from) same ∙ from) (start_marked marks i.from i.to from_in)
-            | inr to ↦ subst (λ (n : ℕ). is_seen (with_ends marks i.from i.to) n ≡ true) (ap (λ (x : Priced). x.to) same ∙ to) (end_marked marks i.from i.to to_in)
+            | inl from ↦ subst (λ (n : ℕ). is_flagged (with_ends marks i.from i.to) n ≡ true) (ap (λ (x : Priced). x.from) same ∙ from) (start_marked marks i.from i.to from_in)
+            | inr to ↦ subst (λ (n : ℕ). is_flagged (with_ends marks i.from i.to) n ≡ true) (ap (λ (x : Priced). x.to) same ∙ to) (end_marked marks i.from i.to to_in)
           ]
         ],
       )
@@ -52,5 +52,5 @@ all_pass p [] passes = refl
 all_pass p (x ∷ xs) passes = rw (passes x (first_member x xs x refl)) (ap (λ ys. x ∷ ys) (all_pass p xs (λ y within. passes y (later_member x xs y within))))
 
 -- all imports lead between modules at their ends
-pub all_inside : (marks : ℕ → Bool) (imports : List Priced) → AreThose marks (IsAtEnd imports) → filter (inside marks) imports ≡ imports
-all_inside marks imports at_ends = all_pass (inside marks) imports (λ i within. and_from _ _ ((at_ends i.from).1 (i, within, inl refl)) ((at_ends i.to).1 (i, within, inr refl)))
+pub all_inside : (marks : ℕ → Bool) (imports : List Priced) → AreThose marks (IsAtEnd imports) → filter (are_ends_in marks) imports ≡ imports
+all_inside marks imports at_ends = all_pass (are_ends_in marks) imports (λ i within. and_from _ _ ((at_ends i.from).1 (i, within, inl refl)) ((at_ends i.to).1 (i, within, inr refl)))

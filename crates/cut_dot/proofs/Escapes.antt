@@ -28,4 +28,4 @@ name_plain [] e = λ k d lt. absurd (omega arith)
 name_plain (b ∷ bytes) e = let p = and_parts _ _ e in all_plain (b ∷ bytes) (and_from _ _ (letter_is b p.0) p.1)
 
 pub names_plain : (net : Network) → IsNetwork net → All NeedsNoEscape net.names
-names_plain net keeps k d lt = name_plain (get_or net.names k d) (keeps.named k d lt)
+names_plain net invariants k d lt = name_plain (get_or net.names k d) (invariants.named k d lt)

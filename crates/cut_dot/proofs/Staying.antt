@@ -6,8 +6,8 @@ use Rattle.cut_net.specs.Cuts.{Any, AreThose, Chain, Outside}
 use Rattle.cut_net.specs.Lines.{removed_by}
 use Rattle.cut_net.specs.WellFormed.{AreBetween}
 use Rattle.cut_net.proofs.Chains.{widened}
-use Rattle.cut_residual.specs.Graphs.{is_seen}
-use Rattle.cut_part.specs.Marks.{AreChained}
+use Rattle.residual_graph.specs.Graphs.{is_flagged}
+use Rattle.cut_part.specs.Marks.{AreReachable}
 use Rattle.cut_dot.specs.Pictures.{stays}
 
 not_true : (t : Bool) → not t ≡ true → t ≡ false
@@ -34,5 +34,5 @@ module _ (imports printed : List Priced) where
   )
 
   -- the marked modules are those that are reached by the imports that stay
-  pub still_reached : (a : ℕ) (marks : List Bool) → AreChained (filter (stays printed) imports) a marks → AreThose (is_seen marks) (Chain imports (Outside (removed_by printed)) a)
-  still_reached a marks chained m = (λ t. to_outside a m ((chained m).0 t), λ c. (chained m).1 (from_outside a m c))
+  pub still_reached : (a : ℕ) (marks : List Bool) → AreReachable (filter (stays printed) imports) a marks → AreThose (is_flagged marks) (Chain imports (Outside (removed_by printed)) a)
+  still_reached a marks mark_reachable m = (λ t. to_outside a m ((mark_reachable m).0 t), λ c. (mark_reachable m).1 (from_outside a m c))

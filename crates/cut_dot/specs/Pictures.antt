@@ -8,8 +8,8 @@ use Rattle.cut_net.specs.declared.answer.Answer.TheVariants as answers
 use Rattle.cut_net.specs.Network.{Network}
 use Rattle.cut_net.specs.Cuts.{AreThose, Chain, Outside}
 use Rattle.cut_net.specs.Lines.{flow_by, removed_by}
-use Rattle.cut_net.specs.Said.{Said, CutOf, BlockedBy}
-use Rattle.cut_part.specs.Inside.{inside, IsBetween}
+use Rattle.cut_net.specs.AnswerClaim.{AnswerClaim, CutOf, BlockedBy}
+use Rattle.cut_part.specs.Subnetworks.{are_ends_in, IsBetween}
 use Rattle.cut_dot.specs.Ends.{is_chain_end}
 use Rattle.cut_dot.specs.Texts.{picture_text}
 
@@ -27,17 +27,17 @@ drawn_modules net a b between = filter (is_drawn a b between) (numbers net)
 
 -- the imports of the picture, in order: those whose modules are both on a path from a to b
 abbrev pub drawn_imports : Network → (ℕ → Bool) → List Priced
-drawn_imports net between = filter (inside between) net.imports
+drawn_imports net between = filter (are_ends_in between) net.imports
 
 -- the imports that an answer removes, none for an answer without a cut
-abbrev pub removed_said : Answer → List Priced
-removed_said (answers.Cut cut) = cut.imports.items
-removed_said (answers.Blocked chain) = []
+abbrev pub answer_removed : Answer → List Priced
+answer_removed (answers.Cut cut) = cut.imports.items
+answer_removed (answers.Blocked chain) = []
 
 -- the flow of an answer
-abbrev pub flow_said : Answer → List Priced
-flow_said (answers.Cut cut) = cut.flow.items
-flow_said (answers.Blocked chain) = []
+abbrev pub answer_flow : Answer → List Priced
+answer_flow (answers.Cut cut) = cut.flow.items
+answer_flow (answers.Blocked chain) = []
 
 -- the import isn't removed
 abbrev pub stays : List Priced → Priced → Bool
@@ -47,7 +47,8 @@ stays printed i = not (removed_by printed i)
 abbrev pub AreStillReached : Network → ℕ → List Priced → (ℕ → Bool) → Type 0
 AreStillReached net a printed reached = AreThose reached (Chain net.imports (Outside (removed_by printed)) a)
 
--- the text is the picture: the modules on paths from a to b with a and b, the imports between those on paths, each once, with their attributes
+-- the text is the picture: the modules on paths from a to b with a and b, the imports between those on paths, each once, with their
+-- attributes
 pub record IsPicture (net : Network) (a b : ℕ) (printed flow : List Priced) (text : List ℕ) : Type 0 where
   -- the modules on paths from a to b
   pub between : ℕ → Bool
@@ -110,6 +111,6 @@ abbrev pub IsPathPicture : Network → ℕ → ℕ → List ℕ → List ℕ →
 IsPathPicture net a b path text = IsPictureOfImports net a b [] [] (path_imports net path) text
 
 -- the text is the picture by flow of an answer: of a cut, or of the path of pinned imports because of which there is none
-abbrev pub IsPictureByFlow : Network → ℕ → ℕ → Said → List ℕ → Type 0
+abbrev pub IsPictureByFlow : Network → ℕ → ℕ → AnswerClaim → List ℕ → Type 0
 IsPictureByFlow net a b (CutOf total printed flow) text = IsFlowPicture net a b printed flow text
 IsPictureByFlow net a b (BlockedBy path) text = IsPathPicture net a b path text

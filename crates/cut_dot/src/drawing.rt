@@ -1,16 +1,16 @@
 //! Writing a picture.
 ghost use Rattle.std.specs.Prelude.{◌≡◌, ◌<◌, [], length};
 ghost use Rattle.byte_sink.specs.Sinks.{failures_after};
-ghost use Rattle.cut_net.specs.Answers.{said_by};
+ghost use Rattle.cut_net.specs.Answers.{answer_claim};
 ghost use Rattle.cut_net.specs.Lines.{IsAscending};
 ghost use Rattle.cut_net.specs.WellFormed.{AreBetween};
 ghost use Rattle.cut_dot.specs.Drawing.{IsDrawing, IsDrawingOf, IsFlowDrawing};
-ghost use Rattle.cut_dot.specs.Pictures.{flow_said, removed_said, IsFlowPicture, IsPathPicture, IsPictureOfImports};
+ghost use Rattle.cut_dot.specs.Pictures.{answer_flow, answer_removed, IsFlowPicture, IsPathPicture, IsPictureOfImports};
 
 use crate::path::imports_along;
 use crate::reached::reached_from;
 use crate::reported::{marked_ends, reported_among};
-use crate::text::put_text;
+use crate::text::write_text;
 use byte_sink::{Sink, SinkFault};
 use cut_net::{Answer, Cut, Net, Priced};
 use cut_part::between;
@@ -32,14 +32,14 @@ fn draw_cut<S: Sink>(
     ensures run { IsDrawing net.now from to cut.now.imports.items cut.now.flow.items (S.taken sink.old) (S.taken sink.new) result }
     ensures failures { S.failures sink.new ≡ failures_after result (S.failures sink.old) }
 {
-    net.keeps();
+    net.invariants();
     let Ok(part) = between(alloc, net, from, to) else {
         return Err(SinkFault::Memory);
     };
     let Ok(reached) = reached_from(alloc, net, cut.imports.as_slice(), from) else {
         return Err(SinkFault::Memory);
     };
-    put_text(
+    write_text(
         alloc,
         net,
         (from, to),
@@ -73,7 +73,7 @@ fn draw_imports<S: Sink>(
     let Ok(reached) = reached_from(alloc, net, cut.imports.as_slice(), ends.0) else {
         return Err(SinkFault::Memory);
     };
-    put_text(alloc, net, ends, cut, imports, &marks, &reached, sink)
+    write_text(alloc, net, ends, cut, imports, &marks, &reached, sink)
 }
 
 /// Writes the picture of a cut by its flow.
@@ -90,7 +90,7 @@ fn draw_flow_of_cut<S: Sink>(
     ensures run { IsDrawingOf (IsFlowPicture net.now ends.0 ends.1 cut.now.imports.items cut.now.flow.items) (S.taken sink.old) (S.taken sink.new) result }
     ensures failures { S.failures sink.new ≡ failures_after result (S.failures sink.old) }
 {
-    net.keeps();
+    net.invariants();
     let removed = cut.imports.as_slice();
     let Ok(imports) = reported_among(alloc, net.imports(), removed, cut.flow.as_slice()) else {
         return Err(SinkFault::Memory);
@@ -122,7 +122,7 @@ fn draw_path<S: Sink>(
     ensures run { IsDrawingOf (IsPathPicture net.now ends.0 ends.1 path.now) (S.taken sink.old) (S.taken sink.new) result }
     ensures failures { S.failures sink.new ≡ failures_after result (S.failures sink.old) }
 {
-    net.keeps();
+    net.invariants();
     let Ok(imports) = imports_along(alloc, net.imports(), path) else {
         return Err(SinkFault::Memory);
     };
@@ -149,11 +149,11 @@ pub fn draw<S: Sink>(
     // `to` is a module.
     requires to { to < length net.now.names }
     // The imports to remove are strictly sorted.
-    requires removed { IsAscending (removed_said answer.now) }
+    requires removed { IsAscending (answer_removed answer.now) }
     // The imports with flow are strictly sorted.
-    requires flow { IsAscending (flow_said answer.now) }
+    requires flow { IsAscending (answer_flow answer.now) }
     // With `Ok` the sink took the whole picture, otherwise a prefix of it.
-    ensures run { IsDrawing net.now from to (removed_said answer.now) (flow_said answer.now) (S.taken sink.old) (S.taken sink.new) result }
+    ensures run { IsDrawing net.now from to (answer_removed answer.now) (answer_flow answer.now) (S.taken sink.old) (S.taken sink.new) result }
     // The sink counts a failure if and only if the result is `Device`.
     ensures failures { S.failures sink.new ≡ failures_after result (S.failures sink.old) }
 {
@@ -180,11 +180,11 @@ pub fn draw_flow<S: Sink>(
     // `to` is a module.
     requires to { to < length net.now.names }
     // The imports to remove are strictly sorted.
-    requires removed { IsAscending (removed_said answer.now) }
+    requires removed { IsAscending (answer_removed answer.now) }
     // The imports with flow are strictly sorted.
-    requires flow { IsAscending (flow_said answer.now) }
+    requires flow { IsAscending (answer_flow answer.now) }
     // With `Ok` the sink took the whole picture by flow, otherwise a prefix of it.
-    ensures run { IsFlowDrawing net.now from to (said_by answer.now) (S.taken sink.old) (S.taken sink.new) result }
+    ensures run { IsFlowDrawing net.now from to (answer_claim answer.now) (S.taken sink.old) (S.taken sink.new) result }
     // The sink counts a failure if and only if the result is `Device`.
     ensures failures { S.failures sink.new ≡ failures_after result (S.failures sink.old) }
 {

@@ -10,7 +10,7 @@ ghost use Rattle.cut_dot.specs.Pictures.{numbers, path_imports, AreStillReached,
 ghost use Rattle.cut_dot.specs.Texts.{picture_text, NeedsNoEscape};
 
 /// If no path leads from A to B, the picture has only A and B, and no import.
-pub fn alone_without_chain()
+pub fn only_ends_without_path()
     // The text is that of a graph with A and B and no import.
     ensures { (net : Network) (a b : ℕ) (printed flow : List Priced) (text : List ℕ) → IsPicture net a b printed flow text →
         (Chain net.imports Any a b → ⊥) →
@@ -18,7 +18,7 @@ pub fn alone_without_chain()
 {}
 
 /// If a cut removes nothing and nothing flows, its picture by flow has only A and B, and no import.
-pub fn alone_without_flow()
+pub fn only_ends_without_flow()
     // The text is that of a graph with A and B and no import.
     ensures { (net : Network) (a b : ℕ) (text : List ℕ) → IsFlowPicture net a b [] [] text →
         (reached : ℕ → Bool) × AreStillReached net a [] reached × (text ≡ picture_text net a b [] [] reached (filter (is_chain_end a b) (numbers net)) []) }

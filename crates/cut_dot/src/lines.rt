@@ -9,7 +9,7 @@ use cut_net::{Net, Priced, line_of};
 pub(crate) fn is_pinned(net: &Net, import: Priced) -> bool
     ensures { result ≡ is_pinned net.now import }
 {
-    net.keeps();
+    net.invariants();
     line_of(net.pins(), import).is_some()
 }
 

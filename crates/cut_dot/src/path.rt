@@ -7,7 +7,7 @@ ghost use Rattle.cut_dot.specs.Pictures.{is_step, steps};
 ghost use Rattle.cut_dot.specs.Steps.{line_of_step};
 
 use cut_net::{Priced, line_of};
-use digraph::{Edge, put_in_order};
+use digraph::{Edge, sort_all};
 use std::alloc::{AllocError, Global};
 
 /// The steps of a path from each module to the next, sorted, each once.
@@ -22,7 +22,7 @@ fn steps_of(alloc: Global, path: &[u32]) -> Result<Vec<Edge>, AllocError>
             to: path[next],
         })?;
     }
-    put_in_order(&mut found);
+    sort_all(&mut found);
     Ok(found)
 }
 

@@ -3,12 +3,12 @@ ghost use Rattle.std.specs.Prelude.{◌≡◌, ◌<◌, IfOk, filter, length, ma
 ghost use Rattle.cut_net.specs.Cuts.{AreThose, Chain, Outside};
 ghost use Rattle.cut_net.specs.Lines.{removed_by, IsAscending};
 ghost use Rattle.cut_part.specs.Marks.{open_arc};
-ghost use Rattle.cut_residual.specs.Graphs.{is_seen};
+ghost use Rattle.residual_graph.specs.Graphs.{is_flagged};
 ghost use Rattle.cut_dot.specs.Pictures.{stays};
 
 use crate::lines::is_removed;
 use cut_net::{Net, Priced};
-use cut_residual::{Arc, ResidualGraph, search};
+use residual_graph::{Arc, ResidualGraph, search};
 use std::alloc::{AllocError, Global};
 
 /// Whether the import isn't removed.
@@ -48,11 +48,11 @@ pub(crate) fn reached_from(
     requires start { start < length net.now.names }
     requires ascending { IsAscending removed.now }
     ensures size { IfOk result (λ marks. length marks.items ≡ length net.now.names) }
-    ensures reached { IfOk result (λ marks. AreThose (is_seen marks.items) (Chain net.now.imports (Outside (removed_by removed.now)) start)) }
+    ensures reached { IfOk result (λ marks. AreThose (is_flagged marks.items) (Chain net.now.imports (Outside (removed_by removed.now)) start)) }
 {
-    net.keeps();
+    net.invariants();
     let arcs = arcs_of(alloc, net.imports(), removed)?;
     let graph = ResidualGraph::new(alloc, arcs, net.nodes())?;
     let found = search(alloc, &graph, start)?;
-    Ok(found.seen)
+    Ok(found.reached_flags)
 }

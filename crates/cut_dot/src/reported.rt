@@ -3,7 +3,7 @@ ghost use Rattle.std.specs.Prelude.{◌≡◌, IfOk, filter, length};
 ghost use Rattle.cut_net.specs.Cuts.{AreThose};
 ghost use Rattle.cut_net.specs.Lines.{IsAscending};
 ghost use Rattle.cut_net.specs.WellFormed.{AreBetween};
-ghost use Rattle.cut_residual.specs.Graphs.{is_seen};
+ghost use Rattle.residual_graph.specs.Graphs.{is_flagged};
 ghost use Rattle.cut_dot.specs.Pictures.{is_reported, IsAtEnd};
 
 use crate::lines::{flow_on, is_removed};
@@ -47,7 +47,7 @@ pub(crate) fn marked_ends(
 ) -> Result<Vec<bool>, AllocError>
     requires { AreBetween imports.now modules }
     ensures size { IfOk result (λ marks. length marks.items ≡ modules) }
-    ensures ends { IfOk result (λ marks. AreThose (is_seen marks.items) (IsAtEnd imports.now)) }
+    ensures ends { IfOk result (λ marks. AreThose (is_flagged marks.items) (IsAtEnd imports.now)) }
 {
     let mut marks = vec![in alloc; false; modules as usize]?;
     for import in imports {

@@ -2,21 +2,20 @@
 ghost use Rattle.std.specs.Prelude.{◌≡◌, ◌<◌, ◌++◌, if◌then◌else◌, [], IfErr, OnOk, filter, length};
 ghost use Rattle.std.specs.List.{flat_map};
 ghost use Rattle.std.specs.String.{string_bytes};
-ghost use Rattle.byte_sink.specs.Sinks.{failures_after, AppendsFront, Puts};
+ghost use Rattle.byte_sink.specs.Sinks.{failures_after, AppendsPrefix, Writes};
 ghost use Rattle.cut_net.specs.Lines.{IsAscending};
 ghost use Rattle.cut_net.specs.WellFormed.{AreBetween};
-ghost use Rattle.text_pieces.specs.Pieces.{PutsAllBut};
-ghost use Rattle.cut_part.specs.Inside.{inside};
-ghost use Rattle.cut_residual.specs.Graphs.{is_seen};
+ghost use Rattle.byte_sink.specs.Pieces.{WritesAllBut};
+ghost use Rattle.cut_part.specs.Subnetworks.{are_ends_in};
+ghost use Rattle.residual_graph.specs.Graphs.{is_flagged};
 ghost use Rattle.cut_dot.specs.Ends.{is_chain_end};
 ghost use Rattle.cut_dot.specs.Pictures.{drawn_modules, is_drawn};
 ghost use Rattle.cut_dot.specs.Texts.{end_mark, ends_text, head_text, line_of_import, label_text, line_of_module, module_line, picture_text, pin_text, reached_mark, removed_mark};
 
 use crate::lines::{flow_on, is_pinned, is_removed};
-use byte_sink::{Sink, SinkFault, put_all};
+use byte_sink::{Sink, SinkFault, flush_if_full, write_fully};
 use cut_net::{Cut, Net, Priced};
 use std::alloc::{AllocError, Global};
-use text_pieces::put_enough;
 
 /// The beginning of the graph: it goes from left to right, and its label is the legend.
 fn head_text() -> &'static str
@@ -108,11 +107,11 @@ fn push_drawn<S: Sink>(
     requires marks { length marks.now ≡ length net.now.names }
     requires reached { length reached.now ≡ length net.now.names }
     requires node { node < length net.now.names }
-    ensures gathered { OnOk result (PutsAllBut (S.taken sink.old) (S.taken sink.new) (string_bytes text.old ++
-        (if is_drawn from to (is_seen marks.now) node then line_of_module net.now from to (is_seen reached.now) node else []))
+    ensures gathered { OnOk result (WritesAllBut (S.taken sink.old) (S.taken sink.new) (string_bytes text.old ++
+        (if is_drawn from to (is_flagged marks.now) node then line_of_module net.now from to (is_flagged reached.now) node else []))
         (string_bytes text.new)) }
-    ensures broken { IfErr result (λ _. AppendsFront (S.taken sink.old) (S.taken sink.new) (string_bytes text.old ++
-        (if is_drawn from to (is_seen marks.now) node then line_of_module net.now from to (is_seen reached.now) node else []))) }
+    ensures error_prefix { IfErr result (λ _. AppendsPrefix (S.taken sink.old) (S.taken sink.new) (string_bytes text.old ++
+        (if is_drawn from to (is_flagged marks.now) node then line_of_module net.now from to (is_flagged reached.now) node else []))) }
     ensures failures { S.failures sink.new ≡ failures_after result (S.failures sink.old) }
 {
     let is_chain_end = is_chain_end(from, to, node);
@@ -120,7 +119,7 @@ fn push_drawn<S: Sink>(
         let Ok(()) = push_module(text, net.name(node), is_chain_end, reached[node as usize]) else {
             return Err(SinkFault::Memory);
         };
-        return put_enough(text, sink);
+        return flush_if_full(text, sink);
     }
     Ok(())
 }
@@ -137,11 +136,11 @@ fn push_modules<S: Sink>(
 ) -> Result<(), SinkFault>
     requires marks { length marks.now ≡ length net.now.names }
     requires reached { length reached.now ≡ length net.now.names }
-    ensures gathered { OnOk result (PutsAllBut (S.taken sink.old) (S.taken sink.new) (string_bytes text.old ++
-        flat_map (line_of_module net.now from to (is_seen reached.now)) (drawn_modules net.now from to (is_seen marks.now)))
+    ensures gathered { OnOk result (WritesAllBut (S.taken sink.old) (S.taken sink.new) (string_bytes text.old ++
+        flat_map (line_of_module net.now from to (is_flagged reached.now)) (drawn_modules net.now from to (is_flagged marks.now)))
         (string_bytes text.new)) }
-    ensures broken { IfErr result (λ _. AppendsFront (S.taken sink.old) (S.taken sink.new) (string_bytes text.old ++
-        flat_map (line_of_module net.now from to (is_seen reached.now)) (drawn_modules net.now from to (is_seen marks.now)))) }
+    ensures error_prefix { IfErr result (λ _. AppendsPrefix (S.taken sink.old) (S.taken sink.new) (string_bytes text.old ++
+        flat_map (line_of_module net.now from to (is_flagged reached.now)) (drawn_modules net.now from to (is_flagged marks.now)))) }
     ensures failures { S.failures sink.new ≡ failures_after result (S.failures sink.old) }
 {
     for node in 0..net.nodes() {
@@ -176,7 +175,7 @@ fn push_import(
 }
 
 /// Appends the line of an import, if both its modules are flagged, and writes the text if it is long.
-fn push_inside<S: Sink>(
+fn push_internal<S: Sink>(
     text: &mut String,
     net: &Net,
     marks: &[bool],
@@ -190,18 +189,18 @@ fn push_inside<S: Sink>(
     requires flow { IsAscending flow.now }
     requires from { import.from < length net.now.names }
     requires to { import.to < length net.now.names }
-    ensures gathered { OnOk result (PutsAllBut (S.taken sink.old) (S.taken sink.new) (string_bytes text.old ++
-        (if inside (is_seen marks.now) import then line_of_import net.now removed.now flow.now import else []))
+    ensures gathered { OnOk result (WritesAllBut (S.taken sink.old) (S.taken sink.new) (string_bytes text.old ++
+        (if are_ends_in (is_flagged marks.now) import then line_of_import net.now removed.now flow.now import else []))
         (string_bytes text.new)) }
-    ensures broken { IfErr result (λ _. AppendsFront (S.taken sink.old) (S.taken sink.new) (string_bytes text.old ++
-        (if inside (is_seen marks.now) import then line_of_import net.now removed.now flow.now import else []))) }
+    ensures error_prefix { IfErr result (λ _. AppendsPrefix (S.taken sink.old) (S.taken sink.new) (string_bytes text.old ++
+        (if are_ends_in (is_flagged marks.now) import then line_of_import net.now removed.now flow.now import else []))) }
     ensures failures { S.failures sink.new ≡ failures_after result (S.failures sink.old) }
 {
     if marks[import.from as usize] & marks[import.to as usize] {
         let Ok(()) = push_import(text, net, removed, flow, import) else {
             return Err(SinkFault::Memory);
         };
-        return put_enough(text, sink);
+        return flush_if_full(text, sink);
     }
     Ok(())
 }
@@ -220,21 +219,21 @@ fn push_imports<S: Sink>(
     requires marks { length marks.now ≡ length net.now.names }
     requires removed { IsAscending removed.now }
     requires flow { IsAscending flow.now }
-    ensures gathered { OnOk result (PutsAllBut (S.taken sink.old) (S.taken sink.new) (string_bytes text.old ++
-        flat_map (line_of_import net.now removed.now flow.now) (filter (inside (is_seen marks.now)) imports.now))
+    ensures gathered { OnOk result (WritesAllBut (S.taken sink.old) (S.taken sink.new) (string_bytes text.old ++
+        flat_map (line_of_import net.now removed.now flow.now) (filter (are_ends_in (is_flagged marks.now)) imports.now))
         (string_bytes text.new)) }
-    ensures broken { IfErr result (λ _. AppendsFront (S.taken sink.old) (S.taken sink.new) (string_bytes text.old ++
-        flat_map (line_of_import net.now removed.now flow.now) (filter (inside (is_seen marks.now)) imports.now))) }
+    ensures error_prefix { IfErr result (λ _. AppendsPrefix (S.taken sink.old) (S.taken sink.new) (string_bytes text.old ++
+        flat_map (line_of_import net.now removed.now flow.now) (filter (are_ends_in (is_flagged marks.now)) imports.now))) }
     ensures failures { S.failures sink.new ≡ failures_after result (S.failures sink.old) }
 {
     for import in imports {
-        push_inside(text, net, marks, removed, flow, *import, sink)?;
+        push_internal(text, net, marks, removed, flow, *import, sink)?;
     }
     Ok(())
 }
 
 /// Writes the text of the picture of the flagged modules and of the imports between them, in pieces.
-pub(crate) fn put_text<S: Sink>(
+pub(crate) fn write_text<S: Sink>(
     alloc: Global,
     net: &Net,
     ends: (u32, u32),
@@ -249,9 +248,9 @@ pub(crate) fn put_text<S: Sink>(
     requires reached { length reached.now ≡ length net.now.names }
     requires removed { IsAscending cut.now.imports.items }
     requires flow { IsAscending cut.now.flow.items }
-    ensures puts { Puts (S.taken sink.old) (S.taken sink.new) result
-        (picture_text net.now ends.0 ends.1 cut.now.imports.items cut.now.flow.items (is_seen reached.now)
-        (drawn_modules net.now ends.0 ends.1 (is_seen marks.now)) (filter (inside (is_seen marks.now)) imports.now)) }
+    ensures writes { Writes (S.taken sink.old) (S.taken sink.new) result
+        (picture_text net.now ends.0 ends.1 cut.now.imports.items cut.now.flow.items (is_flagged reached.now)
+        (drawn_modules net.now ends.0 ends.1 (is_flagged marks.now)) (filter (are_ends_in (is_flagged marks.now)) imports.now)) }
     ensures failures { S.failures sink.new ≡ failures_after result (S.failures sink.old) }
 {
     let removed = cut.imports.as_slice();
@@ -264,5 +263,5 @@ pub(crate) fn put_text<S: Sink>(
     let Ok(()) = text.push_str("}\n") else {
         return Err(SinkFault::Memory);
     };
-    put_all(sink, text.as_bytes())
+    write_fully(sink, text.as_bytes())
 }

@@ -12,7 +12,7 @@ use Rattle.texts.proofs.FieldCuts.{cut_takes, some_is, with_some, without}
 use Rattle.texts.proofs.FieldNames.{decimal_without, name_without, without-append}
 use Rattle.cut_net.specs.NetList.{GoesOn, IsList, IsRepeat, IsRepeatAt, Leaves, Repeats}
 use Rattle.cut_net.specs.NetText.{NetLine, Module, Import, net_line, is_nonempty, pieces_of, AreGood, IsNetLine, IsNetOutcome, Spell, TwiceImport}
-use Rattle.cut_net.specs.declared.straight.LineList.{LineList}
+use Rattle.cut_net.specs.declared.line_list.LineList.{LineList}
 
 no_end : (bytes : List ℕ) → without 10 bytes ≡ true → All (λ b. eqb b 10 ≡ false) bytes
 no_end [] e = All-nil (λ b. eqb b 10 ≡ false)
@@ -101,33 +101,33 @@ pub some_are : (bytes : List ℕ) (none : Bool) → none ≡ eqb (length bytes) 
 some_are [] none e h = absurd cc
 some_are (_ ∷ _) none e h = omega arith
 
-pub leaves_on : (bytes rest behind : List ℕ) (front : List (List ℕ)) (piece : List ℕ) → Leaves bytes front rest → 0 < length rest → Leaves rest (piece ∷ []) behind → Leaves bytes (front ++ piece ∷ []) behind
-leaves_on bytes rest behind front piece (inr (is, done)) some next = let none = ap length done in absurd (omega arith)
-leaves_on bytes rest behind front piece (inl is) some (inl next) = inl (is ∙ ap (λ (t : List (List ℕ)). front ++ t) next ∙ sym (append_assoc front (piece ∷ []) (pieces_of behind)))
-leaves_on bytes rest behind front piece (inl is) some (inr (next, done)) = inr (is ∙ ap (λ (t : List (List ℕ)). front ++ t) next, done)
+pub leaves_on : (bytes rest after : List ℕ) (prefix : List (List ℕ)) (piece : List ℕ) → Leaves bytes prefix rest → 0 < length rest → Leaves rest (piece ∷ []) after → Leaves bytes (prefix ++ piece ∷ []) after
+leaves_on bytes rest after prefix piece (inr (is, done)) some next = let none = ap length done in absurd (omega arith)
+leaves_on bytes rest after prefix piece (inl is) some (inl next) = inl (is ∙ ap (λ (t : List (List ℕ)). prefix ++ t) next ∙ sym (append_assoc prefix (piece ∷ []) (pieces_of after)))
+leaves_on bytes rest after prefix piece (inl is) some (inr (next, done)) = inr (is ∙ ap (λ (t : List (List ℕ)). prefix ++ t) next, done)
 
 -- nothing stands behind the last piece
-pub all_spelled : (bytes rest : List ℕ) (front : List (List ℕ)) (lines : List NetLine) → length rest ≡ 0 → Leaves bytes front rest → Spell front lines → Spell (pieces_of bytes) lines
-all_spelled bytes rest front lines done (inr (is, _)) spelled = rw is spelled
-all_spelled bytes rest front lines done (inl is) spelled =
-    let whole : pieces_of bytes ≡ front ++ [] ∷ [] = is ∙ ap (λ (r : List ℕ). front ++ pieces_of r) (nil_from_length rest done) in
-    ap (filter is_nonempty) whole ∙ filter-append is_nonempty front ([] ∷ []) ∙ append-nil (filter is_nonempty front) ∙ spelled
+pub all_spelled : (bytes rest : List ℕ) (prefix : List (List ℕ)) (lines : List NetLine) → length rest ≡ 0 → Leaves bytes prefix rest → Spell prefix lines → Spell (pieces_of bytes) lines
+all_spelled bytes rest prefix lines done (inr (is, _)) spelled = rw is spelled
+all_spelled bytes rest prefix lines done (inl is) spelled =
+    let whole : pieces_of bytes ≡ prefix ++ [] ∷ [] = is ∙ ap (λ (r : List ℕ). prefix ++ pieces_of r) (nil_from_length rest done) in
+    ap (filter is_nonempty) whole ∙ filter-append is_nonempty prefix ([] ∷ []) ∙ append-nil (filter is_nonempty prefix) ∙ spelled
 
 -- the next piece is of an import that a line has already
-pub repeat_at : (bytes rest : List ℕ) (front : List (List ℕ)) (lines : List NetLine) (list : LineList) (number : ℕ) → number ≡ length front + 1 → Leaves bytes front rest → 0 < length rest → Spell front lines
+pub repeat_at : (bytes rest : List ℕ) (prefix : List (List ℕ)) (lines : List NetLine) (list : LineList) (number : ℕ) → number ≡ length prefix + 1 → Leaves bytes prefix rest → 0 < length rest → Spell prefix lines
     → Repeats rest lines list → IsRepeatAt bytes number list
-repeat_at bytes rest front lines list number next (inr (is, done)) more spelled r = let none = ap length done in absurd (omega arith)
-repeat_at bytes rest front lines list number next (inl is) more spelled (line, later, at, good, repeat) =
-    let whole : pieces_of bytes ≡ front ++ net_line line ∷ later = is ∙ ap (λ (t : List (List ℕ)). front ++ t) at in
-    let long = length-append front (net_line line ∷ later) in
+repeat_at bytes rest prefix lines list number next (inr (is, done)) more spelled r = let none = ap length done in absurd (omega arith)
+repeat_at bytes rest prefix lines list number next (inl is) more spelled (line, later, at, good, repeat) =
+    let whole : pieces_of bytes ≡ prefix ++ net_line line ∷ later = is ∙ ap (λ (t : List (List ℕ)). prefix ++ t) at in
+    let long = length-append prefix (net_line line ∷ later) in
     record {
-      place = length front;
+      place = length prefix;
       next = next;
       before = lines;
       line = line;
-      spelled = rw (whole, take-append_seam front (net_line line ∷ later)) spelled;
-      there = ap (λ (t : List (List ℕ)). slice_get t (length front)) whole ∙ slice_get-get_or (front ++ net_line line ∷ later) (length front) [] (omega arith)
-          ∙ ap some (get_or-append_seam front (net_line line) later []);
+      spelled = rw (whole, take-append_seam prefix (net_line line ∷ later)) spelled;
+      present = ap (λ (t : List (List ℕ)). slice_get t (length prefix)) whole ∙ slice_get-get_or (prefix ++ net_line line ∷ later) (length prefix) [] (omega arith)
+          ∙ ap some (get_or-append_seam prefix (net_line line) later []);
       form = good;
       repeat = repeat;
     }
@@ -143,7 +143,7 @@ repeat_said bytes number list r good = (
   record {
     before = r.before;
     line = r.line;
-    front = record { spelled = r.spelled; good = good r.before r.repeat.1; there = r.there };
+    prefix = record { spelled = r.spelled; good = good r.before r.repeat.1; present = r.present };
     form = r.form;
     twice = r.repeat.0;
   },

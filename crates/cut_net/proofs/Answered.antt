@@ -4,14 +4,14 @@ use Rattle.std.proofs.lemmas.List.Elements.{All-contains, Contains-get_or}
 use Rattle.texts.specs.Fields.{is_name}
 use Rattle.cut_net.specs.Network.{Network}
 use Rattle.cut_net.specs.NetText.{NetLine, Module, Import, IsNetLine, IsNetOf, Mentions, NetText}
-use Rattle.cut_net.specs.NetReading.{IsDraft, IsDraftOf}
+use Rattle.cut_net.specs.NetReading.{HasLines, HasTextLines}
 use Rattle.cut_net.specs.WellFormed.{AreBetween, IsAcyclic, IsNetwork, total_weight}
 use Rattle.cut_net.specs.declared.priced.Priced.{Priced}
-use Rattle.cut_net.specs.declared.draft.NetDraft.{NetDraft}
+use Rattle.cut_net.specs.declared.builder.NetBuilder.{NetBuilder}
 use Rattle.cut_net.proofs.Fronts.{good_lines}
 
-pub net_text : (bytes : List ℕ) (draft : NetDraft) (net : Network) → IsDraftOf bytes draft → ((lines : List NetLine) → IsDraft lines draft → IsNetOf lines net) → NetText bytes net
-net_text bytes draft net (lines, spelled, h) is = record { lines = lines; spelled = spelled; good = good_lines lines _ _ h; is_net = is lines h }
+pub net_text : (bytes : List ℕ) (builder : NetBuilder) (net : Network) → HasTextLines bytes builder → ((lines : List NetLine) → HasLines lines builder → IsNetOf lines net) → NetText bytes net
+net_text bytes builder net (lines, spelled, h) is = record { lines = lines; spelled = spelled; good = good_lines lines _ _ h; is_net = is lines h }
 
 named_by : (name : List ℕ) (line : NetLine) → Mentions name line → IsNetLine line → is_name name ≡ true
 named_by name (Module m) same good = subst (λ (t : List ℕ). is_name t ≡ true) same good
@@ -24,8 +24,8 @@ named_by name (Import m n w) has good =
 pub keeps_all : (bytes : List ℕ) (net : Network) → NetText bytes net → length net.names ≤ 8192 → length net.imports ≤ 65536 → total_weight net < 2 ^ 64 → IsAcyclic net.imports → IsNetwork net
 keeps_all bytes net text few_names few_imports fits acyclic = record {
   named = λ k d within. let name = get_or net.names k d in
-      let (line, there, has) = (text.is_net.named name).0 (Contains-get_or net.names k d within) in
-      named_by name line has (All-contains IsNetLine text.lines line text.good.each there);
+      let (line, present, has) = (text.is_net.named name).0 (Contains-get_or net.names k d within) in
+      named_by name line has (All-contains IsNetLine text.lines line text.good.each present);
   names_ascend = text.is_net.names_ascend;
   few_names = few_names;
   between = text.is_net.between;

@@ -4,7 +4,7 @@ use Rattle.std.specs.Prelude.{Contains}
 use Rattle.std.proofs.lemmas.Bool.{cases_Bool, cases_eq, both_ways}
 use Rattle.cut_net.specs.declared.priced.Priced.{Priced}
 use Rattle.cut_net.specs.Cuts.{Imports, IsChain, Chain, Outside}
-use Rattle.cut_net.proofs.ListSums.{here, there}
+use Rattle.cut_net.proofs.ListSums.{here, present}
 
 pub join : (imports : List Priced) (Allowed : Priced → Type 0) (m : ℕ) (first : List ℕ) (k : ℕ) (b : ℕ) (more : List ℕ) →
     IsChain imports Allowed m first k → IsChain imports Allowed k more b → IsChain imports Allowed m (first ++ more) b
@@ -58,7 +58,7 @@ no_chain_by_none Allowed m [] b e = e
 no_chain_by_none Allowed m (n ∷ more) b ((i, c, ef, et, al), rest) = let h = c.1 in absurd (omega arith)
 
 wider : (xs : List Priced) (x : Priced) (Allowed : Priced → Type 0) (m b : ℕ) → Chain xs Allowed m b → Chain (x ∷ xs) Allowed m b
-wider xs x Allowed m b c = (c.0, widened xs (x ∷ xs) Allowed Allowed (λ i h al. (there x xs i h, al)) m c.0 b c.1)
+wider xs x Allowed m b c = (c.0, widened xs (x ∷ xs) Allowed Allowed (λ i h al. (present x xs i h, al)) m c.0 b c.1)
 
 -- whether there is a chain
 pub chain_or_none : (imports : List Priced) (Allowed : Priced → Type 0) → ((i : Priced) → (Allowed i) ⊎ (Allowed i → ⊥)) → (m b : ℕ) →

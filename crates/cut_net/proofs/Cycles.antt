@@ -7,7 +7,7 @@ use Rattle.digraph.specs.Edges as edges
 use Rattle.digraph.proofs.SameGraphs.{AreSame}
 use Rattle.cut_net.specs.declared.priced.Priced.{Priced}
 use Rattle.cut_net.specs.Lines.{IsAscending, edge_of}
-use Rattle.cut_net.specs.Network.{none_there}
+use Rattle.cut_net.specs.Network.{missing_item}
 use Rattle.cut_net.specs.Cuts.{Any, Imports}
 use Rattle.cut_net.specs.WellFormed.{AreBetween}
 use Rattle.digraph.proofs.Members.{from_map, in_map}
@@ -30,7 +30,7 @@ pairs_between imports count between p h =
 pub pairs_ascend : (imports : List Priced) → IsAscending imports → edges.IsAscending (map edge_of imports)
 pairs_ascend imports up j k d lt l =
     let long : length (map edge_of imports) ≡ length imports = length-map imports edge_of in
-    rw (get_or-map edge_of imports j none_there d (omega arith), get_or-map edge_of imports k none_there d (omega arith)) (up j k none_there lt (omega arith))
+    rw (get_or-map edge_of imports j missing_item d (omega arith), get_or-map edge_of imports k missing_item d (omega arith)) (up j k missing_item lt (omega arith))
 
 -- what follows from what a clause says of a None
 pub IfNone_then : {X : Type 0} (o : Option X) {P Q : Type 0} → (P → Q) → IfNone o P → IfNone o Q

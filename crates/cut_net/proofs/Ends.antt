@@ -2,7 +2,7 @@
 use Rattle.std.proofs.Common.{◌≡◌, ◌<◌, true, sym, ◌∙◌, arith, ◌⊎◌, inl, inr}
 use Rattle.std.proofs.lemmas.Bool.{and_parts, and_from, or_cases, or_left, or_right, ltb-true, lt-ltb, eqb-true, eq-eqb}
 use Rattle.cut_net.specs.declared.priced.Priced.{Priced}
-use Rattle.cut_net.specs.Cuts.{same_ends}
+use Rattle.cut_net.specs.Cuts.{have_equal_ends}
 use Rattle.cut_net.specs.Lines.{comes_before}
 
 -- the same ends
@@ -10,10 +10,10 @@ pub record Same (i j : Priced) : Type 0 where
   pub from : i.from ≡ j.from
   pub to : i.to ≡ j.to
 
-pub same_from : (i j : Priced) → same_ends i j ≡ true → Same i j
+pub same_from : (i j : Priced) → have_equal_ends i j ≡ true → Same i j
 same_from i j e = let p = and_parts _ _ e in record { from = eqb-true i.from j.from p.0; to = eqb-true i.to j.to p.1 }
 
-pub same_true : (i j : Priced) → Same i j → same_ends i j ≡ true
+pub same_true : (i j : Priced) → Same i j → have_equal_ends i j ≡ true
 same_true i j s = and_from _ _ (eq-eqb i.from j.from s.from) (eq-eqb i.to j.to s.to)
 
 pub same_sym : {i j : Priced} → Same i j → Same j i

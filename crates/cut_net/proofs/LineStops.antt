@@ -65,13 +65,13 @@ module _ {L : Type 0} (spelled_of : L → List ℕ) (IsLine : L → Type 0) (onc
 
   next_line : (pieces : List (List ℕ)) (lines before : List L) (k : ℕ) (piece : List ℕ) → Spelled pieces lines → All IsLine lines → Spelled (take k pieces) before → All IsLine before
       → slice_get pieces k ≡ Some piece → is_nonempty piece ≡ true → NextLine lines before piece
-  next_line pieces lines before k piece spelled well front good there written =
-      let rest = rest_at pieces k piece there in
+  next_line pieces lines before k piece spelled well prefix good present written =
+      let rest = rest_at pieces k piece present in
       let shown : filter is_nonempty (piece ∷ rest.0) ≡ piece ∷ filter is_nonempty rest.0 = rw written refl in
       let cut : filter is_nonempty pieces ≡ filter is_nonempty (take k pieces) ++ filter is_nonempty (drop k pieces) =
       ap (filter is_nonempty) (sym (take-append-drop k pieces)) ∙ filter-append is_nonempty (take k pieces) (drop k pieces) in
       let e : map spelled_of lines ≡ map spelled_of before ++ piece ∷ filter is_nonempty rest.0 =
-      sym spelled ∙ cut ∙ ap (λ (t : List (List ℕ)). t ++ filter is_nonempty (drop k pieces)) front
+      sym spelled ∙ cut ∙ ap (λ (t : List (List ℕ)). t ++ filter is_nonempty (drop k pieces)) prefix
       ∙ ap (λ (t : List (List ℕ)). map spelled_of before ++ t) (ap (filter is_nonempty) rest.1 ∙ shown) in
       let s = same_start before lines (piece ∷ filter is_nonempty rest.0) good well e in
       by s.tail s.whole s.spelled
@@ -80,23 +80,23 @@ module _ {L : Type 0} (spelled_of : L → List ℕ) (IsLine : L → Type 0) (onc
       by [] whole e = absurd cc
       by {more} (line ∷ tail) whole e = record { line = line; tail = tail; whole = whole; spelled = (cons_parts (spelled_of line) piece (map spelled_of tail) more e).0 }
 
-  module _ (Good : List L → Type 0) (each : (lines : List L) → Good lines → All IsLine lines) (front : (xs ys : List L) → Good (xs ++ ys) → Good xs) where
+  module _ (Good : List L → Type 0) (each : (lines : List L) → Good lines → All IsLine lines) (prefix : (xs ys : List L) → Good (xs ++ ys) → Good xs) where
     -- the first k pieces are good lines, and no line that the next piece spells is good after them
     pub record StopsAt (pieces : List (List ℕ)) (k : ℕ) : Type 0 where
       pub before : List L
       pub piece : List ℕ
       pub spelled : Spelled (take k pieces) before
       pub good : Good before
-      pub there : slice_get pieces k ≡ Some piece
+      pub present : slice_get pieces k ≡ Some piece
       pub written : is_nonempty piece ≡ true
       pub bad : (line : L) → spelled_of line ≡ piece → Good (before ++ line ∷ []) → ⊥
 
     -- pieces that are good lines don't stop being good
     pub no_stop : (pieces : List (List ℕ)) (lines : List L) (k : ℕ) → Spelled pieces lines → Good lines → StopsAt pieces k → ⊥
     no_stop pieces lines k spelled good s =
-        let n = next_line pieces lines s.before k s.piece spelled (each lines good) s.spelled (each s.before s.good) s.there s.written in
+        let n = next_line pieces lines s.before k s.piece spelled (each lines good) s.spelled (each s.before s.good) s.present s.written in
         let parts : lines ≡ (s.before ++ n.line ∷ []) ++ n.tail = n.whole ∙ sym (append_assoc s.before (n.line ∷ []) n.tail) in
-        s.bad n.line n.spelled (front (s.before ++ n.line ∷ []) n.tail (subst Good parts good))
+        s.bad n.line n.spelled (prefix (s.before ++ n.line ∷ []) n.tail (subst Good parts good))
 
     not_before : (pieces : List (List ℕ)) (j k : ℕ) → StopsAt pieces j → StopsAt pieces k → j < k → ⊥
     not_before pieces j k s t lt =
@@ -105,7 +105,7 @@ module _ {L : Type 0} (spelled_of : L → List ℕ) (IsLine : L → Type 0) (onc
           piece = s.piece;
           spelled = subst (λ (p : List (List ℕ)). Spelled p s.before) (sym (take_in j k pieces (omega arith))) s.spelled;
           good = s.good;
-          there = get_in j k pieces lt ∙ s.there;
+          present = get_in j k pieces lt ∙ s.present;
           written = s.written;
           bad = s.bad;
         })
@@ -130,31 +130,31 @@ module _ {L : Type 0} (spelled_of : L → List ℕ) (IsLine : L → Type 0) (onc
 
       -- they stop at a piece that no line spells
       pub stops_at_piece : (piece : List ℕ) → slice_get pieces k ≡ Some piece → is_nonempty piece ≡ true → ((line : L) → IsLine line → spelled_of line ≡ piece → ⊥) → StopsAt pieces k
-      stops_at_piece piece there written wrong = record {
+      stops_at_piece piece present written wrong = record {
         before = before;
         piece = piece;
         spelled = spelled;
         good = good;
-        there = there;
+        present = present;
         written = written;
         bad = λ line e more. wrong line (All-contains IsLine (before ++ line ∷ []) line (each (before ++ line ∷ []) more) (Contains-push before line)) e;
       }
 
       -- and at a line with which those before it are good no more
       pub stops_at_line : (line : L) → slice_get pieces k ≡ Some (spelled_of line) → is_nonempty (spelled_of line) ≡ true → IsLine line → (Good (before ++ line ∷ []) → ⊥) → StopsAt pieces k
-      stops_at_line line there written form bad = record {
+      stops_at_line line present written form bad = record {
         before = before;
         piece = spelled_of line;
         spelled = spelled;
         good = good;
-        there = there;
+        present = present;
         written = written;
         bad = λ other e more. bad (subst (λ (l : L). Good (before ++ l ∷ [])) (same_line other line form e more) more);
       }
 
-    module _ (pieces : List (List ℕ)) (j k : ℕ) (s : StopsAt pieces j) (t : StopsAt pieces k) (line : L) (there : slice_get pieces k ≡ Some (spelled_of line)) (form : IsLine line) where
+    module _ (pieces : List (List ℕ)) (j k : ℕ) (s : StopsAt pieces j) (t : StopsAt pieces k) (line : L) (present : slice_get pieces k ≡ Some (spelled_of line)) (form : IsLine line) where
       at_first : slice_get pieces j ≡ Some (spelled_of line)
-      at_first = subst (λ (n : ℕ). slice_get pieces n ≡ Some (spelled_of line)) (one_stop pieces k j t s) there
+      at_first = subst (λ (n : ℕ). slice_get pieces n ≡ Some (spelled_of line)) (one_stop pieces k j t s) present
 
       -- a piece that no line spells isn't one that was spelled
       pub not_spelled : (piece : List ℕ) → slice_get pieces j ≡ Some piece → ((l : L) → IsLine l → spelled_of l ≡ piece → ⊥) → ⊥

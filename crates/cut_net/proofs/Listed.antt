@@ -12,7 +12,7 @@ use Rattle.std.proofs.lemmas.Map.Keys.{IsDistinct-from_apart, IsDistinct-IsPermu
 use Rattle.texts.specs.Fields.{is_name}
 use Rattle.digraph.proofs.Members.{from_filter, in_filter, in_map, no_member}
 use Rattle.cut_net.specs.declared.priced.Priced.{Priced}
-use Rattle.cut_net.specs.Cuts.{same_ends}
+use Rattle.cut_net.specs.Cuts.{have_equal_ends}
 use Rattle.cut_net.specs.Lines.{IsAscending}
 use Rattle.cut_net.specs.NetList.{AreListed, HaveBetween}
 use Rattle.cut_net.specs.NetReading.{entry_line, import_line, noted, AreTablesOf, IsTwice}
@@ -29,17 +29,17 @@ pub listed_none : AreListed [] [] []
 unfolding IsDistinct
 listed_none = record {
   each = All-nil IsNetLine;
-  are_names = record { once = tt; named = λ x. (λ there. no_member x there, λ has. no_member has.0 has.1) };
+  are_names = record { once = tt; named = λ x. (λ present. no_member x present, λ has. no_member has.0 has.1) };
   few_names = omega arith;
   few_imports = omega arith;
-  placed = λ i there. no_member i there;
+  placed = λ i present. no_member i present;
   listed = refl;
 }
 
 -- ---- one line more
 
 placed_more : (names more : List (List ℕ)) (imports : List Priced) → AreKept names more → AreBetween imports (length names) → AreBetween imports (length more)
-placed_more names more imports kept h i there = let p = h i there in (omega (arith, kept.0, p.0), omega (arith, kept.0, p.1))
+placed_more names more imports kept h i present = let p = h i present in (omega (arith, kept.0, p.0), omega (arith, kept.0, p.1))
 
 lines_kept : (names more : List (List ℕ)) (imports : List Priced) → AreKept names more → AreBetween imports (length names) → map (import_line names) imports ≡ map (import_line more) imports
 lines_kept names more [] kept h = refl
@@ -86,7 +86,7 @@ module _ (lines : List NetLine) (names : List (List ℕ)) (imports : List Priced
           are_names = rw all_noted (names_import lines names m n w h.are_names);
           few_names = few;
           few_imports = omega (arith, length_push imports (record { from = i; to = j; amount = w }));
-          placed = λ x there. elim (Contains-push_cases imports (record { from = i; to = j; amount = w }) x there) [
+          placed = λ x present. elim (Contains-push_cases imports (record { from = i; to = j; amount = w }) x present) [
             | inl old ↦ placed_more names more imports kept h.placed x old
             | inr same ↦ subst (λ (t : Priced). (t.from < length more) × (t.to < length more)) same (from_low, ends.second_within)
           ];
@@ -97,8 +97,8 @@ module _ (lines : List NetLine) (names : List (List ℕ)) (imports : List Priced
 -- a line whose import is listed already
 pub listed_twice : (lines : List NetLine) (names middle more : List (List ℕ)) (imports : List Priced) (m n : List ℕ) (w i j : ℕ) → AreListed lines names imports → AreEnds names middle more m n i j
     → HaveBetween imports i j → IsTwice lines (Import m n w) × AreListed lines more imports
-listed_twice lines names middle more imports m n w i j h ends (x, there, from, to) =
-    let p = h.placed x there in
+listed_twice lines names middle more imports m n w i j h ends (x, present, from, to) =
+    let p = h.placed x present in
     let in_i : i < length names = subst (λ (t : ℕ). t < length names) from p.0 in
     let in_j : j < length names = subst (λ (t : ℕ). t < length names) to p.1 in
     let first : get_or names i [] ≡ m = sym (noted_kept names m i in_i) ∙ ap (λ (t : List (List ℕ)). get_or t i []) (sym ends.first) ∙ ends.first_place in
@@ -107,7 +107,7 @@ listed_twice lines names middle more imports m n w i j h ends (x, there, from, t
     let second : get_or names j [] ≡ n = sym (noted_kept names n j in_j) ∙ ap (λ (t : List (List ℕ)). get_or t j []) (sym more_is) ∙ ends.second_place in
     let same : more ≡ names = more_is ∙ sym (there_noted names n j in_j second) in
     let line : import_line names x ≡ Import m n x.amount = rw (from, to, first, second) refl in
-    let listed : Contains (filter is_import lines) (import_line names x) = rw h.listed (in_map (import_line names) imports x there) in
+    let listed : Contains (filter is_import lines) (import_line names x) = rw h.listed (in_map (import_line names) imports x present) in
     let stands : Contains lines (Import m n x.amount) = subst (λ (l : NetLine). Contains lines l) line (from_filter is_import lines (import_line names x) listed) in
     (stands_twice lines m n w x.amount stands, subst (λ (t : List (List ℕ)). AreListed lines t imports) (sym same) h)
 
@@ -116,8 +116,8 @@ listed_twice lines names middle more imports m n w i j h ends (x, there, from, t
 other_ends : (a b c d : ℕ) → (ltb a c || (eqb a c && ltb b d)) ≡ true → (eqb a c && eqb b d) ≡ false
 other_ends a b c d before = grind (arith, nat_tests)
 
-ascending_once : (imports : List Priced) → IsAscending imports → IsDistinct same_ends imports
-ascending_once imports up = IsDistinct-from_apart same_ends imports (λ i j d less within.
+ascending_once : (imports : List Priced) → IsAscending imports → IsDistinct have_equal_ends imports
+ascending_once imports up = IsDistinct-from_apart have_equal_ends imports (λ i j d less within.
     other_ends (get_or imports i d).from (get_or imports i d).to (get_or imports j d).from (get_or imports j d).to (up i j d less within))
 
 -- a line of a module is apart from all
@@ -150,10 +150,10 @@ entries_say names (i ∷ is) = ap (λ (t : List NetLine). import_line names i �
 
 module _ (lines : List NetLine) (old names : List (List ℕ)) (imports list ordered : List Priced) (h : AreListed lines old imports) (same : IsPermutation old names)
     (renumbered : map (import_line names) list ≡ map (import_line old) imports) (between : AreBetween list (length names)) (moved : IsPermutation list ordered) (up : IsAscending ordered) where
-  list_once : IsDistinct same_ends list
-  list_once = IsDistinct-IsPermutation same_ends ends_flip ordered list (IsPermutation-sym list ordered moved) (ascending_once ordered up)
+  list_once : IsDistinct have_equal_ends list
+  list_once = IsDistinct-IsPermutation have_equal_ends ends_flip ordered list (IsPermutation-sym list ordered moved) (ascending_once ordered up)
 
-  said_apart : (i j : Priced) → i.from < length names → i.to < length names → j.from < length names → j.to < length names → same_ends i j ≡ false → AreOfTwoImports (import_line names i) (import_line names j)
+  said_apart : (i j : Priced) → i.from < length names → i.to < length names → j.from < length names → j.to < length names → have_equal_ends i j ≡ false → AreOfTwoImports (import_line names i) (import_line names j)
   said_apart i j a b c d differ first second =
       let once = once_moved old names same h.are_names.once in
       let from = same_name names once i.from j.from a c first in
@@ -175,7 +175,7 @@ module _ (lines : List NetLine) (old names : List (List ℕ)) (imports list orde
       let two = get_or-map (import_line names) list j none d in_j in
       let p = between (get_or list i none) (Contains-get_or list i none in_i) in
       let q = between (get_or list j none) (Contains-get_or list j none in_j) in
-      rw (one, two) (said_apart (get_or list i none) (get_or list j none) p.0 p.1 q.0 q.1 (apart_from_distinct same_ends list i j none list_once less in_j)) in
+      rw (one, two) (said_apart (get_or list i none) (get_or list j none) p.0 p.1 q.0 q.1 (apart_from_distinct have_equal_ends list i j none list_once less in_j)) in
       all_apart lines (rw lines_are pairs)
 
   tables : AreTablesOf lines old (map as_entry imports)

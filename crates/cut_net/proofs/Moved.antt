@@ -11,12 +11,12 @@ use Rattle.std.proofs.lemmas.List.Sums.{sum_by-cons}
 use Rattle.digraph.proofs.Members.{from_map, in_map, no_member, one_member}
 use Rattle.digraph.proofs.SameGraphs.{AreSame, acyclic_as}
 use Rattle.cut_net.specs.declared.priced.Priced.{Priced}
-use Rattle.cut_net.specs.declared.standing.PinState.{PinState}
-use Rattle.cut_net.specs.declared.standing.PinState.TheVariants.{Weighs, Stays}
+use Rattle.cut_net.specs.declared.pin_state.PinState.{PinState}
+use Rattle.cut_net.specs.declared.pin_state.PinState.TheVariants.{Weighs, Stays}
 use Rattle.cut_net.specs.Lines.{IsAscending, comes_before}
-use Rattle.cut_net.specs.Network.{Network, none_there}
+use Rattle.cut_net.specs.Network.{Network, missing_item}
 use Rattle.cut_net.specs.Pins.{ArePins, is_pinned, most_weight, unpinned_weight}
-use Rattle.cut_net.specs.Prices.{import_as, pin_as, standing_so}
+use Rattle.cut_net.specs.Prices.{import_as, pin_as, with_pin_states}
 use Rattle.cut_net.specs.PriceReading.{unpinned_part}
 use Rattle.cut_net.specs.Cuts.{Any, Imports}
 use Rattle.cut_net.specs.WellFormed.{AreBetween, IsNetwork, total_weight}
@@ -100,76 +100,76 @@ sum_by-within f g b (x ∷ xs) within =
 
 -- ---- a network
 
-module _ (net : Network) (standing : Priced → PinState) where
+module _ (net : Network) (pin_state : Priced → PinState) where
   abbrev moved : Priced → Priced
-  moved i = import_as i (standing i)
+  moved i = import_as i (pin_state i)
 
   abbrev pin : Priced → List Priced
-  pin i = pin_as i (standing i)
+  pin i = pin_as i (pin_state i)
 
   same_moved : (i : Priced) → Same (moved i) i
-  same_moved i = same_as i (standing i)
+  same_moved i = same_as i (pin_state i)
 
   same_leads : AreSame (Imports net.imports Any) (Imports (map moved net.imports) Any)
   same_leads m n = (
     λ (i, has, from, to, any). let s = same_moved i in (moved i, in_map moved net.imports i has, s.from ∙ from, s.to ∙ to, tt),
     λ (j, has, from, to, any).
-        let (i, there, e) = from_map moved net.imports j has in
+        let (i, present, e) = from_map moved net.imports j has in
         let s = same_moved i in
-        (i, there, sym s.from ∙ ap (λ (x : Priced). x.from) e ∙ from, sym s.to ∙ ap (λ (x : Priced). x.to) e ∙ to, tt),
+        (i, present, sym s.from ∙ ap (λ (x : Priced). x.from) e ∙ from, sym s.to ∙ ap (λ (x : Priced). x.to) e ∙ to, tt),
   )
 
   moved_between : AreBetween net.imports (length net.names) → AreBetween (map moved net.imports) (length net.names)
   moved_between between j has =
-      let (i, there, e) = from_map moved net.imports j has in
+      let (i, present, e) = from_map moved net.imports j has in
       let s = same_moved i in
-      let b = between i there in
+      let b = between i present in
       subst (λ (x : Priced). (x.from < length net.names) × (x.to < length net.names)) e (rw (s.from, s.to) b)
 
   moved_up : (imports : List Priced) → IsAscending imports → IsAscending (map moved imports)
   moved_up imports up j k d lt l =
       let long = length-map imports moved in
-      let a = get_or imports j none_there in
-      let b = get_or imports k none_there in
-      let before = before_from a b (up j k none_there lt (omega arith)) in
-      rw (get_or-map moved imports j none_there d (omega arith), get_or-map moved imports k none_there d (omega arith))
+      let a = get_or imports j missing_item in
+      let b = get_or imports k missing_item in
+      let before = before_from a b (up j k missing_item lt (omega arith)) in
+      rw (get_or-map moved imports j missing_item d (omega arith), get_or-map moved imports k missing_item d (omega arith))
       (before_true (moved a) (moved b) (before_same before (same_sym (same_moved a)) (same_sym (same_moved b))))
 
   pins_up : (imports : List Priced) → IsAscending imports → IsAscending (flat_map pin imports)
   pins_up [] up = λ j k d lt l. absurd (omega arith)
   pins_up (i ∷ imports) up =
-      subst IsAscending (sym (flat_map-cons pin i imports)) (pin_ahead i (standing i) (flat_map pin imports)
+      subst IsAscending (sym (flat_map-cons pin i imports)) (pin_ahead i (pin_state i) (flat_map pin imports)
       (λ p has.
-      let (j, there, here) = from_flat_map pin imports p has in
-      before_same (first_before i imports up j there) (record { from = refl; to = refl }) (pin_from j (standing j) p here).0)
+      let (j, present, here) = from_flat_map pin imports p has in
+      before_same (first_before i imports up j present) (record { from = refl; to = refl }) (pin_from j (pin_state j) p here).0)
       (pins_up imports (later_up i imports up)))
 
   abbrev changed : Network
-  changed = standing_so net standing
+  changed = with_pin_states net pin_state
 
   module _ (up : IsAscending net.imports) where
     -- an import is pinned where it is to stay
-    pinned_is : (i : Priced) → Contains net.imports i → is_pinned changed (moved i) ≡ stays (standing i)
-    pinned_is i has = elim (cases_Bool (stays (standing i))) [
+    pinned_is : (i : Priced) → Contains net.imports i → is_pinned changed (moved i) ≡ stays (pin_state i)
+    pinned_is i has = elim (cases_Bool (stays (pin_state i))) [
       | inl t ↦
-          let (p, here) = pin_there i (standing i) t in
+          let (p, here) = pin_there i (pin_state i) t in
           one_found (moved i) (flat_map pin net.imports) p (in_flat_map pin net.imports i p has here)
-          (same_true (moved i) p (same_trans (same_moved i) (same_sym (pin_from i (standing i) p here).0))) ∙ sym t
+          (same_true (moved i) p (same_trans (same_moved i) (same_sym (pin_from i (pin_state i) p here).0))) ∙ sym t
       | inr f ↦ false_from_ne_true _ (λ t.
-          let (p, there, ends) = found_one (moved i) (flat_map pin net.imports) t in
-          let (j, known, here) = from_flat_map pin net.imports p there in
-          let from = pin_from j (standing j) p here in
+          let (p, present, ends) = found_one (moved i) (flat_map pin net.imports) t in
+          let (j, known, here) = from_flat_map pin net.imports p present in
+          let from = pin_from j (pin_state j) p here in
           let same : i ≡ j = one_import net.imports up i j has known (same_trans (same_trans (same_sym (same_moved i)) (same_sym (same_from (moved i) p ends))) from.0) in
-          both_ways (stays (standing i)) f (subst (λ (x : Priced). stays (standing x) ≡ true) (sym same) from.1)) ∙ sym f
+          both_ways (stays (pin_state i)) f (subst (λ (x : Priced). stays (pin_state x) ≡ true) (sym same) from.1)) ∙ sym f
     ]
 
-    pub unpinned_is : unpinned_weight changed ≡ sum_by (λ i. unpinned_part (standing i)) net.imports
+    pub unpinned_is : unpinned_weight changed ≡ sum_by (λ i. unpinned_part (pin_state i)) net.imports
     unpinned_is =
         sum_by-moved (λ i. cond (is_pinned changed i) 0 i.amount) moved net.imports
-        ∙ sum_by-same (λ i. cond (is_pinned changed (moved i)) 0 (moved i).amount) (λ i. unpinned_part (standing i)) net.imports
-        (λ i has. ap (λ (b : Bool). cond b 0 (moved i).amount) (pinned_is i has) ∙ light_as i (standing i))
+        ∙ sum_by-same (λ i. cond (is_pinned changed (moved i)) 0 (moved i).amount) (λ i. unpinned_part (pin_state i)) net.imports
+        (λ i has. ap (λ (b : Bool). cond b 0 (moved i).amount) (pinned_is i has) ∙ light_as i (pin_state i))
 
-  pub keeps_network : IsNetwork net → sum_by (λ i. unpinned_part (standing i)) net.imports ≤ most_weight → IsNetwork changed
+  pub keeps_network : IsNetwork net → sum_by (λ i. unpinned_part (pin_state i)) net.imports ≤ most_weight → IsNetwork changed
   keeps_network is light = record {
     named = is.named;
     names_ascend = is.names_ascend;
@@ -179,58 +179,58 @@ module _ (net : Network) (standing : Priced → PinState) where
     few_imports = (let few = is.few_imports in let long = length-map net.imports moved in omega arith);
     fits = (
         let sum : total_weight changed ≡ sum_by (λ i. (moved i).amount) net.imports = sum_by-moved (λ i. i.amount) moved net.imports in
-        let most = sum_by-within (λ i. (moved i).amount) (λ i. unpinned_part (standing i)) (most_weight + 1) net.imports (λ i. within_as i (standing i)) in
+        let most = sum_by-within (λ i. (moved i).amount) (λ i. unpinned_part (pin_state i)) (most_weight + 1) net.imports (λ i. within_as i (pin_state i)) in
         let few = is.few_imports in
         omega arith);
     acyclic = acyclic_as (Imports net.imports Any) (Imports (map moved net.imports) Any) same_leads is.acyclic;
   }
 
-  pub keeps_pins : IsNetwork net → sum_by (λ i. unpinned_part (standing i)) net.imports ≤ most_weight → ArePins changed
+  pub keeps_pins : IsNetwork net → sum_by (λ i. unpinned_part (pin_state i)) net.imports ≤ most_weight → ArePins changed
   keeps_pins is light = record {
     in_order = record {
       known = λ k d lt.
           let p = get_or (flat_map pin net.imports) k d in
           let (i, has, here) = from_flat_map pin net.imports p (Contains-get_or (flat_map pin net.imports) k d lt) in
           let s = same_moved i in
-          let t = (pin_from i (standing i) p here).0 in
+          let t = (pin_from i (pin_state i) p here).0 in
           (moved i, in_map moved net.imports i has, s.from ∙ t.from, s.to ∙ t.to, tt);
       ascending = pins_up net.imports is.imports_ascend;
     };
     heavy = λ j has pinned.
-        let (i, there, e) = from_map moved net.imports j has in
-        let t : stays (standing i) ≡ true = sym (pinned_is is.imports_ascend i there) ∙ subst (λ (x : Priced). is_pinned changed x ≡ true) (sym e) pinned in
-        ap (λ (x : Priced). x.amount) (sym e) ∙ heavy_as i (standing i) t;
+        let (i, present, e) = from_map moved net.imports j has in
+        let t : stays (pin_state i) ≡ true = sym (pinned_is is.imports_ascend i present) ∙ subst (λ (x : Priced). is_pinned changed x ≡ true) (sym e) pinned in
+        ap (λ (x : Priced). x.amount) (sym e) ∙ heavy_as i (pin_state i) t;
     light = λ some. let same = unpinned_is is.imports_ascend in omega arith;
   }
 
 -- ---- its lists
 
-pub counted : (standing : Priced → PinState) (imports : List Priced) (standings : List PinState) → standings ≡ map standing imports → sum_by unpinned_part standings ≡ sum_by (λ i. unpinned_part (standing i)) imports
-counted standing imports standings same = ap (sum_by unpinned_part) same ∙ sum_by-moved unpinned_part standing imports
+pub counted : (pin_state : Priced → PinState) (imports : List Priced) (pin_states : List PinState) → pin_states ≡ map pin_state imports → sum_by unpinned_part pin_states ≡ sum_by (λ i. unpinned_part (pin_state i)) imports
+counted pin_state imports pin_states same = ap (sum_by unpinned_part) same ∙ sum_by-moved unpinned_part pin_state imports
 
 abbrev pub net_so : List (List ℕ) → List Priced → List Priced → Network
 net_so names imports pins = record { names = names; imports = imports; pins = pins }
 
-pub same_net : (net : Network) (standing : Priced → PinState) (standings : List PinState) (names : List (List ℕ)) (one two imports pins : List Priced) → standings ≡ map standing net.imports
+pub same_net : (net : Network) (pin_state : Priced → PinState) (pin_states : List PinState) (names : List (List ℕ)) (one two imports pins : List Priced) → pin_states ≡ map pin_state net.imports
     → names ≡ net.names → one ≡ net.imports → two ≡ net.imports
-    → ((s : Priced → PinState) → standings ≡ map s one → imports ≡ map (λ i. import_as i (s i)) one) → ((s : Priced → PinState) → standings ≡ map s two → pins ≡ flat_map (λ i. pin_as i (s i)) two)
-    → net_so names imports pins ≡ standing_so net standing
-same_net net standing standings names one two imports pins same named first second are_imports are_pins =
-    let i = are_imports standing (same ∙ ap (map standing) (sym first)) ∙ ap (map (λ x. import_as x (standing x))) first in
-    let p = are_pins standing (same ∙ ap (map standing) (sym second)) ∙ ap (flat_map (λ x. pin_as x (standing x))) second in
+    → ((s : Priced → PinState) → pin_states ≡ map s one → imports ≡ map (λ i. import_as i (s i)) one) → ((s : Priced → PinState) → pin_states ≡ map s two → pins ≡ flat_map (λ i. pin_as i (s i)) two)
+    → net_so names imports pins ≡ with_pin_states net pin_state
+same_net net pin_state pin_states names one two imports pins same named first second are_imports are_pins =
+    let i = are_imports pin_state (same ∙ ap (map pin_state) (sym first)) ∙ ap (map (λ x. import_as x (pin_state x))) first in
+    let p = are_pins pin_state (same ∙ ap (map pin_state) (sym second)) ∙ ap (flat_map (λ x. pin_as x (pin_state x))) second in
     λ k. record { names = named k; imports = i k; pins = p k }
 
 -- ---- how heavy it is
 
-module _ (net : Network) (standing : Priced → PinState) (is : IsNetwork net) (standings : List PinState) (same : standings ≡ map standing net.imports) (answer : Bool) (says : IsTrue answer ↔ (sum_by unpinned_part standings ≤ most_weight)) where
-  weighed : unpinned_weight (standing_so net standing) ≡ sum_by unpinned_part standings
-  weighed = unpinned_is net standing is.imports_ascend ∙ sym (counted standing net.imports standings same)
+module _ (net : Network) (pin_state : Priced → PinState) (is : IsNetwork net) (pin_states : List PinState) (same : pin_states ≡ map pin_state net.imports) (answer : Bool) (says : IsTrue answer ↔ (sum_by unpinned_part pin_states ≤ most_weight)) where
+  weighed : unpinned_weight (with_pin_states net pin_state) ≡ sum_by unpinned_part pin_states
+  weighed = unpinned_is net pin_state is.imports_ascend ∙ sym (counted pin_state net.imports pin_states same)
 
-  pub over : answer ≡ false → most_weight < unpinned_weight (standing_so net standing)
-  over not_light = let e = weighed in elim (cases_lt most_weight (unpinned_weight (standing_so net standing))) [
+  pub over : answer ≡ false → most_weight < unpinned_weight (with_pin_states net pin_state)
+  over not_light = let e = weighed in elim (cases_lt most_weight (unpinned_weight (with_pin_states net pin_state))) [
     | inl more ↦ more
     | inr less ↦ absurd (both_ways answer not_light (says.1 (omega arith)))
   ]
 
-  pub light : answer ≡ true → (other : Network) → other ≡ standing_so net standing → unpinned_weight other ≤ most_weight
+  pub light : answer ≡ true → (other : Network) → other ≡ with_pin_states net pin_state → unpinned_weight other ≤ most_weight
   light is_light other is_so = let e = weighed in let f = ap unpinned_weight is_so in let le = says.0 is_light in omega arith

@@ -5,7 +5,7 @@ use Rattle.std.proofs.lemmas.Bool.{cases_Bool, both_ways, cond-true, not-true, a
 use Rattle.cut_net.specs.declared.priced.Priced.{Priced}
 use Rattle.cut_net.specs.Network.{Network}
 use Rattle.cut_net.specs.WellFormed.{AreBetween}
-use Rattle.cut_net.specs.Cuts.{IsCut, weight, IsCheapest, IsSide, leaves, IsLeastSide, Near, ArePrinted, IsFlow, IsClosed, Reached, AreThose}
+use Rattle.cut_net.specs.Cuts.{IsCut, weight, IsCheapest, IsSide, leaves, IsMinimumSide, InSourceSide, AreReported, IsFlow, IsClosed, Reached, AreThose}
 use Rattle.cut_net.proofs.ListSums.{sum_by-same, sum_by-mono, sum_by-tight}
 use Rattle.cut_net.proofs.Chains.{no_chain_to}
 use Rattle.cut_net.proofs.Duality.{value_within, across, enters, cond_le}
@@ -70,14 +70,14 @@ module _ (net : Network) (a b : ℕ) (flow : Priced → ℕ) (value : ℕ) (betw
         sum_by-same _ _ net.imports (λ i c. cond_same (leaves n i) (flow i) i.amount (full i c)) in
         omega arith
 
-    pub is_least : IsLeastSide net a b n
+    pub is_least : IsMinimumSide net a b n
     is_least = record {
       is_side = side;
       least = λ other is_side. let within = value_within net a b flow value other between a_in is_flow is_side in let e = weight_is in omega arith;
     }
 
     -- a side of least weight is closed
-    least_is_closed : (other : ℕ → Bool) → IsLeastSide net a b other → IsClosed net flow other
+    least_is_closed : (other : ℕ → Bool) → IsMinimumSide net a b other → IsClosed net flow other
     least_is_closed other least =
         let e = across net a b flow value other between a_in is_flow least.is_side in
         let le = least.least n side in
@@ -106,12 +106,12 @@ module _ (net : Network) (a b : ℕ) (flow : Priced → ℕ) (value : ℕ) (betw
           ];
         }
 
-    pub is_near : AreThose n (Near net a b)
+    pub is_near : AreThose n (InSourceSide net a b)
     is_near m =
         (λ t other least. (reached m).0 t other least.is_side.start (least_is_closed other least), λ near. near n is_least)
 
     -- the imports that are printed
-    module _ (x : Priced → Bool) (printed : ArePrinted net a b x) where
+    module _ (x : Priced → Bool) (printed : AreReported net a b x) where
       pub is_cut : IsCut net a b x
       is_cut = cut_of_near net a b n is_near x printed side
 

@@ -33,27 +33,27 @@ none_unless None h = refl
 none_unless (Some x) h = absurd (h x refl)
 
 module _ (word piece : List ℕ) where
-  front : (fields : List ℕ) → after_word word piece ≡ Some fields → (take (length word) piece ≡ word) × (drop (length word) piece ≡ 32 ∷ fields)
-  front fields is =
+  prefix : (fields : List ℕ) → after_word word piece ≡ Some fields → (take (length word) piece ≡ word) × (drop (length word) piece ≡ 32 ∷ fields)
+  prefix fields is =
       let whole = word_takes word piece fields is in
       (ap (take (length word)) whole ∙ take-append_seam word (32 ∷ fields), ap (drop (length word)) whole ∙ drop-append_seam word (32 ∷ fields))
 
   -- the piece begins otherwise
   pub word_missing : bytes_eq (take (length word) piece) word ≡ false → after_word word piece ≡ None
-  word_missing differs = none_unless (after_word word piece) (λ fields is. false≢true (sym differs ∙ (bytes_eq-Decides (take (length word) piece) word).1 (front fields is).0))
+  word_missing differs = none_unless (after_word word piece) (λ fields is. false≢true (sym differs ∙ (bytes_eq-Decides (take (length word) piece) word).1 (prefix fields is).0))
 
   -- nothing stands behind the word
   pub word_alone : length (drop (length word) piece) ≡ 0 → after_word word piece ≡ None
-  word_alone none = none_unless (after_word word piece) (λ fields is. let len = ap length (front fields is).1 in omega arith)
+  word_alone none = none_unless (after_word word piece) (λ fields is. let len = ap length (prefix fields is).1 in omega arith)
 
   -- another byte stands behind the word
   pub word_joined : (b : ℕ) (more : List ℕ) → drop (length word) piece ≡ b ∷ more → b ≢ 32 → after_word word piece ≡ None
-  word_joined b more behind differs = none_unless (after_word word piece) (λ fields is. differs (ap (λ (v : List ℕ). get_or v 0 0) (sym behind ∙ (front fields is).1)))
+  word_joined b more after differs = none_unless (after_word word piece) (λ fields is. differs (ap (λ (v : List ℕ). get_or v 0 0) (sym after ∙ (prefix fields is).1)))
 
   pub word_there : (b : ℕ) (fields : List ℕ) → without 32 word ≡ true → bytes_eq (take (length word) piece) word ≡ true → drop (length word) piece ≡ b ∷ fields → b ≡ 32 → after_word word piece ≡ Some fields
-  word_there b fields no_blank same behind blank =
+  word_there b fields no_blank same after blank =
       let begins : take (length word) piece ≡ word = (bytes_eq-Decides (take (length word) piece) word).0 same in
-      let ends : drop (length word) piece ≡ 32 ∷ fields = behind ∙ ap (λ n. n ∷ fields) blank in
+      let ends : drop (length word) piece ≡ 32 ∷ fields = after ∙ ap (λ n. n ∷ fields) blank in
       let whole : piece ≡ word ++ 32 ∷ fields = sym (take-append-drop (length word) piece) ∙ ap (λ v. v ++ drop (length word) piece) begins ∙ ap (λ v. word ++ v) ends in
       ap (after_word word) whole ∙ word_again word fields no_blank
 

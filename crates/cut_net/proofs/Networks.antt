@@ -18,7 +18,7 @@ use Rattle.std.proofs.lemmas.List.Sorted.{Contains-permutation, IsPermutation-sy
 use Rattle.std.proofs.lemmas.Map.Keys.{IsDistinct-from_apart, IsDistinct-IsPermutation, apart_from_distinct}
 use Rattle.std.proofs.lemmas.Slice.Eq.{bytes_eq-Decides}
 use Rattle.cut_net.specs.declared.priced.Priced.{Priced}
-use Rattle.cut_net.specs.Cuts.{same_ends}
+use Rattle.cut_net.specs.Cuts.{have_equal_ends}
 use Rattle.cut_net.specs.Lines.{IsAscending}
 use Rattle.cut_net.specs.Network.{texts, unpinned}
 use Rattle.cut_net.specs.NetText.{NetLine, Import, is_import, AreOfTwoImports, IsNetOf}
@@ -78,8 +78,8 @@ module _ (lines : List NetLine) (old names : List (List ℕ)) (es : List ((ℕ �
   lines_are = h.listed ∙ sym listed
 
   -- no two imports have the same ends
-  pub ends_once : IsDistinct same_ends list
-  ends_once = IsDistinct-from_apart same_ends list (λ i j d less within. false_from_ne_true _ (λ e.
+  pub ends_once : IsDistinct have_equal_ends list
+  ends_once = IsDistinct-from_apart have_equal_ends list (λ i j d less within. false_from_ne_true _ (λ e.
       let p = and_parts _ _ e in
       let first : (get_or list i d).from ≡ (get_or list j d).from = eqb-true _ _ p.0 in
       let second : (get_or list i d).to ≡ (get_or list j d).to = eqb-true _ _ p.1 in
@@ -107,15 +107,15 @@ module _ (lines : List NetLine) (old names : List (List ℕ)) (es : List ((ℕ �
       record {
         names_ascend = ascend;
         named = λ x. (
-          λ there. (h.are_names.named x).0 (Contains-permutation names old x away there),
+          λ present. (h.are_names.named x).0 (Contains-permutation names old x away present),
           λ has. Contains-permutation old names x same ((h.are_names.named x).1 has),
         );
-        between = λ i there. between i (Contains-permutation imports list i back there);
+        between = λ i present. between i (Contains-permutation imports list i back present);
         imports_ascend = ordered;
         listed = λ i lf lt. (
-          λ there. let listed_there : Contains (filter is_import lines) (import_line names i) = rw lines_are (in_map (import_line names) list i (Contains-permutation imports list i back there)) in
+          λ present. let listed_there : Contains (filter is_import lines) (import_line names i) = rw lines_are (in_map (import_line names) list i (Contains-permutation imports list i back present)) in
               from_filter is_import lines (import_line names i) listed_there,
-          λ there. let mapped : Contains (map (import_line names) list) (import_line names i) = rw (← lines_are) (in_filter is_import lines (import_line names i) refl there) in
+          λ present. let mapped : Contains (map (import_line names) list) (import_line names i) = rw (← lines_are) (in_filter is_import lines (import_line names i) refl present) in
               let (j, within, is) = from_map (import_line names) list (import_line names i) mapped in
               let p = between j within in
               let first : j.from ≡ i.from = same_name names once j.from i.from p.0 lf (from_of _ _ _ _ _ _ is) in
@@ -142,14 +142,14 @@ ordered : (a b c d : ℕ) → is_lt (ordering_then (nat_cmp c a) (nat_cmp d b)) 
 ordered a b c d not_less apart = grind (arith, nat_tests)
 
 -- imports in the order of their ends, with no two alike, ascend
-pub imports_ascend : (imports : List Priced) → IsDistinct same_ends imports → IsSortedByKey ends_of ends_cmp imports → IsAscending imports
+pub imports_ascend : (imports : List Priced) → IsDistinct have_equal_ends imports → IsSortedByKey ends_of ends_cmp imports → IsAscending imports
 imports_ascend imports once sorted i j d less within =
     let far = sorted_far (λ x y. is_lt (ends_cmp (ends_of x) (ends_of y))) (ranks_by ends_total ends_of) imports sorted i j d (omega arith) within in
     let a = get_or imports i d in
     let b = get_or imports j d in
-    ordered a.from a.to b.from b.to far (apart_from_distinct same_ends imports i j d once less within)
+    ordered a.from a.to b.from b.to far (apart_from_distinct have_equal_ends imports i j d once less within)
 
-pub ends_flip : (i j : Priced) → same_ends i j ≡ same_ends j i
+pub ends_flip : (i j : Priced) → have_equal_ends i j ≡ have_equal_ends j i
 ends_flip i j = rw (nat_eq_equiv.symm i.from j.from, nat_eq_equiv.symm i.to j.to) refl
 
 -- ---- one more
@@ -177,8 +177,8 @@ module _ {Z : Type 0} where
       omega arith
 
 pub between_next : (list : List Priced) (i : Priced) (count : ℕ) → AreBetween list count → (i.from < count) × (i.to < count) → AreBetween (list ++ i ∷ []) count
-between_next list i count h p j there =
-    elim (Contains-push_cases list i j there) [
+between_next list i count h p j present =
+    elim (Contains-push_cases list i j present) [
       | inl old ↦ h j old
       | inr same ↦ subst (λ (t : Priced). (t.from < count) × (t.to < count)) same p
     ]

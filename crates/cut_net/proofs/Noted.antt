@@ -20,23 +20,23 @@ module _ {Z : Type 0} where
   pub texts_noted : (names : List (String Z)) (k : String Z) (name : List ℕ) → string_bytes k ≡ name → texts (insert_key string_eq names k) ≡ noted (texts names) name
   texts_noted names k name e =
       elim (cases_Bool (list_any (λ x. bytes_eq (string_bytes k) (string_bytes x)) names)) [
-        | inl there ↦ rw (← e, ← any_text (string_bytes k) names, there) refl
+        | inl present ↦ rw (← e, ← any_text (string_bytes k) names, present) refl
         | inr new ↦ rw (← e, ← any_text (string_bytes k) names, new) (map_push string_bytes names k)
       ]
 
   -- the key at a place, by its bytes
   pub place_noted : (names : List (String Z)) (value : String Z) (name : List ℕ) (at : ℕ) → string_bytes value ≡ name → (k : String Z) × (slice_get names at ≡ Some k) × (string_eq value k ≡ true)
       → (at < length (texts names)) × (get_or (texts names) at [] ≡ name)
-  place_noted names value name at e (k, there, same) =
-      let lt : at < length names = slice_get_within names at k there in
+  place_noted names value name at e (k, present, same) =
+      let lt : at < length names = slice_get_within names at k present in
       let long = length-map names string_bytes in
-      let here : get_or names at k ≡ k = get_or_from_slice_get names at k k there in
+      let here : get_or names at k ≡ k = get_or_from_slice_get names at k k present in
       let equal : string_bytes value ≡ string_bytes k = (bytes_eq-Decides (string_bytes value) (string_bytes k)).0 same in
       (omega arith, get_or-map string_bytes names at k [] lt ∙ ap string_bytes here ∙ sym equal ∙ e)
 
   -- a name that is there
   pub found_noted : (names : List (String Z)) (name : List ℕ) → list_any (λ x. bytes_eq name (string_bytes x)) names ≡ true → texts names ≡ noted (texts names) name
-  found_noted names name there = sym (rw (← any_text name names, there) refl)
+  found_noted names name present = sym (rw (← any_text name names, present) refl)
 
   pub found_place : (names : List (String Z)) (name : List ℕ) (at : ℕ) → position (λ x. bytes_eq name (string_bytes x)) names ≡ Some at → get_or (texts names) at [] ≡ name
   found_place names name at is =

@@ -11,11 +11,11 @@ use Rattle.std.proofs.lemmas.Slice.Eq.{bytes_eq-Decides}
 use Rattle.digraph.proofs.Names.{ascending_apart}
 use Rattle.digraph.proofs.Members.{first_member, later_member, no_member}
 use Rattle.cut_net.specs.declared.priced.Priced.{Priced}
-use Rattle.cut_net.specs.declared.standing.Change.{Change}
-use Rattle.cut_net.specs.Cuts.{same_ends}
-use Rattle.cut_net.specs.Network.{Network, index_of, name_of, none_there}
-use Rattle.cut_net.specs.Prices.{PriceLine, AreOfTwo, IsOfImport, IsPriceLine, SpellPrices, is_named, is_of, price_line, said_of}
-use Rattle.cut_net.specs.PriceReading.{IsTold}
+use Rattle.cut_net.specs.declared.pin_state.Change.{Change}
+use Rattle.cut_net.specs.Cuts.{have_equal_ends}
+use Rattle.cut_net.specs.Network.{Network, index_of, name_of, missing_item}
+use Rattle.cut_net.specs.Prices.{PriceLine, AreOfTwo, IsOfImport, IsPriceLine, SpellPrices, is_named, is_of, price_line, change_of}
+use Rattle.cut_net.specs.PriceReading.{AreChanges}
 use Rattle.cut_net.specs.WellFormed.{AreNamesInOrder, IsNetwork}
 use Rattle.cut_net.proofs.Ends.{Same, apart, before_from, same_from, same_true}
 use Rattle.cut_net.proofs.Networks.{same_name}
@@ -66,12 +66,12 @@ abbrev ends : ℕ → ℕ → Priced
 ends a b = record { from = a; to = b; amount = 0 }
 
 pub number_found : (net : Network) (m n : List ℕ) (a b : ℕ) (o : Option ℕ) → index_of net m ≡ Some a → index_of net n ≡ Some b → IfSome o (λ k. k < length net.imports)
-    → IfSome o (λ k. find (same_ends (ends a b)) net.imports ≡ Some (get_or net.imports k none_there))
-    → IfSome o (λ k. (k < length net.imports) × (is_named net m n (get_or net.imports k none_there) ≡ true))
+    → IfSome o (λ k. find (have_equal_ends (ends a b)) net.imports ≡ Some (get_or net.imports k missing_item))
+    → IfSome o (λ k. (k < length net.imports) × (is_named net m n (get_or net.imports k missing_item) ≡ true))
 number_found net m n a b None from to within found = tt
 number_found net m n a b (Some k) from to within found =
-    let i = get_or net.imports k none_there in
-    let p = find_some (same_ends (ends a b)) net.imports i found in
+    let i = get_or net.imports k missing_item in
+    let p = find_some (have_equal_ends (ends a b)) net.imports i found in
     let s = same_from (ends a b) i p.1 in
     (within, named_true net m n i (sym (index_takes net m a from).1 ∙ ap (name_of net) s.from) (sym (index_takes net n b to).1 ∙ ap (name_of net) s.to))
 
@@ -91,14 +91,14 @@ module _ (net : Network) (is : IsNetwork net) (m n : List ℕ) where
       let bad : Some i.to ≡ None = sym again ∙ none in
       absurd cc
 
-  pub no_ends : (a b : ℕ) (o : Option ℕ) → index_of net m ≡ Some a → index_of net n ≡ Some b → IfNone o (find (same_ends (ends a b)) net.imports ≡ None)
+  pub no_ends : (a b : ℕ) (o : Option ℕ) → index_of net m ≡ Some a → index_of net n ≡ Some b → IfNone o (find (have_equal_ends (ends a b)) net.imports ≡ None)
       → IfNone o ((i : Priced) → Contains net.imports i → is_named net m n i ≡ true → ⊥)
   no_ends a b (Some k) from to none = tt
   no_ends a b None from to none = λ i c e.
       let p = named_is net m n i e in
       let first : Some a ≡ Some i.from = sym from ∙ ap (index_of net) p.0 ∙ index_again net i.from (names_apart net.names is.names_ascend) (is.between i c).0 in
       let second : Some b ≡ Some i.to = sym to ∙ ap (index_of net) p.1 ∙ index_again net i.to (names_apart net.names is.names_ascend) (is.between i c).1 in
-      both_ways (same_ends (ends a b) i) (find_none (same_ends (ends a b)) net.imports none i c)
+      both_ways (have_equal_ends (ends a b) i) (find_none (have_equal_ends (ends a b)) net.imports none i c)
       (same_true (ends a b) i (record { from = some_is a i.from first; to = some_is b i.to second }))
 
 pub absent_is : {T : Type 0} (o : Option ℕ) → IfNone o T → ((x : ℕ) → o ≡ Some x → ⊥) → T
@@ -109,14 +109,14 @@ absent_is (Some x) t none = absurd (none x refl)
 
 module _ (net : Network) (is : IsNetwork net) where
   -- one import has two names
-  pub same_place : (j k : ℕ) (m n : List ℕ) → j < length net.imports → k < length net.imports → is_named net m n (get_or net.imports j none_there) ≡ true → is_named net m n (get_or net.imports k none_there) ≡ true → j ≡ k
+  pub same_place : (j k : ℕ) (m n : List ℕ) → j < length net.imports → k < length net.imports → is_named net m n (get_or net.imports j missing_item) ≡ true → is_named net m n (get_or net.imports k missing_item) ≡ true → j ≡ k
   same_place j k m n lj lk e f =
-      let i = get_or net.imports j none_there in
-      let l = get_or net.imports k none_there in
+      let i = get_or net.imports j missing_item in
+      let l = get_or net.imports k missing_item in
       let p = named_is net m n i e in
       let q = named_is net m n l f in
-      let ib = is.between i (Contains-get_or net.imports j none_there lj) in
-      let lb = is.between l (Contains-get_or net.imports k none_there lk) in
+      let ib = is.between i (Contains-get_or net.imports j missing_item lj) in
+      let lb = is.between l (Contains-get_or net.imports k missing_item lk) in
       let once = ascending_apart net.names is.names_ascend in
       let same : Same i l = record {
         from = same_name net.names once i.from l.from ib.0 lb.0 (sym p.0 ∙ q.0);
@@ -125,12 +125,12 @@ module _ (net : Network) (is : IsNetwork net) where
       elim (cases_order j k) [
         | inl e ↦ e
         | inr differs ↦ elim differs [
-          | inl less ↦ absurd (apart (before_from i l (is.imports_ascend j k none_there less lk)) same)
-          | inr more ↦ absurd (apart (before_from l i (is.imports_ascend k j none_there more lj)) (record { from = sym same.from; to = sym same.to }))
+          | inl less ↦ absurd (apart (before_from i l (is.imports_ascend j k missing_item less lk)) same)
+          | inr more ↦ absurd (apart (before_from l i (is.imports_ascend k j missing_item more lj)) (record { from = sym same.from; to = sym same.to }))
         ]
       ]
 
-  said_other : (lines : List PriceLine) (line : PriceLine) (i : Priced) → is_of net i line ≡ false → said_of net (lines ++ line ∷ []) i ≡ said_of net lines i
+  said_other : (lines : List PriceLine) (line : PriceLine) (i : Priced) → is_of net i line ≡ false → change_of net (lines ++ line ∷ []) i ≡ change_of net lines i
   said_other lines line i e =
       ap (option_map (λ (l : PriceLine). l.change)) (find-append (is_of net i) lines (line ∷ []) ∙ by (find (is_of net i) lines))
     where
@@ -138,30 +138,30 @@ module _ (net : Network) (is : IsNetwork net) where
       by (Some l) = refl
       by None = rw e refl
 
-  said_here : (lines : List PriceLine) (line : PriceLine) (i : Priced) → is_of net i line ≡ true → said_of net lines i ≡ None → said_of net (lines ++ line ∷ []) i ≡ Some line.change
+  said_here : (lines : List PriceLine) (line : PriceLine) (i : Priced) → is_of net i line ≡ true → change_of net lines i ≡ None → change_of net (lines ++ line ∷ []) i ≡ Some line.change
   said_here lines line i e none =
       let shown : option_or (find (is_of net i) lines) (find (is_of net i) (line ∷ [])) ≡ Some line = rw (map_none_is (λ (l : PriceLine). l.change) (find (is_of net i) lines) none, e) refl in
       ap (option_map (λ (l : PriceLine). l.change)) (find-append (is_of net i) lines (line ∷ []) ∙ shown)
 
-  module _ (lines : List PriceLine) (told : List (Option Change)) (h : IsTold net lines told) (line : PriceLine) (good : IsPriceLine line) (k : ℕ) (lt : k < length net.imports)
-      (of : is_of net (get_or net.imports k none_there) line ≡ true) where
+  module _ (lines : List PriceLine) (changes : List (Option Change)) (h : AreChanges net lines changes) (line : PriceLine) (good : IsPriceLine line) (k : ℕ) (lt : k < length net.imports)
+      (of : is_of net (get_or net.imports k missing_item) line ≡ true) where
     abbrev import : Priced
-    import = get_or net.imports k none_there
+    import = get_or net.imports k missing_item
 
-    told_long : length told ≡ length net.imports
-    told_long = ap length h.told_is ∙ length-map net.imports (said_of net lines)
+    told_long : length changes ≡ length net.imports
+    told_long = ap length h.told_is ∙ length-map net.imports (change_of net lines)
 
-    said_at : (j : ℕ) (d : Option Change) → j < length net.imports → get_or told j d ≡ said_of net lines (get_or net.imports j none_there)
-    said_at j d lj = ap (λ (l : List (Option Change)). get_or l j d) h.told_is ∙ get_or-map (said_of net lines) net.imports j none_there d lj
+    said_at : (j : ℕ) (d : Option Change) → j < length net.imports → get_or changes j d ≡ change_of net lines (get_or net.imports j missing_item)
+    said_at j d lj = ap (λ (l : List (Option Change)). get_or l j d) h.told_is ∙ get_or-map (change_of net lines) net.imports j missing_item d lj
 
     pub of_import : IsOfImport net line
-    of_import = (import, Contains-get_or net.imports k none_there lt, of)
+    of_import = (import, Contains-get_or net.imports k missing_item lt, of)
 
     -- an earlier line of the same import
-    pub is_twice : (d : Option Change) → is_some (get_or told k d) ≡ true → AllPairs AreOfTwo (lines ++ line ∷ []) → ⊥
-    is_twice d some pairs = by (said_of net lines import) refl (ap is_some (sym (said_at k d lt)) ∙ some)
+    pub is_twice : (d : Option Change) → is_some (get_or changes k d) ≡ true → AllPairs AreOfTwo (lines ++ line ∷ []) → ⊥
+    is_twice d some pairs = by (change_of net lines import) refl (ap is_some (sym (said_at k d lt)) ∙ some)
       where
-        by : (o : Option Change) → said_of net lines import ≡ o → is_some o ≡ true → ⊥
+        by : (o : Option Change) → change_of net lines import ≡ o → is_some o ≡ true → ⊥
         by None e some = absurd cc
         by (Some change) e some =
             let (l, found) = map_some_is (λ (x : PriceLine). x.change) (find (is_of net import) lines) change e in
@@ -175,9 +175,9 @@ module _ (net : Network) (is : IsNetwork net) where
             let clash = pairs j (length lines) l lj (omega arith) in
             (rw (old, new) at clash) (first.0 ∙ sym second.0) (first.1 ∙ sym second.1)
 
-    module _ (d : Option Change) (none : is_some (get_or told k d) ≡ false) where
-      nothing_said : said_of net lines import ≡ None
-      nothing_said = by (said_of net lines import) (ap is_some (sym (said_at k d lt)) ∙ none)
+    module _ (d : Option Change) (none : is_some (get_or changes k d) ≡ false) where
+      nothing_said : change_of net lines import ≡ None
+      nothing_said = by (change_of net lines import) (ap is_some (sym (said_at k d lt)) ∙ none)
         where
           by : (o : Option Change) → is_some o ≡ false → o ≡ None
           by None e = refl
@@ -191,27 +191,27 @@ module _ (net : Network) (is : IsNetwork net) where
           (find_none (is_of net import) lines (map_none_is (λ (x : PriceLine). x.change) (find (is_of net import) lines) nothing_said) l (Contains-get_or lines j e lj))
           (named_true net l.importer l.imported import (first ∙ is_line.0) (second ∙ is_line.1)))
 
-      told_next : slice_set told k (Some line.change) ≡ map (said_of net (lines ++ line ∷ [])) net.imports
-      told_next = ext_get_or None (slice_set told k (Some line.change)) (map (said_of net (lines ++ line ∷ [])) net.imports)
-          (length-set told k (Some line.change) ∙ told_long ∙ sym (length-map net.imports (said_of net (lines ++ line ∷ []))))
+      told_next : slice_set changes k (Some line.change) ≡ map (change_of net (lines ++ line ∷ [])) net.imports
+      told_next = ext_get_or None (slice_set changes k (Some line.change)) (map (change_of net (lines ++ line ∷ [])) net.imports)
+          (length-set changes k (Some line.change) ∙ told_long ∙ sym (length-map net.imports (change_of net (lines ++ line ∷ []))))
           (λ j lj.
-          let long = length-set told k (Some line.change) in
+          let long = length-set changes k (Some line.change) in
           let same_long = told_long in
           let lj : j < length net.imports = omega arith in
-          sym (get_or-map (said_of net (lines ++ line ∷ [])) net.imports j none_there None lj ∙ by j lj (cases_Bool (is_of net (get_or net.imports j none_there) line))))
+          sym (get_or-map (change_of net (lines ++ line ∷ [])) net.imports j missing_item None lj ∙ by j lj (cases_Bool (is_of net (get_or net.imports j missing_item) line))))
         where
-          by : (j : ℕ) → j < length net.imports → (is_of net (get_or net.imports j none_there) line ≡ true) ⊎ (is_of net (get_or net.imports j none_there) line ≡ false)
-              → said_of net (lines ++ line ∷ []) (get_or net.imports j none_there) ≡ get_or (slice_set told k (Some line.change)) j None
+          by : (j : ℕ) → j < length net.imports → (is_of net (get_or net.imports j missing_item) line ≡ true) ⊎ (is_of net (get_or net.imports j missing_item) line ≡ false)
+              → change_of net (lines ++ line ∷ []) (get_or net.imports j missing_item) ≡ get_or (slice_set changes k (Some line.change)) j None
           by j lj (inl is_here) =
               let same : k ≡ j = same_place k j line.importer line.imported lt lj of is_here in
               let same_long = told_long in
-              subst (λ (t : ℕ). said_of net (lines ++ line ∷ []) (get_or net.imports t none_there) ≡ get_or (slice_set told k (Some line.change)) t None) same
-              (said_here lines line import of nothing_said ∙ sym (get_or-set_same told k (Some line.change) None (omega arith)))
+              subst (λ (t : ℕ). change_of net (lines ++ line ∷ []) (get_or net.imports t missing_item) ≡ get_or (slice_set changes k (Some line.change)) t None) same
+              (said_here lines line import of nothing_said ∙ sym (get_or-set_same changes k (Some line.change) None (omega arith)))
           by j lj (inr other) =
-              let differs : j ≢ k = λ e. both_ways (is_of net (get_or net.imports j none_there) line) other (subst (λ (t : ℕ). is_of net (get_or net.imports t none_there) line ≡ true) (sym e) of) in
-              said_other lines line (get_or net.imports j none_there) other ∙ sym (said_at j None lj) ∙ sym (get_or-set_other told k j (Some line.change) None differs)
+              let differs : j ≢ k = λ e. both_ways (is_of net (get_or net.imports j missing_item) line) other (subst (λ (t : ℕ). is_of net (get_or net.imports t missing_item) line ≡ true) (sym e) of) in
+              said_other lines line (get_or net.imports j missing_item) other ∙ sym (said_at j None lj) ∙ sym (get_or-set_other changes k j (Some line.change) None differs)
 
-      pub is_told : IsTold net (lines ++ line ∷ []) (slice_set told k (Some line.change))
+      pub is_told : AreChanges net (lines ++ line ∷ []) (slice_set changes k (Some line.change))
       is_told = record {
         good = record {
           each = All-push IsPriceLine lines line h.good.each good;
@@ -233,14 +233,14 @@ abbrev none_said : Option Change
 none_said = None
 
 -- nothing is told at first
-pub nothing_told : (net : Network) (told : List (Option Change)) (n : ℕ) → n ≡ length net.imports → told ≡ replicate n None → IsTold net [] told
-nothing_told net told n many none =
+pub nothing_told : (net : Network) (changes : List (Option Change)) (n : ℕ) → n ≡ length net.imports → changes ≡ replicate n None → AreChanges net [] changes
+nothing_told net changes n many none =
     let long : length (replicate n none_said) ≡ n = length-replicate n none_said in
     record {
       good = record { each = All-nil IsPriceLine; known = All-nil (IsOfImport net); apart = λ i j d below lt. absurd (omega arith) };
-      told_is = none ∙ ext_get_or none_said (replicate n none_said) (map (said_of net []) net.imports) (long ∙ many ∙ sym (length-map net.imports (said_of net [])))
+      told_is = none ∙ ext_get_or none_said (replicate n none_said) (map (change_of net []) net.imports) (long ∙ many ∙ sym (length-map net.imports (change_of net [])))
           (λ i lt. get_or-replicate n i none_said none_said (subst (λ (m : ℕ). i < m) long lt)
-          ∙ sym (get_or-map (said_of net []) net.imports i none_there none_said (subst (λ (m : ℕ). i < m) (long ∙ many) lt)));
+          ∙ sym (get_or-map (change_of net []) net.imports i missing_item none_said (subst (λ (m : ℕ). i < m) (long ∙ many) lt)));
     }
 
 -- a piece that is a line

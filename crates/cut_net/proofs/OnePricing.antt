@@ -5,7 +5,7 @@ use Rattle.std.proofs.lemmas.List.Elements.{All-contains, Contains-push}
 use Rattle.cut_net.specs.Network.{Network}
 use Rattle.cut_net.specs.NetText.{pieces_of}
 use Rattle.cut_net.specs.Pins.{most_weight, unpinned_weight}
-use Rattle.cut_net.specs.Prices.{PriceLine, price_line, AreGoodPrices, AreOfTwo, IsBadPrice, IsNoImport, IsOfImport, IsPriced, IsPriceFront, IsPriceLine, IsPriceOutcome, IsTwicePrice, Tells, priced_by}
+use Rattle.cut_net.specs.Prices.{PriceLine, price_line, AreGoodPrices, AreOfTwo, IsBadPrice, IsNoImport, IsOfImport, IsPriced, IsPricePrefix, IsPriceLine, IsPriceOutcome, IsTwicePrice, HasOutcome, priced_by}
 use Rattle.cut_net.specs.declared.price_fault.PriceFault.{PriceFault}
 use Rattle.cut_net.specs.declared.price_fault.PriceFault.TheVariants.{BadLine, NoSuchImport, TwicePrice, PriceOverflow, Memory}
 use Rattle.cut_net.proofs.LineStops as stops
@@ -13,8 +13,8 @@ use Rattle.cut_net.proofs.PriceLines.{line_once, line_written}
 use Rattle.cut_net.proofs.ListFronts.{all_front, pairs_front}
 
 module _ (net : Network) where
-  front : (xs ys : List PriceLine) → AreGoodPrices net (xs ++ ys) → AreGoodPrices net xs
-  front xs ys good = record {
+  prefix : (xs ys : List PriceLine) → AreGoodPrices net (xs ++ ys) → AreGoodPrices net xs
+  prefix xs ys good = record {
     each = all_front IsPriceLine xs ys good.each;
     known = all_front (IsOfImport net) xs ys good.known;
     apart = pairs_front AreOfTwo xs ys good.apart;
@@ -24,42 +24,42 @@ module _ (net : Network) where
   each lines good = good.each
 
   abbrev StopsAt : List (List ℕ) → ℕ → Type 0
-  StopsAt pieces k = stops.StopsAt price_line IsPriceLine line_once (AreGoodPrices net) each front pieces k
+  StopsAt pieces k = stops.StopsAt price_line IsPriceLine line_once (AreGoodPrices net) each prefix pieces k
 
   module _ (bytes : List ℕ) where
     bad_stops : (k : ℕ) → IsBadPrice net bytes k → StopsAt (pieces_of bytes) k
-    bad_stops k b = stops.stops_at_piece price_line IsPriceLine line_once (AreGoodPrices net) each front (pieces_of bytes) k b.before b.front.spelled b.front.good b.piece b.front.there b.written b.wrong
+    bad_stops k b = stops.stops_at_piece price_line IsPriceLine line_once (AreGoodPrices net) each prefix (pieces_of bytes) k b.before b.prefix.spelled b.prefix.good b.piece b.prefix.present b.written b.wrong
 
-    stops_at : (k : ℕ) (before : List PriceLine) (line : PriceLine) → IsPriceFront net bytes k before (price_line line) → IsPriceLine line → (AreGoodPrices net (before ++ line ∷ []) → ⊥) → StopsAt (pieces_of bytes) k
-    stops_at k before line f form bad = stops.stops_at_line price_line IsPriceLine line_once (AreGoodPrices net) each front (pieces_of bytes) k before f.spelled f.good line f.there (line_written line) form bad
+    stops_at : (k : ℕ) (before : List PriceLine) (line : PriceLine) → IsPricePrefix net bytes k before (price_line line) → IsPriceLine line → (AreGoodPrices net (before ++ line ∷ []) → ⊥) → StopsAt (pieces_of bytes) k
+    stops_at k before line f form bad = stops.stops_at_line price_line IsPriceLine line_once (AreGoodPrices net) each prefix (pieces_of bytes) k before f.spelled f.good line f.present (line_written line) form bad
 
     no_import_stops : (k : ℕ) → IsNoImport net bytes k → StopsAt (pieces_of bytes) k
-    no_import_stops k n = stops_at k n.before n.line n.front n.form (λ good. n.unknown (All-contains (IsOfImport net) (n.before ++ n.line ∷ []) n.line good.known (Contains-push n.before n.line)))
+    no_import_stops k n = stops_at k n.before n.line n.prefix n.form (λ good. n.unknown (All-contains (IsOfImport net) (n.before ++ n.line ∷ []) n.line good.known (Contains-push n.before n.line)))
 
     twice_stops : (k : ℕ) → IsTwicePrice net bytes k → StopsAt (pieces_of bytes) k
-    twice_stops k t = stops_at k t.before t.line t.front t.form (λ good. t.twice good.apart)
+    twice_stops k t = stops_at k t.before t.line t.prefix t.form (λ good. t.twice good.apart)
 
     same_number : (l m j k : ℕ) → l ≡ j + 1 → m ≡ k + 1 → StopsAt (pieces_of bytes) j → StopsAt (pieces_of bytes) k → l ≡ m
-    same_number = stops.same_number price_line IsPriceLine line_once (AreGoodPrices net) each front (pieces_of bytes)
+    same_number = stops.same_number price_line IsPriceLine line_once (AreGoodPrices net) each prefix (pieces_of bytes)
 
     bad_not_spelled : (j k : ℕ) → IsBadPrice net bytes j → StopsAt (pieces_of bytes) k → (line : PriceLine) → slice_get (pieces_of bytes) k ≡ Some (price_line line) → IsPriceLine line → ⊥
-    bad_not_spelled j k b t line there form =
-        stops.not_spelled price_line IsPriceLine line_once (AreGoodPrices net) each front (pieces_of bytes) j k (bad_stops j b) t line there form b.piece b.front.there b.wrong
+    bad_not_spelled j k b t line present form =
+        stops.not_spelled price_line IsPriceLine line_once (AreGoodPrices net) each prefix (pieces_of bytes) j k (bad_stops j b) t line present form b.piece b.prefix.present b.wrong
 
     bad_not_unknown : (j k : ℕ) → IsBadPrice net bytes j → IsNoImport net bytes k → ⊥
-    bad_not_unknown j k b n = bad_not_spelled j k b (no_import_stops k n) n.line n.front.there n.form
+    bad_not_unknown j k b n = bad_not_spelled j k b (no_import_stops k n) n.line n.prefix.present n.form
 
     bad_not_twice : (j k : ℕ) → IsBadPrice net bytes j → IsTwicePrice net bytes k → ⊥
-    bad_not_twice j k b t = bad_not_spelled j k b (twice_stops k t) t.line t.front.there t.form
+    bad_not_twice j k b t = bad_not_spelled j k b (twice_stops k t) t.line t.prefix.present t.form
 
     unknown_not_twice : (j k : ℕ) → IsNoImport net bytes j → IsTwicePrice net bytes k → ⊥
     unknown_not_twice j k n t =
         let line : t.line ≡ n.line =
-        stops.one_line price_line IsPriceLine line_once (AreGoodPrices net) each front (pieces_of bytes) j k (no_import_stops j n) (twice_stops k t) t.line t.front.there t.form n.line n.front.there n.form in
+        stops.one_line price_line IsPriceLine line_once (AreGoodPrices net) each prefix (pieces_of bytes) j k (no_import_stops j n) (twice_stops k t) t.line t.prefix.present t.form n.line n.prefix.present n.form in
         n.unknown (subst (IsOfImport net) line t.known)
 
     whole : (priced : Network) (k : ℕ) → IsPriced net bytes priced → StopsAt (pieces_of bytes) k → ⊥
-    whole priced k is s = stops.no_stop price_line IsPriceLine line_once (AreGoodPrices net) each front (pieces_of bytes) is.lines k is.text.spelled is.text.good s
+    whole priced k is s = stops.no_stop price_line IsPriceLine line_once (AreGoodPrices net) each prefix (pieces_of bytes) is.lines k is.text.spelled is.text.good s
 
     same_net : (priced other : Network) → IsPriced net bytes priced → IsPriced net bytes other → priced ≡ other
     same_net priced other a b =
@@ -99,7 +99,7 @@ module _ (net : Network) where
     one_pricing (Err PriceOverflow) (Err PriceOverflow) a b = refl
 
     -- what holds of a text is what was answered of it, unless memory ran out
-    pub only_said : (result : Result Network PriceFault) → Tells result (IsPriceOutcome net bytes) →
-        (o : Result Network PriceFault) → IsPriceOutcome net bytes o → Tells result (λ p. p ≡ o)
+    pub only_said : (result : Result Network PriceFault) → HasOutcome result (IsPriceOutcome net bytes) →
+        (o : Result Network PriceFault) → IsPriceOutcome net bytes o → HasOutcome result (λ p. p ≡ o)
     only_said (Err Memory) h o holds = tt
     only_said result h o holds = one_pricing result o h holds

@@ -31,4 +31,4 @@ key_none es key None e none = sym e
 key_none es key (Some x) e none = absurd cc
 
 pub key_absent : {X : Type 0} (es : List ((ℕ × ℕ) × X)) (key : ℕ × ℕ) (o : Option X) → o ≡ lookup (same_pair key) es → is_some o ≡ false → Contains (keys_of es) key → ⊥
-key_absent es key o e none there = false≢true (sym none ∙ ap is_some e ∙ IsSome-lookup_from_Contains laws key es there)
+key_absent es key o e none present = false≢true (sym none ∙ ap is_some e ∙ IsSome-lookup_from_Contains laws key es present)

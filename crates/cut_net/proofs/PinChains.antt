@@ -12,25 +12,25 @@ use Rattle.digraph.proofs.SameGraphs.{chain_as, AreSame}
 use Rattle.cut_net.specs.declared.priced.Priced.{Priced}
 use Rattle.cut_net.specs.Network.{Network}
 use Rattle.cut_net.specs.WellFormed.{AreBetween}
-use Rattle.cut_net.specs.Cuts.{same_ends, Imports}
+use Rattle.cut_net.specs.Cuts.{have_equal_ends, Imports}
 use Rattle.cut_net.specs.Lines.{edge_of, IsImport}
 use Rattle.cut_net.specs.Pins.{ArePins, ByPin, IsLeastPinChain, IsPinChain, PinChain}
 use Rattle.cut_net.proofs.Ends.{same_from, same_true}
 
 -- a line with the import's ends is found exactly where there is one
-pub found_one : (i : Priced) (lines : List Priced) → is_some (find (same_ends i) lines) ≡ true → (l : Priced) × Contains lines l × (same_ends i l ≡ true)
+pub found_one : (i : Priced) (lines : List Priced) → is_some (find (have_equal_ends i) lines) ≡ true → (l : Priced) × Contains lines l × (have_equal_ends i l ≡ true)
 found_one i [] e = absurd cc
-found_one i (l ∷ lines) e = elim (cases_Bool (same_ends i l)) [
+found_one i (l ∷ lines) e = elim (cases_Bool (have_equal_ends i l)) [
   | inl t ↦ (l, first_member l lines l refl, t)
   | inr f ↦ let rest = found_one i lines (rw f at e) in (rest.0, later_member l lines rest.0 rest.1, rest.2)
 ]
 
-pub one_found : (i : Priced) (lines : List Priced) (l : Priced) → Contains lines l → same_ends i l ≡ true → is_some (find (same_ends i) lines) ≡ true
+pub one_found : (i : Priced) (lines : List Priced) (l : Priced) → Contains lines l → have_equal_ends i l ≡ true → is_some (find (have_equal_ends i) lines) ≡ true
 one_found i [] l has t = no_member l has
-one_found i (m ∷ lines) l has t = elim (cases_Bool (same_ends i m)) [
+one_found i (m ∷ lines) l has t = elim (cases_Bool (have_equal_ends i m)) [
   | inl here ↦ rw here refl
   | inr not_here ↦ rw not_here (elim (first_or_later m lines l has) [
-    | inl e ↦ absurd (both_ways (same_ends i m) not_here (subst (λ (n : Priced). same_ends i n ≡ true) (sym e) t))
+    | inl e ↦ absurd (both_ways (have_equal_ends i m) not_here (subst (λ (n : Priced). have_equal_ends i n ≡ true) (sym e) t))
     | inr later ↦ one_found i lines l later t
   ])
 ]
@@ -51,18 +51,18 @@ module _ (net : Network) (pins : ArePins net) where
   pub same_pins : AreSame (edges.Leads (map edge_of net.pins)) (Imports net.imports (ByPin net))
   same_pins m n = (
     λ leads.
-        let (p, there, e) = from_map edge_of net.pins (record { from = m; to = n }) leads in
-        let (i, known, from, to, any) = All-contains (IsImport net) net.pins p pins.in_order.known there in
+        let (p, present, e) = from_map edge_of net.pins (record { from = m; to = n }) leads in
+        let (i, known, from, to, any) = All-contains (IsImport net) net.pins p pins.in_order.known present in
         let from_is : i.from ≡ m = from ∙ ap (λ (q : Edge). q.from) e in
         let to_is : i.to ≡ n = to ∙ ap (λ (q : Edge). q.to) e in
-        (i, known, from_is, to_is, one_found i net.pins p there (same_true i p (record { from = from; to = to }))),
+        (i, known, from_is, to_is, one_found i net.pins p present (same_true i p (record { from = from; to = to }))),
     λ (i, known, from, to, pinned).
-        let (p, there, t) = found_one i net.pins pinned in
+        let (p, present, t) = found_one i net.pins pinned in
         let ends = same_from i p t in
         let from_is : p.from ≡ m = sym ends.from ∙ from in
         let to_is : p.to ≡ n = sym ends.to ∙ to in
         let e : edge_of p ≡ record { from = m; to = n } = ap (λ (x : ℕ). record { from = x; to = p.to }) from_is ∙ ap (λ (x : ℕ). record { from = m; to = x }) to_is in
-        subst (λ (q : Edge). Contains (map edge_of net.pins) q) e (in_map edge_of net.pins p there),
+        subst (λ (q : Edge). Contains (map edge_of net.pins) q) e (in_map edge_of net.pins p present),
   )
 
   same_back : AreSame (Imports net.imports (ByPin net)) (edges.Leads (map edge_of net.pins))

@@ -5,11 +5,11 @@ use Rattle.std.proofs.lemmas.Bool.{cases_Bool, cases_lt, both_ways, not-true, no
 use Rattle.std.proofs.lemmas.List.Sums.{get_or-le-sum_by}
 use Rattle.cut_net.specs.declared.priced.Priced.{Priced}
 use Rattle.cut_net.specs.Network.{Network}
-use Rattle.cut_net.specs.Said.{Said, CutOf, BlockedBy}
+use Rattle.cut_net.specs.AnswerClaim.{AnswerClaim, CutOf, BlockedBy}
 use Rattle.cut_net.specs.WellFormed.{AreBetween}
-use Rattle.cut_net.specs.Cuts.{Chain, Outside, IsCut, IsCheapest, IsSide, IsLeastSide, Near, LeavesNear, ArePrinted, IsFlow, leaves, same_ends, weight, without}
-use Rattle.cut_net.specs.Lines.{removed_by, IsAnswer, IsCheapestSaid}
-use Rattle.cut_net.specs.Pins.{is_pinned, IsRemovable, PinChain, ByPin, IsCutWithPins, IsCheapestWithPins, IsSideWithPins, IsLeastSideWithPins, NearWithPins, LeavesNearWithPins, ArePrintedWithPins, IsFlowWithPins, IsAnswerWithPins, IsCheapestSaidWithPins, ArePins, unpinned_weight}
+use Rattle.cut_net.specs.Cuts.{Chain, Outside, IsCut, IsCheapest, IsSide, IsMinimumSide, InSourceSide, LeavesSourceSide, AreReported, IsFlow, leaves, have_equal_ends, weight, without}
+use Rattle.cut_net.specs.Lines.{removed_by, IsAnswer, IsCheapestAnswer}
+use Rattle.cut_net.specs.Pins.{is_pinned, IsRemovable, PinChain, ByPin, IsCutWithPins, IsCheapestWithPins, IsSideWithPins, IsMinimumSideWithPins, InSourceSideWithPins, LeavesSourceSideWithPins, AreReportedWithPins, IsFlowWithPins, IsAnswerWithPins, IsCheapestAnswerWithPins, ArePins, unpinned_weight}
 use Rattle.cut_net.proofs.Certificate.{side_of_cut, leaves_in_cut, weight-mono}
 use Rattle.cut_net.proofs.Chains.{no_chain_to, widened}
 use Rattle.cut_net.proofs.Duality.{across_kept}
@@ -17,7 +17,7 @@ use Rattle.cut_net.proofs.ListSums.{sum_by-mono}
 use Rattle.cut_net.proofs.Needed.{needed}
 
 -- no import is pinned where there is no pin
-pinned_some : (i : Priced) (pins : List Priced) → is_some (find (same_ends i) pins) ≡ true → 0 < length pins
+pinned_some : (i : Priced) (pins : List Priced) → is_some (find (have_equal_ends i) pins) ≡ true → 0 < length pins
 pinned_some i [] e = absurd cc
 pinned_some i (p ∷ pins) e = omega arith
 
@@ -82,13 +82,13 @@ module _ (net : Network) (a b : ℕ) (pins : ArePins net) (none : PinChain net a
   far_light : weight net.imports (leaves far) ≤ weight net.imports (is_free net)
   far_light = weight-mono net.imports (leaves far) (is_free net) (leaves_in_cut net.imports b (is_free net))
 
-  least_is : (side : ℕ → Bool) → IsLeastSide net a b side → IsLeastSideWithPins net a b side
+  least_is : (side : ℕ → Bool) → IsMinimumSide net a b side → IsMinimumSideWithPins net a b side
   least_is side least = record {
     is_side = record { is_side = least.is_side; removable = light_free (leaves side) (let le = least.least far far_side in let light = far_light in omega arith) };
     least = λ other is. least.least other is.is_side;
   }
 
-  least_of : (side : ℕ → Bool) → IsLeastSideWithPins net a b side → IsLeastSide net a b side
+  least_of : (side : ℕ → Bool) → IsMinimumSideWithPins net a b side → IsMinimumSide net a b side
   least_of side least = record {
     is_side = least.is_side.is_side;
     least = λ other is. elim (cases_lt (weight net.imports (leaves far)) (weight net.imports (leaves other))) [
@@ -97,26 +97,26 @@ module _ (net : Network) (a b : ℕ) (pins : ArePins net) (none : PinChain net a
     ];
   }
 
-  pub near_is : (m : ℕ) → Near net a b m → NearWithPins net a b m
+  pub near_is : (m : ℕ) → InSourceSide net a b m → InSourceSideWithPins net a b m
   near_is m near side least = near side (least_of side least)
 
-  pub near_of : (m : ℕ) → NearWithPins net a b m → Near net a b m
+  pub near_of : (m : ℕ) → InSourceSideWithPins net a b m → InSourceSide net a b m
   near_of m near side least = near side (least_is side least)
 
-  leaves_is : (i : Priced) → LeavesNear net a b i → LeavesNearWithPins net a b i
+  leaves_is : (i : Priced) → LeavesSourceSide net a b i → LeavesSourceSideWithPins net a b i
   leaves_is i out = (near_is i.from out.0, λ near. out.1 (near_of i.to near))
 
-  leaves_of : (i : Priced) → LeavesNearWithPins net a b i → LeavesNear net a b i
+  leaves_of : (i : Priced) → LeavesSourceSideWithPins net a b i → LeavesSourceSide net a b i
   leaves_of i out = (near_of i.from out.0, λ near. out.1 (near_is i.to near))
 
-  pub printed_is : (x : Priced → Bool) → ArePrinted net a b x → ArePrintedWithPins net a b x
+  pub printed_is : (x : Priced → Bool) → AreReported net a b x → AreReportedWithPins net a b x
   printed_is x printed i c = (
     λ has. let one = (printed i c).0 has in
         (leaves_is i one.0, (one.1.0, widened net.imports net.imports _ _ (λ j d stays. (d, λ out. stays (leaves_of j out))) i.to one.1.0 b one.1.1)),
     λ one. (printed i c).1 (leaves_of i one.0, (one.1.0, widened net.imports net.imports _ _ (λ j d stays. (d, λ out. stays (leaves_is j out))) i.to one.1.0 b one.1.1)),
   )
 
-  pub printed_of : (x : Priced → Bool) → ArePrintedWithPins net a b x → ArePrinted net a b x
+  pub printed_of : (x : Priced → Bool) → AreReportedWithPins net a b x → AreReported net a b x
   printed_of x printed i c = (
     λ has. let one = (printed i c).0 has in
         (leaves_of i one.0, (one.1.0, widened net.imports net.imports _ _ (λ j d stays. (d, λ out. stays (leaves_is j out))) i.to one.1.0 b one.1.1)),
@@ -132,7 +132,7 @@ module _ (net : Network) (a b : ℕ) (pins : ArePins net) (none : PinChain net a
     least = λ y cut. cheapest.least y cut.cut;
   }
 
-  pub answer_is : (said : Said) → IsAnswer net a b said → IsCheapestSaid net a b said → IsAnswerWithPins net a b said
+  pub answer_is : (claim : AnswerClaim) → IsAnswer net a b claim → IsCheapestAnswer net a b claim → IsAnswerWithPins net a b claim
   answer_is (CutOf total printed flow) answer cheapest = record {
     free = none;
     right = record {
@@ -147,7 +147,7 @@ module _ (net : Network) (a b : ℕ) (pins : ArePins net) (none : PinChain net a
   }
   answer_is (BlockedBy chain) answer cheapest = absurd answer
 
-  pub cheapest_said : (said : Said) → IsAnswer net a b said → IsCheapestSaid net a b said → IsCheapestSaidWithPins net a b said
+  pub cheapest_said : (claim : AnswerClaim) → IsAnswer net a b claim → IsCheapestAnswer net a b claim → IsCheapestAnswerWithPins net a b claim
   cheapest_said (CutOf total printed flow) answer cheapest = cheapest_is (removed_by printed) cheapest
   cheapest_said (BlockedBy chain) answer cheapest = absurd answer
 
@@ -215,12 +215,12 @@ module _ (net : Network) (a b : ℕ) (e : net.pins ≡ []) where
     λ is. record { within = λ i c free. is.within i c; kept = is.kept; at_start = is.at_start },
   )
 
-  pub same_near : a ≢ b → (m : ℕ) → NearWithPins net a b m ↔ Near net a b m
+  pub same_near : a ≢ b → (m : ℕ) → InSourceSideWithPins net a b m ↔ InSourceSide net a b m
   same_near apart m = (near_of net a b (no_pins net e) (no_pin_chain net a b e apart) m, near_is net a b (no_pins net e) (no_pin_chain net a b e apart) m)
 
-  pub same_printed : a ≢ b → (x : Priced → Bool) → ArePrintedWithPins net a b x ↔ ArePrinted net a b x
+  pub same_printed : a ≢ b → (x : Priced → Bool) → AreReportedWithPins net a b x ↔ AreReported net a b x
   same_printed apart x = (printed_of net a b (no_pins net e) (no_pin_chain net a b e apart) x, printed_is net a b (no_pins net e) (no_pin_chain net a b e apart) x)
 
 pub needed_with_pins : (net : Network) (a b : ℕ) (x : Priced → Bool) → AreBetween net.imports (length net.names) → a < length net.names → ArePins net → (PinChain net a b → ⊥) →
-    ArePrintedWithPins net a b x → (i : Priced) → Contains net.imports i → x i ≡ true → Chain net.imports (Outside (without x i)) a b
+    AreReportedWithPins net a b x → (i : Priced) → Contains net.imports i → x i ≡ true → Chain net.imports (Outside (without x i)) a b
 needed_with_pins net a b x between a_in pins none printed = needed net a b x between a_in (printed_of net a b pins none x printed)

@@ -4,44 +4,44 @@ use Rattle.std.specs.Prelude.{slice_get}
 use Rattle.texts.proofs.FieldCuts.{some}
 use Rattle.cut_net.specs.declared.price_fault.PriceLineFault.{PriceLineFault}
 use Rattle.cut_net.specs.declared.price_fault.PriceLineFault.TheVariants as fault
-use Rattle.cut_net.specs.declared.standing.Change.{Change}
+use Rattle.cut_net.specs.declared.pin_state.Change.{Change}
 use Rattle.cut_net.specs.Network.{Network}
 use Rattle.cut_net.specs.NetText.{pieces_of}
 use Rattle.cut_net.specs.Prices.{PriceLine, AreGoodPrices, IsPriceOutcome, SpellPrices, UnlessMemory}
 use Rattle.cut_net.specs.PriceReading.{Notes, price_fault_in_line}
 
-pub fault_is : (net : Network) (bytes : List ℕ) (k number : ℕ) (before : List PriceLine) (piece : List ℕ) (e : PriceLineFault) (told : List (Option Change)) → number ≡ k + 1 → SpellPrices (take k (pieces_of bytes)) before → AreGoodPrices net before
-    → slice_get (pieces_of bytes) k ≡ Some piece → Notes net before piece (Err e) told
+pub fault_is : (net : Network) (bytes : List ℕ) (k number : ℕ) (before : List PriceLine) (piece : List ℕ) (e : PriceLineFault) (changes : List (Option Change)) → number ≡ k + 1 → SpellPrices (take k (pieces_of bytes)) before → AreGoodPrices net before
+    → slice_get (pieces_of bytes) k ≡ Some piece → Notes net before piece (Err e) changes
     → UnlessMemory (price_fault_in_line number e) (IsPriceOutcome net bytes (Err (price_fault_in_line number e)))
-fault_is net bytes k number before piece fault.BadLine told next spelled good there t = (
+fault_is net bytes k number before piece fault.BadLine changes next spelled good present t = (
   k,
   next,
   record {
     before = before;
     piece = piece;
-    front = record { spelled = spelled; good = good; there = there };
+    prefix = record { spelled = spelled; good = good; present = present };
     written = t.0;
     wrong = t.1;
   },
 )
-fault_is net bytes k number before piece fault.NoSuchImport told next spelled good there (line, e, form, unknown) = (
+fault_is net bytes k number before piece fault.NoSuchImport changes next spelled good present (line, e, form, unknown) = (
   k,
   next,
   record {
     before = before;
     line = line;
-    front = record { spelled = spelled; good = good; there = there ∙ ap some (sym e) };
+    prefix = record { spelled = spelled; good = good; present = present ∙ ap some (sym e) };
     form = form;
     unknown = unknown;
   },
 )
-fault_is net bytes k number before piece fault.TwicePrice told next spelled good there (line, e, form, known, twice) = (
+fault_is net bytes k number before piece fault.TwicePrice changes next spelled good present (line, e, form, known, twice) = (
   k,
   next,
   record {
     before = before;
     line = line;
-    front = record { spelled = spelled; good = good; there = there ∙ ap some (sym e) };
+    prefix = record { spelled = spelled; good = good; present = present ∙ ap some (sym e) };
     form = form;
     known = known;
     twice = twice;

@@ -8,11 +8,11 @@ use Rattle.texts.specs.Fields.{cut_at, named, number_of, is_name}
 use Rattle.texts.proofs.FieldCuts.{cut_takes, cut_again}
 use Rattle.texts.proofs.FieldNames.{named_takes, named_again, name_without}
 use Rattle.texts.proofs.FieldNumbers.{number_takes, number_again}
-use Rattle.cut_net.specs.declared.standing.Change.{Change}
-use Rattle.cut_net.specs.declared.standing.Change.TheVariants.{Price, Pin}
+use Rattle.cut_net.specs.declared.pin_state.Change.{Change}
+use Rattle.cut_net.specs.declared.pin_state.Change.TheVariants.{Price, Pin}
 use Rattle.cut_net.specs.NetReading.{after_word}
 use Rattle.cut_net.specs.NetText.{is_nonempty}
-use Rattle.cut_net.specs.Prices.{PriceLine, IsChange, IsPriceLine, price_line, spelled_so}
+use Rattle.cut_net.specs.Prices.{PriceLine, IsChange, IsPriceLine, price_line, change_line}
 use Rattle.cut_net.specs.PriceReading.{pin_of_fields, price_of_fields, price_line_of, saying}
 use Rattle.cut_net.proofs.NetLines.{map_some, word_takes, word_again}
 
@@ -77,7 +77,7 @@ price_again m n w p q lt =
     let b = cut_again 32 n (decimal w) (name_without 32 n refl q) in
     rw (a, b, named_again m p, named_again n q, number_again w lt) refl
 
-again : (m n : List ℕ) (change : Change) → is_name m ≡ true → is_name n ≡ true → IsChange change → price_line_of (spelled_so m n change) ≡ Some (saying m n change)
+again : (m n : List ℕ) (change : Change) → is_name m ≡ true → is_name n ≡ true → IsChange change → price_line_of (change_line m n change) ≡ Some (saying m n change)
 unfolding price_line_of
 again m n (Price w) p q lt =
     let rest = m ++ 32 ∷ (n ++ 32 ∷ decimal w) in
@@ -103,7 +103,7 @@ no_line piece none l good e =
     absurd cc
 
 -- a line isn't empty
-written : (m n : List ℕ) (change : Change) → is_nonempty (spelled_so m n change) ≡ true
+written : (m n : List ℕ) (change : Change) → is_nonempty (change_line m n change) ≡ true
 written m n (Price w) = refl
 written m n Pin = refl
 

@@ -5,25 +5,25 @@ use Rattle.std.proofs.lemmas.Bool.{cases_Bool, both_ways, and_from, and_left, an
 use Rattle.cut_net.specs.declared.priced.Priced.{Priced}
 use Rattle.cut_net.specs.Network.{Network}
 use Rattle.cut_net.specs.WellFormed.{AreBetween}
-use Rattle.cut_net.specs.Cuts.{IsChain, Outside, IsCut, IsSide, leaves, IsLeastSide, Near, LeavesNear, ArePrinted, AreThose}
+use Rattle.cut_net.specs.Cuts.{IsChain, Outside, IsCut, IsSide, leaves, IsMinimumSide, InSourceSide, LeavesSourceSide, AreReported, AreThose}
 use Rattle.cut_net.proofs.Certificate.{cond_within, leaves_in_cut, side_of_cut, weight-mono}
 use Rattle.cut_net.proofs.Chains.{no_chain_to}
 use Rattle.cut_net.proofs.ListSums.{sum_by-tight}
 
-module _ (net : Network) (a b : ℕ) (n : ℕ → Bool) (is_near : AreThose n (Near net a b)) (x : Priced → Bool) (printed : ArePrinted net a b x) where
+module _ (net : Network) (a b : ℕ) (n : ℕ → Bool) (is_near : AreThose n (InSourceSide net a b)) (x : Priced → Bool) (printed : AreReported net a b x) where
   pub leaves_near : (i : Priced) → Contains net.imports i → x i ≡ true → leaves n i ≡ true
   leaves_near i c t =
       let out = ((printed i c).0 t).0 in
       and_from _ _ ((is_near i.from).1 out.0) (not_from_false _ (false_from_ne_true _ (λ u. out.1 ((is_near i.to).0 u))))
 
   -- a chain to b by imports that aren't printed is one by imports that don't leave the near modules
-  stays : (m : ℕ) (more : List ℕ) → IsChain net.imports (Outside x) m more b → IsChain net.imports (λ i. LeavesNear net a b i → ⊥) m more b
+  stays : (m : ℕ) (more : List ℕ) → IsChain net.imports (Outside x) m more b → IsChain net.imports (λ i. LeavesSourceSide net a b i → ⊥) m more b
   stays m [] e = e
   stays m (k ∷ more) ((i, c, ef, et, out), rest) =
       let later = stays k more rest in
-      ((i, c, ef, et, λ leaving. both_ways (x i) out ((printed i c).1 (leaving, (more, subst (λ j. IsChain net.imports (λ i. LeavesNear net a b i → ⊥) j more b) (sym et) later)))), later)
+      ((i, c, ef, et, λ leaving. both_ways (x i) out ((printed i c).1 (leaving, (more, subst (λ j. IsChain net.imports (λ i. LeavesSourceSide net a b i → ⊥) j more b) (sym et) later)))), later)
 
-  within : (m : ℕ) (more : List ℕ) → n m ≡ true → IsChain net.imports (λ i. LeavesNear net a b i → ⊥) m more b → n b ≡ true
+  within : (m : ℕ) (more : List ℕ) → n m ≡ true → IsChain net.imports (λ i. LeavesSourceSide net a b i → ⊥) m more b → n b ≡ true
   within m [] t e = subst (λ j. n j ≡ true) e t
   within m (k ∷ more) t ((i, c, ef, et, not_leaving), rest) =
       within k more
@@ -36,7 +36,7 @@ module _ (net : Network) (a b : ℕ) (n : ℕ → Bool) (is_near : AreThose n (N
   pub cut_of_near : IsSide net a b n → IsCut net a b x
   cut_of_near side chain = both_ways (n b) side.end (within a chain.0 side.start (stays a chain.0 chain.1))
 
-  pub unprinted : IsLeastSide net a b n → (i : Priced) → Contains net.imports i → leaves n i ≡ true → x i ≡ false → i.amount ≡ 0
+  pub unprinted : IsMinimumSide net a b n → (i : Priced) → Contains net.imports i → leaves n i ≡ true → x i ≡ false → i.amount ≡ 0
   unprinted least i c out off =
       let cut = cut_of_near least.is_side in
       let side = side_of_cut net a b x cut in
@@ -48,7 +48,7 @@ module _ (net : Network) (a b : ℕ) (n : ℕ → Bool) (is_near : AreThose n (N
       sym (cond-true (leaves n i) i.amount 0 out) ∙ sym same ∙ cond-false (x i) i.amount 0 off
 
 -- a side of least weight has the same leaving imports without the numbers that are no module's
-module _ (net : Network) (a b : ℕ) (between : AreBetween net.imports (length net.names)) (a_in : a < length net.names) (s : ℕ → Bool) (least : IsLeastSide net a b s) where
+module _ (net : Network) (a b : ℕ) (between : AreBetween net.imports (length net.names)) (a_in : a < length net.names) (s : ℕ → Bool) (least : IsMinimumSide net a b s) where
   abbrev pub among_modules : ℕ → Bool
   among_modules k = s k && nat_lt k (length net.names)
 
@@ -59,7 +59,7 @@ module _ (net : Network) (a b : ℕ) (between : AreBetween net.imports (length n
       and_from _ _ has.0 (not_from_false _ (false_from_ne_true _ (λ u.
       both_ways (among_modules i.to) (not-true _ parts.1) (and_from _ _ u (lt-ltb i.to (length net.names) (between i c).1)))))
 
-  pub among_is_least : IsLeastSide net a b among_modules
+  pub among_is_least : IsMinimumSide net a b among_modules
   among_is_least = record {
     is_side = record { start = and_from _ _ least.is_side.start (lt-ltb a (length net.names) a_in); end = and_left _ _ least.is_side.end };
     least = λ other is_side.
@@ -68,6 +68,6 @@ module _ (net : Network) (a b : ℕ) (between : AreBetween net.imports (length n
         omega arith;
   }
 
-  pub among_near : ((k : ℕ) → k < length net.names → s k ≡ true → Near net a b k) → AreThose among_modules (Near net a b)
+  pub among_near : ((k : ℕ) → k < length net.names → s k ≡ true → InSourceSide net a b k) → AreThose among_modules (InSourceSide net a b)
   among_near near m =
       (λ t. let has = and_parts (s m) (nat_lt m (length net.names)) t in near m (ltb-true m (length net.names) has.1) has.0, λ is_near. is_near among_modules among_is_least)

@@ -5,12 +5,12 @@ use Rattle.std.specs.List.{flat_map}
 use Rattle.std.proofs.lemmas.Grind.{flat_map-append}
 use Rattle.std.proofs.lemmas.List.{append-nil, get_or-map, map_push, take_more}
 use Rattle.cut_net.specs.declared.priced.Priced.{Priced}
-use Rattle.cut_net.specs.declared.standing.Change.{Change}
-use Rattle.cut_net.specs.declared.standing.PinState.{PinState}
-use Rattle.cut_net.specs.declared.standing.PinState.TheVariants.{Weighs, Stays}
-use Rattle.cut_net.specs.Network.{Network, none_there}
-use Rattle.cut_net.specs.Cuts.{same_ends}
-use Rattle.cut_net.specs.Prices.{pin_as, pin_state_of, stands_after, stands_by}
+use Rattle.cut_net.specs.declared.pin_state.Change.{Change}
+use Rattle.cut_net.specs.declared.pin_state.PinState.{PinState}
+use Rattle.cut_net.specs.declared.pin_state.PinState.TheVariants.{Weighs, Stays}
+use Rattle.cut_net.specs.Network.{Network, missing_item}
+use Rattle.cut_net.specs.Cuts.{have_equal_ends}
+use Rattle.cut_net.specs.Prices.{pin_as, pin_state_of, changed_state, initial_state}
 
 -- an element of a list that is mapped
 pub mapped_at : {X Y : Type 0} (f : X → Y) (xs : List X) (ys : List Y) (k : ℕ) (d : X) (e : Y) → ys ≡ map f xs → k < length xs → get_or ys k e ≡ f (get_or xs k d)
@@ -30,7 +30,7 @@ no_pin i (Weighs w) none = refl
 no_pin i (Stays w) none = absurd (none w refl)
 
 -- how an import stands, as it was found
-pub stood : (net : Network) (said : Priced → Option Change) (imports pins : List Priced) (told : List (Option Change)) (k : ℕ) (pin : Option Priced) (now : PinState) → imports ≡ net.imports → pins ≡ net.pins
-    → pin ≡ find (same_ends (get_or imports k none_there)) pins → get_or told k None ≡ said (get_or net.imports k none_there) → now ≡ stands_after (stands_by (get_or imports k none_there) pin) (get_or told k None)
-    → now ≡ stands_after (pin_state_of net (get_or net.imports k none_there)) (said (get_or net.imports k none_there))
-stood net said imports pins told k pin now e f found tells is = rw (is, found, tells, e, f) refl
+pub stood : (net : Network) (claim : Priced → Option Change) (imports pins : List Priced) (changes : List (Option Change)) (k : ℕ) (pin : Option Priced) (now : PinState) → imports ≡ net.imports → pins ≡ net.pins
+    → pin ≡ find (have_equal_ends (get_or imports k missing_item)) pins → get_or changes k None ≡ claim (get_or net.imports k missing_item) → now ≡ changed_state (initial_state (get_or imports k missing_item) pin) (get_or changes k None)
+    → now ≡ changed_state (pin_state_of net (get_or net.imports k missing_item)) (claim (get_or net.imports k missing_item))
+stood net claim imports pins changes k pin now e f found tells is = rw (is, found, tells, e, f) refl

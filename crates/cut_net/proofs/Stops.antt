@@ -5,7 +5,7 @@ use Rattle.std.specs.List.{list_any}
 use Rattle.std.specs.Str.{bytes_eq}
 use Rattle.std.proofs.lemmas.Bool.{or_cases, or_left, or_right}
 use Rattle.std.proofs.lemmas.Slice.Eq.{bytes_eq-Decides}
-use Rattle.cut_net.specs.NetText.{NetLine, Module, Import, net_line, IsNetLine, is_import, Spell, Mentions, AreMentioning, AreNamesOf, AreOfTwoImports, AreFew, AreGood}
+use Rattle.cut_net.specs.NetText.{NetLine, Module, Import, net_line, IsNetLine, is_import, Spell, Mentions, AreMentioning, AreNamesOf, AreOfTwoImports, AreWithinLimits, AreGood}
 use Rattle.cut_net.proofs.LineStops as stops
 use Rattle.cut_net.proofs.ListFronts.{all_front, contains_front, deeper, distinct_kept, fewer_front, fewer_kept, kept, pairs_front, passes_kept}
 use Rattle.cut_net.proofs.NetLines.{line_once}
@@ -53,7 +53,7 @@ names_front xs ys names are = record {
   );
 }
 
-few_front : (xs ys : List NetLine) → AreFew (xs ++ ys) → AreFew xs
+few_front : (xs ys : List NetLine) → AreWithinLimits (xs ++ ys) → AreWithinLimits xs
 few_front xs ys few = record {
   names = filter (any_mentions xs) few.names;
   are_names = names_front xs ys few.names few.are_names;

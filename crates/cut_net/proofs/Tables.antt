@@ -15,11 +15,11 @@ use Rattle.std.proofs.lemmas.Map.Made.{is_member-Decides, length-from_same_keys}
 use Rattle.std.proofs.lemmas.Slice.Eq.{bytes_eq-Decides}
 use Rattle.texts.specs.Fields.{is_name}
 use Rattle.cut_net.specs.NetText.{NetLine, Module, Import, net_line, is_import, is_nonempty, AreOfTwoImports, AreMentioning, AreNamesOf, IsNetLine, Mentions}
-use Rattle.cut_net.specs.NetReading.{entry_line, noted, AddsLine, AreTablesOf, IsMore, IsTwice, TakesPiece, line_said}
+use Rattle.cut_net.specs.NetReading.{entry_line, noted, AddsLine, AreTablesOf, IsMore, IsTwice, TakesPiece, line_content}
 use Rattle.cut_net.specs.declared.lines.Line.{Line}
-use Rattle.cut_net.specs.declared.draft.NetDraft.{NetDraft}
-use Rattle.cut_net.specs.declared.draft.NetLineFault.{NetLineFault}
-use Rattle.cut_net.specs.declared.draft.NetLineFault.TheVariants as fault
+use Rattle.cut_net.specs.declared.builder.NetBuilder.{NetBuilder}
+use Rattle.cut_net.specs.declared.builder.NetLineFault.{NetLineFault}
+use Rattle.cut_net.specs.declared.builder.NetLineFault.TheVariants as fault
 use Rattle.digraph.proofs.Members.{no_member, in_filter, from_filter, in_map, from_map}
 
 -- the tables of no lines
@@ -28,7 +28,7 @@ unfolding IsDistinct
 tables_none = record {
   each = All-nil IsNetLine;
   apart = λ i j d below lt. absurd (omega arith);
-  are_names = record { once = tt; named = λ x. (λ there. no_member x there, λ has. no_member has.0 has.1) };
+  are_names = record { once = tt; named = λ x. (λ present. no_member x present, λ has. no_member has.0 has.1) };
   few_names = omega arith;
   few_imports = omega arith;
   placed = All-nil _;
@@ -47,8 +47,8 @@ noted_once names m h =
 noted_in : (names : List (List ℕ)) (m x : List ℕ) → Contains names x ⊎ (m ≡ x) → Contains (noted names m) x
 noted_in names m x h =
     elim (cases_Bool (list_any (bytes_eq m) names)) [
-      | inl old ↦ rw old (elim h [ inl there ↦ there | inr same ↦ subst (λ (t : List ℕ). Contains names t) same ((is_member-Decides bytes_eq-Decides names m).0 old) ])
-      | inr new ↦ rw new (elim h [ inl there ↦ Contains-append_left names (m ∷ []) x there | inr same ↦ subst (λ (t : List ℕ). Contains (names ++ m ∷ []) t) same (Contains-push names m) ])
+      | inl old ↦ rw old (elim h [ inl present ↦ present | inr same ↦ subst (λ (t : List ℕ). Contains names t) same ((is_member-Decides bytes_eq-Decides names m).0 old) ])
+      | inr new ↦ rw new (elim h [ inl present ↦ Contains-append_left names (m ∷ []) x present | inr same ↦ subst (λ (t : List ℕ). Contains (names ++ m ∷ []) t) same (Contains-push names m) ])
     ]
 
 noted_from : (names : List (List ℕ)) (m x : List ℕ) → Contains (noted names m) x → Contains names x ⊎ (m ≡ x)
@@ -75,14 +75,14 @@ noted_longer names m =
 -- ---- what the lines mention
 
 mention_from : (lines : List NetLine) (line : NetLine) (x : List ℕ) → AreMentioning (lines ++ line ∷ []) x → AreMentioning lines x ⊎ Mentions x line
-mention_from lines line x (l, there, has) =
-    elim (Contains-push_cases lines line l there) [
+mention_from lines line x (l, present, has) =
+    elim (Contains-push_cases lines line l present) [
       | inl before ↦ inl (l, before, has)
       | inr same ↦ inr (subst (λ (t : NetLine). Mentions x t) (sym same) has)
     ]
 
 mention_old : (lines : List NetLine) (line : NetLine) (x : List ℕ) → AreMentioning lines x → AreMentioning (lines ++ line ∷ []) x
-mention_old lines line x (l, there, has) = (l, Contains-append_left lines (line ∷ []) l there, has)
+mention_old lines line x (l, present, has) = (l, Contains-append_left lines (line ∷ []) l present, has)
 
 mention_new : (lines : List NetLine) (line : NetLine) (x : List ℕ) → Mentions x line → AreMentioning (lines ++ line ∷ []) x
 mention_new lines line x has = (line, Contains-push lines line, has)
@@ -91,7 +91,7 @@ pub names_module : (lines : List NetLine) (names : List (List ℕ)) (m : List �
 names_module lines names m h = record {
   once = noted_once names m h.once;
   named = λ x. (
-    λ there. elim (noted_from names m x there) [
+    λ present. elim (noted_from names m x present) [
       | inl old ↦ mention_old lines (Module m) x ((h.named x).0 old)
       | inr new ↦ mention_new lines (Module m) x new
     ],
@@ -103,7 +103,7 @@ pub names_import : (lines : List NetLine) (names : List (List ℕ)) (m n : List 
 names_import lines names m n w h = record {
   once = noted_once (noted names m) n (noted_once names m h.once);
   named = λ x. (
-    λ there. elim (noted_from (noted names m) n x there) [
+    λ present. elim (noted_from (noted names m) n x present) [
       | inl old ↦ elim (noted_from names m x old) [
         | inl older ↦ mention_old lines (Import m n w) x ((h.named x).0 older)
         | inr new ↦ mention_new lines (Import m n w) x (inl new)
@@ -193,14 +193,14 @@ stands_twice lines m n w x (k, lt, at) apart =
 module _ (lines : List NetLine) (names : List (List ℕ)) (es : List ((ℕ × ℕ) × ℕ)) (h : AreTablesOf lines names es) where
   -- an import of the lines has an entry
   entry_of : (m n : List ℕ) (w : ℕ) → Contains lines (Import m n w) → (e : (ℕ × ℕ) × ℕ) × Contains es e × (entry_line names e ≡ Import m n w)
-  entry_of m n w there =
-      let listed : Contains (map (entry_line names) es) (Import m n w) = rw (← h.listed) (in_filter is_import lines (Import m n w) refl there) in
+  entry_of m n w present =
+      let listed : Contains (map (entry_line names) es) (Import m n w) = rw (← h.listed) (in_filter is_import lines (Import m n w) refl present) in
       from_map (entry_line names) es (Import m n w) listed
 
   -- and each entry is of an import of the lines
   line_of_entry : (e : (ℕ × ℕ) × ℕ) → Contains es e → Contains lines (entry_line names e)
-  line_of_entry e there =
-      let listed : Contains (filter is_import lines) (entry_line names e) = rw h.listed (in_map (entry_line names) es e there) in
+  line_of_entry e present =
+      let listed : Contains (filter is_import lines) (entry_line names e) = rw h.listed (in_map (entry_line names) es e present) in
       from_filter is_import lines (entry_line names e) listed
 
   pub tables_module : (m : List ℕ) → is_name m ≡ true → length (noted names m) ≤ 8192 → AreTablesOf (lines ++ Module m ∷ []) (noted names m) es
@@ -248,9 +248,9 @@ module _ (lines : List NetLine) (names : List (List ℕ)) (es : List ((ℕ × �
     apart_import absent = all_pairs_push AreOfTwoImports lines (Import m n w) h.apart (λ k d lt. by (get_or lines k d) (Contains-get_or lines k d lt))
       where
         by : (l : NetLine) → Contains lines l → AreOfTwoImports l (Import m n w)
-        by (Module _) there = tt
-        by (Import k l x) there = λ e1 e2.
-            let (e, within, is) = entry_of k l x there in
+        by (Module _) present = tt
+        by (Import k l x) present = λ e1 e2.
+            let (e, within, is) = entry_of k l x present in
             let p = All-contains (IsPlaced names) es e h.placed within in
             let le = kept.0 in
             let first : get_or names e.0.0 [] ≡ m = said_from _ _ _ _ _ _ is ∙ e1 in
@@ -264,12 +264,12 @@ module _ (lines : List NetLine) (names : List (List ℕ)) (es : List ((ℕ × �
     twice_import known apart =
         let (found, within, is) = from_map (λ (p : (ℕ × ℕ) × ℕ). p.0) es (i, j) known in
         let x = found.1 in
-        let there : Contains es ((i, j), x) = subst (λ (t : ℕ × ℕ). Contains es (t, x)) is within in
-        let p = All-contains (IsPlaced names) es ((i, j), x) h.placed there in
+        let present : Contains es ((i, j), x) = subst (λ (t : ℕ × ℕ). Contains es (t, x)) is within in
+        let p = All-contains (IsPlaced names) es ((i, j), x) h.placed present in
         let first : get_or names i [] ≡ m = sym (kept.1 i p.0) ∙ from.1 in
         let second : get_or names j [] ≡ n = sym (kept.1 j p.1) ∙ to.1 in
         let same : Import (get_or names i []) (get_or names j []) x ≡ Import m n x = cc in
-        stands_twice lines m n w x (subst (λ (t : NetLine). Contains lines t) same (line_of_entry ((i, j), x) there)) apart
+        stands_twice lines m n w x (subst (λ (t : NetLine). Contains lines t) same (line_of_entry ((i, j), x) present)) apart
 
     pub tables_import : (Contains (keys_of es) (i, j) → ⊥) → IsNetLine (Import m n w) → length more ≤ 8192 → length es + 1 ≤ 65536
         → AreTablesOf (lines ++ Import m n w ∷ []) more (es ++ ((i, j), w) ∷ [])
@@ -360,17 +360,17 @@ module _ (lines : List NetLine) (names middle more : List (List ℕ)) (es : List
 
 -- ---- what came of a piece
 
-pub takes_from_adds : (before : List NetLine) (piece : List ℕ) (line : NetLine) (r : Result (Unit {0}) NetLineFault) (draft : NetDraft) → is_nonempty piece ≡ true → net_line line ≡ piece → IsNetLine line
-    → AddsLine before line r draft → TakesPiece before piece r draft
-takes_from_adds before piece line (Ok _) draft written e good h =
+pub takes_from_adds : (before : List NetLine) (piece : List ℕ) (line : NetLine) (r : Result (Unit {0}) NetLineFault) (builder : NetBuilder) → is_nonempty piece ≡ true → net_line line ≡ piece → IsNetLine line
+    → AddsLine before line r builder → TakesPiece before piece r builder
+takes_from_adds before piece line (Ok _) builder written e good h =
     let spelled : filter is_nonempty (piece ∷ []) ≡ net_line line ∷ [] = rw (written, e) refl in
     (line ∷ [], spelled, h)
-takes_from_adds before piece line (Err fault.BadLine) draft written e good h = absurd h
-takes_from_adds before piece line (Err fault.TwiceImport) draft written e good h = (line, e, good, h)
-takes_from_adds before piece line (Err fault.TooMany) draft written e good h = (line, e, good, h)
-takes_from_adds before piece line (Err fault.Memory) draft written e good h = tt
+takes_from_adds before piece line (Err fault.BadLine) builder written e good h = absurd h
+takes_from_adds before piece line (Err fault.TwiceImport) builder written e good h = (line, e, good, h)
+takes_from_adds before piece line (Err fault.TooMany) builder written e good h = (line, e, good, h)
+takes_from_adds before piece line (Err fault.Memory) builder written e good h = tt
 
-pub not_read : (o : Option Line) (r : Option NetLine) → option_map line_said o ≡ r → ((x : Line) → o ≡ Some x → ⊥) → r ≡ None
+pub not_read : (o : Option Line) (r : Option NetLine) → option_map line_content o ≡ r → ((x : Line) → o ≡ Some x → ⊥) → r ≡ None
 not_read None r e none = sym e
 not_read (Some x) r e none = absurd (none x refl)
 

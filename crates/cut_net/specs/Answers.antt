@@ -1,14 +1,14 @@
--- What an answer says of two modules, without where its lists lie in memory.
+-- The content of an answer, without addresses.
 use Rattle.cut_net.specs.declared.cut.Cut.{Cut}
 use Rattle.cut_net.specs.declared.answer.Answer.{Answer}
 use Rattle.cut_net.specs.declared.answer.Answer.TheVariants as answers
-use Rattle.cut_net.specs.Said.{Said, CutOf, BlockedBy}
+use Rattle.cut_net.specs.AnswerClaim.{AnswerClaim, CutOf, BlockedBy}
 
--- what a cut says
-abbrev pub said_by_cut : Cut → Said
-said_by_cut cut = CutOf cut.weight cut.imports.items cut.flow.items
+-- the content of a cut
+abbrev pub cut_claim : Cut → AnswerClaim
+cut_claim cut = CutOf cut.weight cut.imports.items cut.flow.items
 
--- what an answer says
-abbrev pub said_by : Answer → Said
-said_by (answers.Cut cut) = said_by_cut cut
-said_by (answers.Blocked chain) = BlockedBy chain.items
+-- the content of an answer
+abbrev pub answer_claim : Answer → AnswerClaim
+answer_claim (answers.Cut cut) = cut_claim cut
+answer_claim (answers.Blocked chain) = BlockedBy chain.items

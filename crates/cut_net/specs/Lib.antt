@@ -1,5 +1,5 @@
 pub mod Network
-pub mod Said
+pub mod AnswerClaim
 pub mod Answers
 pub mod Cuts
 pub mod Lines

@@ -1,9 +1,9 @@
--- The text of a network, and the first fault of a text that is none. Lines are numbered from 1.
+-- The text of a network, and the first error of any other text. Lines are numbered from 1.
 use Rattle.std.specs.Prelude.{◌≡◌, ◌≢◌, ◌↔◌, ◌⊎◌, ℕ, ◌+◌, ◌<◌, ◌≤◌, ◌^◌, ◌==◌, Bool, true, false, List, [], ◌∷◌, ◌++◌, length, Some, Result, Ok, Err, slice_get, take, map, filter, count_by, codes, All, AllPairs, Contains}
 use Rattle.std.specs.List.{slice_split, IsDistinct}
 use Rattle.std.specs.Str.{bytes_eq}
 use Rattle.std.specs.Fmt.{decimal}
-use Rattle.digraph.specs.Cycle.{NamesCycle}
+use Rattle.digraph.specs.Cycle.{IsCanonicalCycle}
 use Rattle.cut_net.specs.declared.fault.NetFault.{NetFault}
 use Rattle.cut_net.specs.declared.fault.NetFault.TheVariants as faults
 use Rattle.cut_net.specs.declared.priced.Priced.{Priced}
@@ -13,12 +13,12 @@ use Rattle.cut_net.specs.Lines.{IsAscending}
 use Rattle.cut_net.specs.Cuts.{Any, Imports}
 use Rattle.cut_net.specs.WellFormed.{AreBetween, AreNamesInOrder, IsAcyclic, total_weight}
 
--- what a line says: there is a module, or the first module imports the second at this weight
+-- the content of a line: a module, or that the first module imports the second with this weight
 pub data NetLine : Type 0 where
   Module : List ℕ → NetLine
   Import : List ℕ → List ℕ → ℕ → NetLine
 
--- how it is spelled
+-- the bytes of the line
 abbrev pub net_line : NetLine → List ℕ
 net_line (Module m) = line_of (codes "module" ∷ m ∷ [])
 net_line (Import m n w) = line_of (codes "import" ∷ m ∷ n ∷ decimal w ∷ [])
@@ -28,7 +28,7 @@ abbrev pub IsNetLine : NetLine → Type 0
 IsNetLine (Module m) = is_name m ≡ true
 IsNetLine (Import m n w) = (is_name m ≡ true) × (is_name n ≡ true) × (w < 2 ^ 64)
 
--- what stands between the line ends, empty lines too; after the last line end stands one more, which may be empty
+-- the bytes between line ends, empty lines included; after the last line end there is one more piece, which may be empty
 abbrev pub pieces_of : List ℕ → List (List ℕ)
 pieces_of bytes = slice_split (λ c. c == 10) bytes
 
@@ -46,72 +46,72 @@ abbrev pub Mentions : List ℕ → NetLine → Type 0
 Mentions name (Module m) = m ≡ name
 Mentions name (Import m n w) = (m ≡ name) ⊎ (n ≡ name)
 
--- a line of these has the name
+-- one of the lines has the name
 abbrev pub AreMentioning : List NetLine → List ℕ → Type 0
 AreMentioning lines name = (line : NetLine) × Contains lines line × Mentions name line
 
--- the names that the lines have, each once
+-- exactly the names of the lines, without repeats
 pub record AreNamesOf (lines : List NetLine) (names : List (List ℕ)) : Type 0 where
   pub once : IsDistinct bytes_eq names
   pub named : (name : List ℕ) → Contains names name ↔ AreMentioning lines name
 
--- the line is of an import
+-- the line is an `import` line
 abbrev pub is_import : NetLine → Bool
 is_import (Module m) = false
 is_import (Import m n w) = true
 
--- two lines aren't of one import
+-- the lines don't have one import
 abbrev pub AreOfTwoImports : NetLine → NetLine → Type 0
 AreOfTwoImports (Module _) (Module _) = Unit {0}
 AreOfTwoImports (Module _) (Import _ _ _) = Unit {0}
 AreOfTwoImports (Import _ _ _) (Module _) = Unit {0}
 AreOfTwoImports (Import m n _) (Import k l _) = m ≡ k → n ≢ l
 
--- at most 8192 names and 65536 imports
-pub record AreFew (lines : List NetLine) : Type 0 where
+-- the limits: at most 8192 names and 65536 imports
+pub record AreWithinLimits (lines : List NetLine) : Type 0 where
   pub names : List (List ℕ)
   pub are_names : AreNamesOf lines names
   pub few_names : length names ≤ 8192
   pub few_imports : count_by is_import lines ≤ 65536
 
--- lines with no fault among them
+-- lines without an error
 pub record AreGood (lines : List NetLine) : Type 0 where
   pub each : All IsNetLine lines
   pub apart : AllPairs AreOfTwoImports lines
-  pub few : AreFew lines
+  pub few : AreWithinLimits lines
 
--- the first k pieces are good lines, and this is the piece after them
-pub record IsFront (bytes : List ℕ) (k : ℕ) (lines : List NetLine) (piece : List ℕ) : Type 0 where
+-- the first k pieces are lines without an error, and this piece follows
+pub record IsPrefix (bytes : List ℕ) (k : ℕ) (lines : List NetLine) (piece : List ℕ) : Type 0 where
   pub spelled : Spell (take k (pieces_of bytes)) lines
   pub good : AreGood lines
-  pub there : slice_get (pieces_of bytes) k ≡ Some piece
+  pub present : slice_get (pieces_of bytes) k ≡ Some piece
 
--- after good lines, a piece that is neither empty nor a line
+-- after lines without an error, a piece that is neither empty nor a line
 pub record IsBadLine (bytes : List ℕ) (k : ℕ) : Type 0 where
   pub before : List NetLine
   pub piece : List ℕ
-  pub front : IsFront bytes k before piece
+  pub prefix : IsPrefix bytes k before piece
   pub written : is_nonempty piece ≡ true
   pub wrong : (line : NetLine) → IsNetLine line → net_line line ≢ piece
 
--- after good lines, a line of an import that has one already
+-- after lines without an error, a line that repeats an import
 pub record IsTwiceImport (bytes : List ℕ) (k : ℕ) : Type 0 where
   pub before : List NetLine
   pub line : NetLine
-  pub front : IsFront bytes k before (net_line line)
+  pub prefix : IsPrefix bytes k before (net_line line)
   pub form : IsNetLine line
   pub twice : AllPairs AreOfTwoImports (before ++ line ∷ []) → ⊥
 
--- after good lines, a line that is apart from them and one name or one import too many
+-- after lines without an error, a line that repeats no import but exceeds a limit
 pub record IsTooMany (bytes : List ℕ) (k : ℕ) : Type 0 where
   pub before : List NetLine
   pub line : NetLine
-  pub front : IsFront bytes k before (net_line line)
+  pub prefix : IsPrefix bytes k before (net_line line)
   pub form : IsNetLine line
   pub apart : AllPairs AreOfTwoImports (before ++ line ∷ [])
-  pub many : AreFew (before ++ line ∷ []) → ⊥
+  pub many : AreWithinLimits (before ++ line ∷ []) → ⊥
 
--- the network of the lines: the names that they have, in order, and their imports, in order; nothing is pinned
+-- the network of the lines: their names and imports, strictly sorted; nothing is pinned
 pub record IsNetOf (lines : List NetLine) (net : Network) : Type 0 where
   pub names_ascend : AreNamesInOrder net.names
   pub named : (name : List ℕ) → Contains net.names name ↔ AreMentioning lines name
@@ -121,38 +121,38 @@ pub record IsNetOf (lines : List NetLine) (net : Network) : Type 0 where
       Contains net.imports i ↔ Contains lines (Import (name_of net i.from) (name_of net i.to) i.amount)
   pub no_pins : net.pins ≡ []
 
--- the bytes are good lines of this network
+-- the bytes are lines without an error, and this is their network
 pub record NetText (bytes : List ℕ) (net : Network) : Type 0 where
   pub lines : List NetLine
   pub spelled : Spell (pieces_of bytes) lines
   pub good : AreGood lines
   pub is_net : IsNetOf lines net
 
--- what a text of a network is refused for, with names as texts
-pub data NetRefusal : Type 0 where
-  BadLine : ℕ → NetRefusal
-  TwiceImport : ℕ → NetRefusal
-  Cycle : List (List ℕ) → NetRefusal
-  WeightOverflow : NetRefusal
-  TooMany : ℕ → NetRefusal
+-- the errors of a text, with names as byte lists
+pub data NetError : Type 0 where
+  BadLine : ℕ → NetError
+  TwiceImport : ℕ → NetError
+  Cycle : List (List ℕ) → NetError
+  WeightOverflow : NetError
+  TooMany : ℕ → NetError
 
--- after good lines only: a total weight above 64 bits
+-- all lines are valid, and the total weight exceeds 64 bits
 pub record IsOverflow (bytes : List ℕ) : Type 0 where
   pub net : Network
   pub text : NetText bytes net
   pub over : 2 ^ 64 ≤ total_weight net
 
--- after good lines of a total weight that fits: the cycle of these names
+-- all lines are valid and the total weight fits, and the canonical cycle has these names
 pub record IsCycle (bytes : List ℕ) (names : List (List ℕ)) : Type 0 where
   pub net : Network
   pub text : NetText bytes net
   pub fits : total_weight net < 2 ^ 64
   pub cycle : List ℕ
-  pub is_cycle : NamesCycle (Imports net.imports Any) cycle
+  pub is_cycle : IsCanonicalCycle (Imports net.imports Any) cycle
   pub are_names : names ≡ map (name_of net) cycle
 
--- the text says this: its network, or its first fault
-abbrev pub IsNetOutcome : List ℕ → Result Network NetRefusal → Type 0
+-- the outcome of a text: its network, or its first error
+abbrev pub IsNetOutcome : List ℕ → Result Network NetError → Type 0
 IsNetOutcome bytes (Ok net) = NetText bytes net × (total_weight net < 2 ^ 64) × IsAcyclic net.imports
 IsNetOutcome bytes (Err (BadLine line)) = (k : ℕ) × (line ≡ k + 1) × IsBadLine bytes k
 IsNetOutcome bytes (Err (TwiceImport line)) = (k : ℕ) × (line ≡ k + 1) × IsTwiceImport bytes k
@@ -160,17 +160,17 @@ IsNetOutcome bytes (Err (Cycle names)) = IsCycle bytes names
 IsNetOutcome bytes (Err WeightOverflow) = IsOverflow bytes
 IsNetOutcome bytes (Err (TooMany line)) = (k : ℕ) × (line ≡ k + 1) × IsTooMany bytes k
 
--- this is what the fault refuses for; want of memory refuses nothing
-abbrev pub IsRefusalOf : NetFault → NetRefusal → Type 0
-IsRefusalOf (faults.BadLine line) refusal = refusal ≡ BadLine line
-IsRefusalOf (faults.TwiceImport line) refusal = refusal ≡ TwiceImport line
-IsRefusalOf (faults.Cycle names) refusal = refusal ≡ Cycle (texts names.items)
-IsRefusalOf faults.WeightOverflow refusal = refusal ≡ WeightOverflow
-IsRefusalOf (faults.TooMany line) refusal = refusal ≡ TooMany line
-IsRefusalOf faults.Memory refusal = ⊥
+-- the error that the fault denotes; a failed allocation denotes none
+abbrev pub IsErrorOf : NetFault → NetError → Type 0
+IsErrorOf (faults.BadLine line) refusal = refusal ≡ BadLine line
+IsErrorOf (faults.TwiceImport line) refusal = refusal ≡ TwiceImport line
+IsErrorOf (faults.Cycle names) refusal = refusal ≡ Cycle (texts names.items)
+IsErrorOf faults.WeightOverflow refusal = refusal ≡ WeightOverflow
+IsErrorOf (faults.TooMany line) refusal = refusal ≡ TooMany line
+IsErrorOf faults.Memory refusal = ⊥
 
--- the fact of what the fault refuses for, and nothing where it is want of memory
-abbrev pub UnlessMemory : NetFault → (NetRefusal → Type 0) → Type 0
+-- the property of the error that the fault denotes, and nothing for a failed allocation
+abbrev pub UnlessMemory : NetFault → (NetError → Type 0) → Type 0
 UnlessMemory (faults.BadLine line) P = P (BadLine line)
 UnlessMemory (faults.TwiceImport line) P = P (TwiceImport line)
 UnlessMemory (faults.Cycle names) P = P (Cycle (texts names.items))
@@ -178,7 +178,7 @@ UnlessMemory faults.WeightOverflow P = P WeightOverflow
 UnlessMemory (faults.TooMany line) P = P (TooMany line)
 UnlessMemory faults.Memory P = Unit {0}
 
--- what was answered is such an outcome, unless memory ran out
-abbrev pub Tells : Result Network NetFault → (Result Network NetRefusal → Type 0) → Type 0
-Tells (Ok net) IsOutcome = IsOutcome (Ok net)
-Tells (Err fault) IsOutcome = UnlessMemory fault (λ refusal. IsOutcome (Err refusal))
+-- the result has the property, unless an allocation failed
+abbrev pub HasOutcome : Result Network NetFault → (Result Network NetError → Type 0) → Type 0
+HasOutcome (Ok net) IsOutcome = IsOutcome (Ok net)
+HasOutcome (Err fault) IsOutcome = UnlessMemory fault (λ refusal. IsOutcome (Err refusal))

@@ -1,39 +1,38 @@
--- Cuts and flows in a network some of whose imports are pinned: those aren't to be removed, and no flow is too much for them. Each word says
--- what the same word without 'pins' says, but for pinned imports. Where nothing is pinned, the two say the same.
+-- Cuts and flows in a network with pinned imports, which can't be removed and have unlimited capacity. Each definition corresponds to one
+-- without pins, with which it agrees if nothing is pinned.
 use Rattle.std.specs.Prelude.{◌≡◌, ◌≢◌, ◌↔◌, ℕ, ◌+◌, ◌^◌, ◌≤◌, ◌<◌, Bool, true, false, if◌then◌else◌, List, [], ◌∷◌, length, is_some, find, sum_by, All, Contains, IfSome}
 use Rattle.std.specs.Ordering.{nat_cmp}
 use Rattle.std.specs.Cmp.Lexicographic.{slice_cmp}
 use Rattle.std.specs.declared.cmp.Ordering.TheVariants.{Greater}
 use Rattle.cut_net.specs.declared.priced.Priced.{Priced}
 use Rattle.cut_net.specs.Network.{Network}
-use Rattle.cut_net.specs.Said.{Said, CutOf, BlockedBy}
-use Rattle.cut_net.specs.Cuts.{Chain, IsChain, IsCut, IsSide, entering, leaves, leaving, same_ends, weight}
+use Rattle.cut_net.specs.AnswerClaim.{AnswerClaim, CutOf, BlockedBy}
+use Rattle.cut_net.specs.Cuts.{Chain, IsChain, IsCut, IsSide, entering, leaves, leaving, have_equal_ends, weight}
 use Rattle.cut_net.specs.Lines.{flow_by, removed_by, AreImportsInOrder}
 
 -- the import is pinned
 abbrev pub is_pinned : Network → Priced → Bool
-is_pinned net i = is_some (find (same_ends i) net.pins)
+is_pinned net i = is_some (find (have_equal_ends i) net.pins)
 
--- none of these imports is pinned
+-- none of the imports of the set is pinned
 abbrev pub IsRemovable : Network → (Priced → Bool) → Type 0
 IsRemovable net x = (i : Priced) → Contains net.imports i → x i ≡ true → is_pinned net i ≡ false
 
--- ---- chains of pins
+-- ---- paths of pinned imports
 
 abbrev pub ByPin : Network → Priced → Type 0
 ByPin net i = is_pinned net i ≡ true
 
--- a chain of pinned imports leads from a to b
+-- a path of pinned imports leads from a to b
 abbrev pub PinChain : Network → ℕ → ℕ → Type 0
 PinChain net a b = Chain net.imports (ByPin net) a b
 
--- these modules are such a chain: the first is a, the last is b, and each imports the next by a pinned import
+-- these modules are a path of pinned imports from a to b
 abbrev pub IsPinChain : Network → ℕ → ℕ → List ℕ → Type 0
 IsPinChain net a b [] = ⊥
 IsPinChain net a b (m ∷ more) = (m ≡ a) × IsChain net.imports (ByPin net) m more b
 
--- of these chains the one with the fewest imports, and of those the one with the least modules, from the first on. Modules are numbered in
--- the order of their names
+-- the shortest of these paths, of several the lexicographically smallest, by module numbers, which are in the order of names
 pub record IsLeastPinChain (net : Network) (a b : ℕ) (chain : List ℕ) : Type 0 where
   pub is_chain : IsPinChain net a b chain
   pub fewest : (other : List ℕ) → IsPinChain net a b other → length chain ≤ length other
@@ -41,60 +40,60 @@ pub record IsLeastPinChain (net : Network) (a b : ℕ) (chain : List ℕ) : Type
 
 -- ---- cuts
 
--- none of these imports is pinned, and without them no chain leads from a to b
+-- none of these imports is pinned, and without them no path leads from a to b
 pub record IsCutWithPins (net : Network) (a b : ℕ) (x : Priced → Bool) : Type 0 where
   pub removable : IsRemovable net x
   pub cut : IsCut net a b x
 
--- of these one that weighs no more than any other
+-- a cut of unpinned imports that weighs no more than any other
 pub record IsCheapestWithPins (net : Network) (a b : ℕ) (x : Priced → Bool) : Type 0 where
   pub cut : IsCutWithPins net a b x
   pub least : (y : Priced → Bool) → IsCutWithPins net a b y → weight net.imports x ≤ weight net.imports y
 
--- a set of modules with a and without b, which no pinned import leaves
+-- a source side that no pinned import leaves
 pub record IsSideWithPins (net : Network) (a b : ℕ) (side : ℕ → Bool) : Type 0 where
   pub is_side : IsSide net a b side
   pub removable : IsRemovable net (leaves side)
 
--- of these one whose leaving imports weigh no more than those of any other
-pub record IsLeastSideWithPins (net : Network) (a b : ℕ) (side : ℕ → Bool) : Type 0 where
+-- a source side of minimum weight, of those that no pinned import leaves
+pub record IsMinimumSideWithPins (net : Network) (a b : ℕ) (side : ℕ → Bool) : Type 0 where
   pub is_side : IsSideWithPins net a b side
   pub least : (other : ℕ → Bool) → IsSideWithPins net a b other → weight net.imports (leaves side) ≤ weight net.imports (leaves other)
 
--- the module is in every one of these
-abbrev pub NearWithPins : Network → ℕ → ℕ → ℕ → Type 0
-NearWithPins net a b m = (side : ℕ → Bool) → IsLeastSideWithPins net a b side → side m ≡ true
+-- the module is in the minimal source side: in each of these source sides of minimum weight
+abbrev pub InSourceSideWithPins : Network → ℕ → ℕ → ℕ → Type 0
+InSourceSideWithPins net a b m = (side : ℕ → Bool) → IsMinimumSideWithPins net a b side → side m ≡ true
 
--- the import leads out of the modules that are near
-abbrev pub LeavesNearWithPins : Network → ℕ → ℕ → Priced → Type 0
-LeavesNearWithPins net a b i = NearWithPins net a b i.from × (NearWithPins net a b i.to → ⊥)
+-- the import leaves the minimal source side
+abbrev pub LeavesSourceSideWithPins : Network → ℕ → ℕ → Priced → Type 0
+LeavesSourceSideWithPins net a b i = InSourceSideWithPins net a b i.from × (InSourceSideWithPins net a b i.to → ⊥)
 
--- of the imports that leave the near modules, one whose imported module has a chain to b by none of those
-abbrev pub IsPrintedOneWithPins : Network → ℕ → ℕ → Priced → Type 0
-IsPrintedOneWithPins net a b i = LeavesNearWithPins net a b i × Chain net.imports (λ j. LeavesNearWithPins net a b j → ⊥) i.to b
+-- the import leaves the minimal source side, and its imported module has a path to b without imports that leave it
+abbrev pub IsReportedWithPins : Network → ℕ → ℕ → Priced → Type 0
+IsReportedWithPins net a b i = LeavesSourceSideWithPins net a b i × Chain net.imports (λ j. LeavesSourceSideWithPins net a b j → ⊥) i.to b
 
--- these are the imports that are printed
-abbrev pub ArePrintedWithPins : Network → ℕ → ℕ → (Priced → Bool) → Type 0
-ArePrintedWithPins net a b x = (i : Priced) → Contains net.imports i → (x i ≡ true) ↔ IsPrintedOneWithPins net a b i
+-- exactly the reported imports
+abbrev pub AreReportedWithPins : Network → ℕ → ℕ → (Priced → Bool) → Type 0
+AreReportedWithPins net a b x = (i : Priced) → Contains net.imports i → (x i ≡ true) ↔ IsReportedWithPins net a b i
 
 -- ---- flows
 
--- a number on each import, at most its weight, unless it is pinned. At each module but a and b what enters equals what leaves, and the value is
--- what leaves a less what enters it
+-- a flow: a number on each import, at most its weight unless it is pinned. The inflow of each module but a and b is its outflow, and the
+-- value is the outflow of a less its inflow
 pub record IsFlowWithPins (net : Network) (a b : ℕ) (flow : Priced → ℕ) (value : ℕ) : Type 0 where
   pub within : (i : Priced) → Contains net.imports i → is_pinned net i ≡ false → flow i ≤ i.amount
   pub kept : (m : ℕ) → m ≢ a → m ≢ b → entering net.imports flow m ≡ leaving net.imports flow m
   pub at_start : entering net.imports flow a + value ≡ leaving net.imports flow a
 
--- ---- what is said
+-- ---- claims
 
--- none of the printed imports is pinned, each weight is that of its import, and the total is their sum
+-- no reported import is pinned, each reported weight is that of its import, and the total is their sum
 pub record AreWeightsWithPins (net : Network) (printed : List Priced) (total : ℕ) : Type 0 where
   pub removable : IsRemovable net (removed_by printed)
-  pub each : (i : Priced) → Contains net.imports i → IfSome (find (same_ends i) printed) (λ line. line.amount ≡ i.amount)
+  pub each : (i : Priced) → Contains net.imports i → IfSome (find (have_equal_ends i) printed) (λ line. line.amount ≡ i.amount)
   pub sum : total ≡ weight net.imports (removed_by printed)
 
--- the printed imports, with a weight and a flow, are what a checker says yes to
+-- the reported imports, their weight and the flow satisfy the checker
 pub record IsRightWithPins (net : Network) (a b : ℕ) (printed : List Priced) (total : ℕ) (flow : List Priced) : Type 0 where
   pub printed_in_order : AreImportsInOrder net printed
   pub flow_in_order : AreImportsInOrder net flow
@@ -102,35 +101,36 @@ pub record IsRightWithPins (net : Network) (a b : ℕ) (printed : List Priced) (
   pub weights : AreWeightsWithPins net printed total
   pub is_flow : IsFlowWithPins net a b (flow_by flow) total
 
--- no chain of pins leads from a to b, and this is right for a checker, printed by the definition, and has no flow of 0
+-- no path of pinned imports leads from a to b; the answer satisfies the checker, its imports are the reported ones by their definition,
+-- and no flow is 0
 pub record IsCutAnswerWithPins (net : Network) (a b : ℕ) (printed : List Priced) (total : ℕ) (flow : List Priced) : Type 0 where
   pub free : PinChain net a b → ⊥
   pub right : IsRightWithPins net a b printed total flow
-  pub are_printed : ArePrintedWithPins net a b (removed_by printed)
+  pub are_printed : AreReportedWithPins net a b (removed_by printed)
   pub flow_above_zero : All (λ line. 0 < line.amount) flow
 
--- what a solver says: such a cut, or the least chain of pins from a to b
-abbrev pub IsAnswerWithPins : Network → ℕ → ℕ → Said → Type 0
+-- the answer of a solver: a cut, or the shortest path of pinned imports from a to b
+abbrev pub IsAnswerWithPins : Network → ℕ → ℕ → AnswerClaim → Type 0
 IsAnswerWithPins net a b (CutOf total printed flow) = IsCutAnswerWithPins net a b printed total flow
 IsAnswerWithPins net a b (BlockedBy chain) = IsLeastPinChain net a b chain
 
--- what is said is a cut that may be made, and none weighs less; or there is none
-abbrev pub IsCheapestSaidWithPins : Network → ℕ → ℕ → Said → Type 0
-IsCheapestSaidWithPins net a b (CutOf total printed flow) = IsCheapestWithPins net a b (removed_by printed)
-IsCheapestSaidWithPins net a b (BlockedBy chain) = (x : Priced → Bool) → IsCutWithPins net a b x → ⊥
+-- the claim is a cut of unpinned imports, and none weighs less; or no cut exists
+abbrev pub IsCheapestAnswerWithPins : Network → ℕ → ℕ → AnswerClaim → Type 0
+IsCheapestAnswerWithPins net a b (CutOf total printed flow) = IsCheapestWithPins net a b (removed_by printed)
+IsCheapestAnswerWithPins net a b (BlockedBy chain) = (x : Priced → Bool) → IsCutWithPins net a b x → ⊥
 
--- ---- what every network keeps
+-- ---- the invariant of pins
 
--- what all weights sum to at most where prices are given
+-- the limit on the sum of the weights of unpinned imports
 abbrev pub most_weight : ℕ
 most_weight = 2 ^ 40
 
--- the sum of the weights, but for pinned imports
+-- the sum of the weights of unpinned imports
 abbrev pub unpinned_weight : Network → ℕ
 unpinned_weight net = sum_by (λ i. if is_pinned net i then 0 else i.amount) net.imports
 
--- the pins are of imports of the network, in order and once each; where there is one, the others weigh at most 2 ^ 40 in sum. In place of a weight a
--- pinned import has one more, which is more than every cut weighs
+-- the pins are imports of the network, strictly sorted; if there is one, the unpinned imports weigh at most 2 ^ 40 in sum. The weight of
+-- a pinned import is 2 ^ 40 + 1, which exceeds the weight of every cut
 pub record ArePins (net : Network) : Type 0 where
   pub in_order : AreImportsInOrder net net.pins
   pub heavy : (i : Priced) → Contains net.imports i → is_pinned net i ≡ true → i.amount ≡ most_weight + 1

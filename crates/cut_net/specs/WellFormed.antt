@@ -1,4 +1,4 @@
--- What every network keeps.
+-- The invariant of networks.
 use Rattle.std.specs.Prelude.{◌≡◌, ℕ, ◌^◌, ◌<◌, ◌≤◌, true, List, length, All, sum_by, Contains}
 use Rattle.std.specs.List.Sorted.{IsStrictlySortedBy}
 use Rattle.std.specs.Ordering.{nat_cmp}
@@ -10,11 +10,11 @@ use Rattle.texts.specs.Fields.{is_name}
 use Rattle.cut_net.specs.Cuts.{Any, Imports}
 use Rattle.cut_net.specs.Lines.{IsAscending}
 
--- names in ascending order of their bytes, each once
+-- the names are strictly sorted by their bytes
 abbrev pub AreNamesInOrder : List (List ℕ) → Type 0
 AreNamesInOrder names = IsStrictlySortedBy (slice_cmp nat_cmp) names
 
--- the imports lead between the first count modules
+-- both modules of each import are below count
 abbrev pub AreBetween : List Priced → ℕ → Type 0
 AreBetween imports count = (i : Priced) → Contains imports i → (i.from < count) × (i.to < count)
 
@@ -26,7 +26,7 @@ IsAcyclic imports = chains.IsAcyclic (Imports imports Any)
 abbrev pub total_weight : Network → ℕ
 total_weight net = sum_by (λ i. i.amount) net.imports
 
--- the names and the imports ascend and keep their limits, the total weight fits 64 bits, and there is no cycle
+-- names and imports are strictly sorted and within the limits, the total weight fits 64 bits, and the imports are acyclic
 pub record IsNetwork (net : Network) : Type 0 where
   pub named : All (λ name. is_name name ≡ true) net.names
   pub names_ascend : AreNamesInOrder net.names

@@ -1,16 +1,15 @@
-//! Answers of what an architect may cut.
+//! The answer for two modules: a cut, or a path of pinned imports.
 
 use crate::Cut;
 
-/// What is claimed of two modules: a cut between them, or that no cut can be made.
-/// The type keeps none of this.
+/// A claim about two modules: a cut between them, or that none exists. The type has no invariant; a checker accepts any value.
 #[derive(Drop)]
 pub enum Answer {
-    /// This cut parts the two.
+    /// A cut, whose removal leaves no path from the one module to the other.
     Cut(Cut),
-    /// No cut can part the two, for a chain of pinned imports leads from the one to the other.
+    /// No cut exists, since a path of pinned imports leads from the one module to the other.
     Blocked {
-        /// The modules of the chain by their numbers: the first, each imported by the one before it, and the second.
+        /// The modules of the path by their numbers, from the first to the second.
         chain: Vec<u32>,
     },
 }

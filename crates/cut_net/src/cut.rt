@@ -2,14 +2,14 @@
 
 use crate::Priced;
 
-/// What is claimed of a cut: imports to be removed with their weights, the sum of those, and a flow of that value.
-/// The type keeps none of this. The reader of reports and the solver give ascending lists and no flow of 0.
+/// A claimed cut: imports to remove with their weights, the sum of the weights, and a flow of that value as a certificate. The type has
+/// no invariant. The reader of reports and the solver return strictly sorted lists and no flow of 0.
 #[derive(Drop)]
 pub struct Cut {
-    /// The imports to be removed, each with its weight.
+    /// The imports to remove, each with its weight as amount.
     pub imports: Vec<Priced>,
-    /// What is said to be the sum of their weights, in qualified references.
+    /// The claimed sum of their weights, in qualified references.
     pub weight: u64,
-    /// The imports that carry flow, each with its flow.
+    /// The imports with flow, each with its flow as amount.
     pub flow: Vec<Priced>,
 }

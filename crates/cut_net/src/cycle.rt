@@ -1,6 +1,6 @@
-//! The named cycle of a network's imports.
+//! The canonical cycle of a network's imports.
 ghost use Rattle.std.specs.Prelude.{◌≡◌, ◌<◌, ◌≤◌, length, map, All, IfOk, IfSome, IfNone};
-ghost use Rattle.digraph.specs.Cycle.{NamesCycle};
+ghost use Rattle.digraph.specs.Cycle.{IsCanonicalCycle};
 ghost use Rattle.cut_net.specs.Lines.{IsAscending, edge_of};
 ghost use Rattle.cut_net.specs.Cuts.{Any, Imports};
 ghost use Rattle.cut_net.specs.WellFormed.{AreBetween, IsAcyclic};
@@ -9,7 +9,7 @@ use crate::Priced;
 use digraph::Edge;
 use std::alloc::{AllocError, Global};
 
-/// The imports without their weights.
+/// The imports as edges, without their weights.
 pub(crate) fn pairs_of(alloc: Global, imports: &[Priced]) -> Result<Vec<Edge>, AllocError>
     ensures { IfOk result (λ pairs. pairs.items ≡ map edge_of imports.now) }
 {
@@ -23,8 +23,8 @@ pub(crate) fn pairs_of(alloc: Global, imports: &[Priced]) -> Result<Vec<Edge>, A
     Ok(pairs)
 }
 
-/// The named cycle, or none where no module comes back to itself. The imports ascend and lead between the first `nodes`
-/// modules.
+/// The canonical cycle of the imports, as module numbers; none if they are acyclic. The imports are strictly sorted and lead between the
+/// first `nodes` modules.
 pub(crate) fn cycle_of(
     alloc: Global,
     imports: &[Priced],
@@ -34,7 +34,7 @@ pub(crate) fn cycle_of(
     requires ascending { IsAscending imports.now }
     requires few_nodes { nodes ≤ 8192 }
     requires few_imports { length imports.now ≤ 65536 }
-    ensures named { IfOk result (λ answer. IfSome answer (λ cycle. NamesCycle (Imports imports.now Any) cycle.items)) }
+    ensures named { IfOk result (λ answer. IfSome answer (λ cycle. IsCanonicalCycle (Imports imports.now Any) cycle.items)) }
     ensures within { IfOk result (λ answer. IfSome answer (λ cycle. All (λ m. m < nodes) cycle.items)) }
     ensures none { IfOk result (λ answer. IfNone answer (IsAcyclic imports.now)) }
 {

@@ -1,19 +1,19 @@
-//! Why bytes are no network.
+//! Errors of a network's text.
 
 use std::alloc::{AllocError, AllocFailed};
 use thiserror::Error;
 
-/// The first fault of a text: of the faults with a line the first line's, then the total weight, then a cycle.
-/// Lines are numbered from 1, and empty lines count.
+/// The first error of a text: of the errors of lines that of the first line, then the total weight, then a cycle. Lines are numbered from
+/// 1, and empty lines count.
 #[derive(Debug, Drop, Error)]
 pub enum NetFault {
-    /// The line is neither empty nor one of the two forms.
+    /// The line is neither empty nor a valid `module` or `import` line.
     #[error("line {line} breaks the form")]
     BadLine { line: u64 },
-    /// The line's import stands in an earlier line.
+    /// An earlier line has the import of this line.
     #[error("line {line} repeats an import")]
     TwiceImport { line: u64 },
-    /// Each of these modules imports the next, and the last imports the first.
+    /// Each of these modules imports the next, and the last one the first.
     #[error("the imports have a cycle")]
     Cycle { names: Vec<String> },
     /// The sum of the weights is above 2^64 - 1.
@@ -22,7 +22,7 @@ pub enum NetFault {
     /// The line has the 8,193rd name or the 65,537th import.
     #[error("line {line} is one too many")]
     TooMany { line: u64 },
-    /// A growth of memory was refused.
+    /// An allocation failed.
     #[error("memory ran out")]
     Memory,
 }

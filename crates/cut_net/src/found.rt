@@ -1,25 +1,26 @@
-//! Where an import stands in a list, by its ends.
+//! Lookup of an import in a sorted list, by its two modules.
 ghost use Rattle.std.specs.Prelude.{◌≡◌, ◌<◌, IfNone, IfSome, None, Some, find, length, slice_index_or};
-ghost use Rattle.cut_net.specs.Cuts.{same_ends};
+ghost use Rattle.cut_net.specs.Cuts.{have_equal_ends};
 ghost use Rattle.cut_net.specs.Lines.{by_ends, IsAscending};
-ghost use Rattle.cut_net.specs.Network.{none_there};
+ghost use Rattle.cut_net.specs.Network.{missing_item};
 
 use crate::Priced;
 use std::cmp::Ordering;
 
-/// Which of two comes first: by the importer, then by the imported.
+/// Compares by importer, then by imported module.
 fn by_ends(line: &Priced, import: Priced) -> Ordering
     ensures { result ≡ by_ends line.now import }
 {
     line.from.cmp(&import.from).then(line.to.cmp(&import.to))
 }
 
-/// The place of the line that has the import's ends. The lines ascend.
-pub(crate) fn place_in(lines: &[Priced], import: Priced) -> Option<usize>
+/// The index of the line with the import's two modules, by binary search. The lines are strictly sorted.
+pub(crate) fn import_index(lines: &[Priced], import: Priced) -> Option<usize>
+    // The lines are strictly sorted.
     requires { IsAscending lines.now }
     ensures within { IfSome result (λ k. k < length lines.now) }
-    ensures found { IfSome result (λ k. find (same_ends import) lines.now ≡ Some (slice_index_or lines.now k none_there)) }
-    ensures none { IfNone result (find (same_ends import) lines.now ≡ None) }
+    ensures found { IfSome result (λ k. find (have_equal_ends import) lines.now ≡ Some (slice_index_or lines.now k missing_item)) }
+    ensures none { IfNone result (find (have_equal_ends import) lines.now ≡ None) }
 {
     match lines.binary_search_by(|line| by_ends(line, import)) {
         Ok(place) => Some(place),
@@ -27,12 +28,14 @@ pub(crate) fn place_in(lines: &[Priced], import: Priced) -> Option<usize>
     }
 }
 
-/// The line that has the import's ends. The lines ascend.
+/// The line with the import's two modules, whatever its amount. The lines are strictly sorted.
 pub fn line_of(lines: &[Priced], import: Priced) -> Option<Priced>
+    // The lines are strictly sorted.
     requires { IsAscending lines.now }
-    ensures { result ≡ find (same_ends import) lines.now }
+    // It is the line with the import's two modules, or none.
+    ensures { result ≡ find (have_equal_ends import) lines.now }
 {
-    match place_in(lines, import) {
+    match import_index(lines, import) {
         Some(place) => Some(lines[place]),
         None => None,
     }

@@ -1,37 +1,37 @@
-//! Networks: modules by name, the imports between them, and what each import costs.
-//! Stands on `texts` for names and numbers and on `digraph` for cycles, with `text_hash` and `indexmap` for its tables and `thiserror` for
-//! its faults.
-//! Its contract: a network is exactly what its text says, and with prices exactly what these say of it; it keeps its limits and has no
-//! cycle; and the laws of cuts, with pins and without.
+//! Networks: modules by name and weighted imports, their text, prices and pins, and the laws of cuts and flows (Ford and Fulkerson 1956;
+//! Goldberg and Tarjan 1988).
+//! Depends on `texts` for names and numbers, `digraph` for cycles, `text_hash` and `indexmap` for tables, `thiserror` for errors.
+//! The main calls are `Net::read` and `Net::price`. A network is exactly what its text states, within its limits and without a cycle; an
+//! error is the first one of the text.
 #![tactic(auto)]
 
 mod answer;
+mod builder;
 mod cut;
 mod cycle;
-mod draft;
 mod fault;
 mod found;
 pub mod laws;
+mod line_list;
 mod lines;
 mod net;
 mod numbering;
 mod ordering;
 mod pin_chain;
+mod pin_state;
 mod price_fault;
 mod price_lines;
 mod priced;
 mod prices;
 mod reading;
 mod recent;
-mod standing;
-mod straight;
 
 pub use answer::Answer;
 pub use cut::Cut;
 pub use fault::NetFault;
 pub use found::line_of;
-pub use net::{Net, place_of};
-pub use numbering::put_in_order;
+pub use net::{Net, name_index};
+pub use numbering::sort_imports;
 pub use price_fault::PriceFault;
 pub use priced::Priced;
 pub use prices::import_named;

@@ -1,22 +1,22 @@
-//! The lines of a network's text.
+//! Parsing of the lines of a network's text.
 ghost use Rattle.std.specs.Prelude.{◌≡◌, ◌==◌, ◌++◌, ◌∷◌, true, not, None, IfSome, option_map};
 ghost use Rattle.std.specs.List.{list_all};
 ghost use Rattle.cut_net.specs.NetText.{net_line, IsNetLine};
-ghost use Rattle.cut_net.specs.NetReading.{after_word, import_of, line_of_piece, line_said, module_of};
+ghost use Rattle.cut_net.specs.NetReading.{after_word, import_of, line_of_piece, line_content, module_of};
 
-use texts::ahead::{amount_ahead, behind_byte, name_ahead};
-use texts::fields::{cut_at_byte, name_in, number_in};
+use texts::fields::{cut_at_byte, field_name, field_number};
+use texts::prefixes::{parse_amount, parse_name, strip_byte};
 
-/// What a line says.
+/// The content of a line.
 #[derive(Drop)]
 pub(crate) enum Line<'a> {
-    /// There is a module of this name.
+    /// A module of this name.
     Module(&'a str),
-    /// The first module imports the second, at this weight.
+    /// The first module imports the second, with this weight.
     Import(&'a str, &'a str, u64),
 }
 
-/// The fields after the word that a line begins with. The word has no blank, so none is looked for: it stands right behind the word or nowhere.
+/// The fields after a line's keyword and one space. The keyword has no space, so none is searched for.
 pub(crate) fn fields_after<'a>(word: &[u8], piece: &'a [u8]) -> Option<&'a [u8]>
     requires { list_all (λ b. not (b == 32)) word.now ≡ true }
     ensures { option_map (λ fields. fields.now) result ≡ after_word word.now piece.now }
@@ -26,55 +26,56 @@ pub(crate) fn fields_after<'a>(word: &[u8], piece: &'a [u8]) -> Option<&'a [u8]>
     if *blank == b' ' { Some(fields) } else { None }
 }
 
-fn module_in(fields: &[u8]) -> Option<Line<'_>>
-    ensures { option_map line_said result ≡ module_of fields.now }
+fn parse_module(fields: &[u8]) -> Option<Line<'_>>
+    ensures { option_map line_content result ≡ module_of fields.now }
 {
-    Some(Line::Module(name_in(fields)?))
+    Some(Line::Module(field_name(fields)?))
 }
 
 #[tactic(auto, unfolding(crate::specs::NetReading::import_of))]
-fn import_in(fields: &[u8]) -> Option<Line<'_>>
-    ensures { option_map line_said result ≡ import_of fields.now }
+fn parse_import(fields: &[u8]) -> Option<Line<'_>>
+    ensures { option_map line_content result ≡ import_of fields.now }
 {
     let (importer, rest) = cut_at_byte(fields, b' ')?;
     let (imported, weight) = cut_at_byte(rest, b' ')?;
-    let importer = name_in(importer)?;
-    let imported = name_in(imported)?;
-    Some(Line::Import(importer, imported, number_in(weight)?))
+    let importer = field_name(importer)?;
+    let imported = field_name(imported)?;
+    Some(Line::Import(importer, imported, field_number(weight)?))
 }
 
-/// The line that the bytes between two line ends spell.
+/// The line that these bytes are, without a line end.
 #[tactic(auto, unfolding(crate::specs::NetReading::line_of_piece))]
-pub(crate) fn line_in(piece: &[u8]) -> Option<Line<'_>>
-    ensures { option_map line_said result ≡ line_of_piece piece.now }
+pub(crate) fn parse_line(piece: &[u8]) -> Option<Line<'_>>
+    ensures { option_map line_content result ≡ line_of_piece piece.now }
 {
     if let Some(fields) = fields_after(b"module", piece) {
-        return module_in(fields);
+        return parse_module(fields);
     }
-    import_in(fields_after(b"import", piece)?)
+    parse_import(fields_after(b"import", piece)?)
 }
 
-/// The line that the text begins with, and what stands behind its end. None where that isn't read straight on, as an empty line, or one without an end.
-pub(crate) fn line_ahead(text: &[u8]) -> Option<(Line<'_>, &[u8])>
-    ensures good { IfSome result (λ x. IsNetLine (line_said x.0)) }
-    ensures text { IfSome result (λ x. text.now ≡ net_line (line_said x.0) ++ 10 ∷ x.1.now) }
+/// The first line of the text, and the bytes after its line end. Parses in one pass without searching for the line end. None for a line
+/// that can't be parsed this way: an empty or invalid one, or one without a line end.
+pub(crate) fn parse_first_line(text: &[u8]) -> Option<(Line<'_>, &[u8])>
+    ensures good { IfSome result (λ x. IsNetLine (line_content x.0)) }
+    ensures text { IfSome result (λ x. text.now ≡ net_line (line_content x.0) ++ 10 ∷ x.1.now) }
 {
     if let Some(fields) = text.strip_prefix(b"import ") {
-        let ((importer, imported, weight), rest) = amount_ahead(fields)?;
+        let ((importer, imported, weight), rest) = parse_amount(fields)?;
         return Some((Line::Import(importer, imported, weight), rest));
     }
-    let (name, rest) = name_ahead(text.strip_prefix(b"module ")?)?;
-    let rest = behind_byte(rest, b'\n')?;
+    let (name, rest) = parse_name(text.strip_prefix(b"module ")?)?;
+    let rest = strip_byte(rest, b'\n')?;
     Some((Line::Module(name), rest))
 }
 
-/// The same, where no byte behind the first so many is looked at. None too where the line goes on there.
-pub(crate) fn line_within(text: &[u8], most: usize) -> Option<(Line<'_>, &[u8])>
-    ensures good { IfSome result (λ x. IsNetLine (line_said x.0)) }
-    ensures text { IfSome result (λ x. text.now ≡ net_line (line_said x.0) ++ 10 ∷ x.1.now) }
+/// As `parse_first_line`, but reads at most the first `most` bytes. None if the line is longer.
+pub(crate) fn parse_line_within(text: &[u8], most: usize) -> Option<(Line<'_>, &[u8])>
+    ensures good { IfSome result (λ x. IsNetLine (line_content x.0)) }
+    ensures text { IfSome result (λ x. text.now ≡ net_line (line_content x.0) ++ 10 ∷ x.1.now) }
 {
     let (near, _) = text.split_at(most.min(text.len()));
-    let (line, behind) = line_ahead(near)?;
-    let (_, rest) = text.split_at(near.len() - behind.len());
+    let (line, after) = parse_first_line(near)?;
+    let (_, rest) = text.split_at(near.len() - after.len());
     Some((line, rest))
 }

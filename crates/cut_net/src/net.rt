@@ -1,4 +1,4 @@
-//! Networks, and their readers.
+//! The type of networks.
 ghost use Rattle.std.specs.Prelude.{◌≡◌, ◌<◌, IfSome, length, slice_get};
 ghost use Rattle.std.specs.List.{position};
 ghost use Rattle.std.specs.Str.{bytes_eq};
@@ -15,8 +15,8 @@ use crate::found::line_of;
 use std::alloc::Global;
 use std::marker::Model;
 
-/// A network: modules numbered by name, and imports numbered by (importer's name, imported name). Some imports may be pinned: they aren't
-/// to be removed, and no flow is too much for them.
+/// A network: modules numbered by name, and imports numbered by importer and imported name. An import may be pinned: it can't be removed,
+/// and its capacity is unlimited.
 #[derive(Drop)]
 pub struct Net {
     pub(crate) names: Vec<String>,
@@ -39,9 +39,11 @@ impl Model for Net {
         × ArePins (record { names = map string_bytes n.names.items; imports = n.imports.items; pins = n.pins.items }) };
 }
 
-/// The place of a name among names in order, or none where it is none of them.
-pub fn place_of(names: &[String], name: &str) -> Option<usize>
+/// The index of a name, by binary search; none if the list lacks it. The names are strictly sorted.
+pub fn name_index(names: &[String], name: &str) -> Option<usize>
+    // The names are strictly sorted.
     requires { IsStrictlySortedBy string_cmp names.now }
+    // It is the index of the name, or none.
     ensures { result ≡ position (λ x. bytes_eq (string_bytes x) name.now) names.now }
 {
     names
@@ -50,9 +52,11 @@ pub fn place_of(names: &[String], name: &str) -> Option<usize>
 }
 
 impl Net {
-    /// The network of names and imports that keep what every network keeps. Nothing is pinned.
+    /// The network of these names and imports, which satisfy the invariant. Nothing is pinned.
     pub fn of(alloc: Global, names: Vec<String>, imports: Vec<Priced>) -> Net
+        // Names and imports satisfy the invariant.
         requires { IsNetwork (net_of names.items imports.items) }
+        // The network has these names and imports, and no pins.
         ensures { result ≡ net_of names.items imports.items }
     {
         let pins = Vec::new(alloc);
@@ -63,10 +67,13 @@ impl Net {
         }
     }
 
-    /// The network of names, imports and pins that keep what every network keeps.
+    /// The network of these names, imports and pins, which satisfy the invariant.
     pub fn with_pins(names: Vec<String>, imports: Vec<Priced>, pins: Vec<Priced>) -> Net
+        // Names and imports satisfy the invariant.
         requires network { IsNetwork (net_with names.items imports.items pins.items) }
+        // So do the pins.
         requires pins { ArePins (net_with names.items imports.items pins.items) }
+        // The network has these names, imports and pins.
         ensures { result ≡ net_with names.items imports.items pins.items }
     {
         Net {
@@ -76,9 +83,12 @@ impl Net {
         }
     }
 
-    /// What every network keeps: its names and imports in order, its limits, and that it has no cycle; and what its pins keep.
-    pub fn keeps(&self)
+    /// The invariant of a network: names and imports are strictly sorted and within the limits, the imports are acyclic, and the pins are
+    /// imports of the network.
+    pub fn invariants(&self)
+        // Names and imports are strictly sorted and within the limits, and the imports are acyclic.
         ensures network { IsNetwork self.now }
+        // The pins are imports of the network, and the unpinned imports weigh at most 2^40 if there is a pin.
         ensures pins { ArePins self.now }
     {
         // Using a field makes the facts of the type known here.
@@ -87,6 +97,7 @@ impl Net {
 
     /// The number of modules.
     pub fn nodes(&self) -> u32
+        // It is the number of names.
         ensures { result ≡ length self.now.names }
     {
         self.names.len() as u32
@@ -94,31 +105,37 @@ impl Net {
 
     /// The name of a module.
     pub fn name(&self, node: u32) -> &str
+        // `node` is a module.
         requires { node < length self.now.names }
+        // It is the module's name.
         ensures { result.now ≡ name_of self.now node }
     {
         self.names[node as usize].as_str()
     }
 
-    /// The number of the module of this name, or none where the network lacks it.
+    /// The number of the module with this name, by binary search; none if the network lacks it.
     #[tactic(auto, using(crate::proofs::Places::position_named))]
     pub fn index_of(&self, name: &str) -> Option<u32>
+        // It is the index of the name, or none.
         ensures { result ≡ index_of self.now name.now }
     {
-        let at = place_of(self.names.as_slice(), name)?;
+        let at = name_index(self.names.as_slice(), name)?;
         Some(at as u32)
     }
 
-    /// All imports, by their numbers, each with its weight. A pinned one has 2^40 + 1 in its place, which is more than every cut weighs.
+    /// All imports by number, with their weights. A pinned one has the weight 2^40 + 1, which exceeds the weight of every cut.
     pub fn imports(&self) -> &[Priced]
+        // They are the imports of the network.
         ensures { result.now ≡ self.now.imports }
     {
         self.imports.as_slice()
     }
 
-    /// The import of this number, with its weight. A pinned one has the weight that it had before, which nothing counts.
+    /// The import of this number, with its weight. A pinned one has the weight that it had before it was pinned.
     pub fn import(&self, import: u32) -> Priced
+        // There is an import of this number.
         requires { import < length self.now.imports }
+        // It has its weight, or the weight that it had before it was pinned.
         ensures { IfSome (slice_get self.now.imports import) (λ i. result ≡ as_weighed self.now i) }
     {
         let import = self.imports[import as usize];
@@ -134,14 +151,17 @@ impl Net {
 
     /// Whether the import of this number is pinned.
     pub fn pinned(&self, import: u32) -> bool
+        // There is an import of this number.
         requires { import < length self.now.imports }
+        // It is whether the import is pinned.
         ensures { IfSome (slice_get self.now.imports import) (λ i. result ≡ is_pinned self.now i) }
     {
         line_of(self.pins.as_slice(), self.imports[import as usize]).is_some()
     }
 
-    /// The pinned imports, in order, each with the weight that it had before.
+    /// The pinned imports, strictly sorted, each with the weight that it had before it was pinned.
     pub fn pins(&self) -> &[Priced]
+        // They are the pins of the network.
         ensures { result.now ≡ self.now.pins }
     {
         self.pins.as_slice()

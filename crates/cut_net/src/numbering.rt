@@ -1,22 +1,22 @@
-//! Names and imports in their order, from tables in the order of coming.
+//! Sorted names and imports of a network, from the builder's tables, which are in order of first occurrence.
 ghost use Rattle.std.specs.Prelude.{◌≡◌, ◌<◌, ◌≤◌, ◌^◌, ◌↔◌, All, Contains, IfOk, IsPermutation, List, IsTrue, [], length, map, sum_by, vec_len, slice_index, ℕ};
 ghost use Rattle.std.specs.List.{slice_index_or, IsDistinct};
 ghost use Rattle.std.specs.Str.{bytes_eq};
-ghost use Rattle.cut_net.specs.Cuts.{same_ends};
+ghost use Rattle.cut_net.specs.Cuts.{have_equal_ends};
 ghost use Rattle.cut_net.specs.Lines.{IsAscending};
 ghost use Rattle.cut_net.specs.Network.{texts};
-ghost use Rattle.cut_net.specs.NetReading.{entry_line, import_line, net_of, IsDraft, IsDrafted};
+ghost use Rattle.cut_net.specs.NetReading.{entry_line, import_line, net_of, HasLines, IsBuilder};
 ghost use Rattle.cut_net.specs.NetText.{IsNetOf, NetLine};
 ghost use Rattle.cut_net.specs.WellFormed.{AreBetween, AreNamesInOrder};
 
 use crate::Priced;
-use crate::draft::NetDraft;
-use crate::net::place_of;
+use crate::builder::NetBuilder;
+use crate::net::name_index;
 use crate::ordering::{in_order, is_ascending};
 use crate::recent::Recent;
 use std::alloc::{AllocError, Global};
 
-/// The same names.
+/// A copy of the names.
 pub(crate) fn copied(alloc: Global, names: &[String]) -> Result<Vec<String>, AllocError>
     ensures { IfOk result (λ copies. texts copies.items ≡ texts names.now) }
 {
@@ -27,7 +27,7 @@ pub(crate) fn copied(alloc: Global, names: &[String]) -> Result<Vec<String>, All
     Ok(copies)
 }
 
-/// The names in ascending order.
+/// The names, sorted.
 pub(crate) fn sorted(alloc: Global, names: &[String]) -> Result<Vec<String>, AllocError>
     requires once { IsDistinct bytes_eq (texts names.now) }
     ensures ascending { IfOk result (λ sorted. AreNamesInOrder (texts sorted.items)) }
@@ -45,11 +45,11 @@ fn number_of(names: &[String], name: &str) -> u32
     ensures within { result < length names.now }
     ensures place { slice_index_or (texts names.now) result [] ≡ name.now }
 {
-    place_of(names, name).unwrap() as u32
+    name_index(names, name).unwrap() as u32
 }
 
-/// The same, where the name is looked for at this number first.
-fn number_near(names: &[String], guess: usize, name: &str) -> u32
+/// The number of a name, which is compared with the name at index `guess` before a binary search.
+fn number_by_guess(names: &[String], guess: usize, name: &str) -> u32
     requires ascending { AreNamesInOrder (texts names.now) }
     requires few { length names.now ≤ 8192 }
     requires known { Contains (texts names.now) name.now }
@@ -63,7 +63,7 @@ fn number_near(names: &[String], guess: usize, name: &str) -> u32
     }
 }
 
-/// For each name, in the order of coming, its number.
+/// For each name in order of first occurrence its number, which is its index among the sorted names.
 pub(crate) fn numbers_of(
     alloc: Global,
     old: &[String],
@@ -79,12 +79,12 @@ pub(crate) fn numbers_of(
     let mut numbers = Vec::with_capacity(alloc, old.len())?;
     for name in old {
         let name = name.as_str();
-        numbers.push(number_near(names, slots.guess(name), name))?;
+        numbers.push(number_by_guess(names, slots.guess(name), name))?;
     }
     Ok(numbers)
 }
 
-/// An import by the numbers of its modules, from the places of their names in the order of coming.
+/// The import with the indices of its names replaced by module numbers.
 pub(crate) fn renumbered(numbers: &[u32], ends: (usize, usize), amount: u64) -> Priced
     requires placed { (ends.0 < length numbers.now) × (ends.1 < length numbers.now) }
     ensures between { (old names : List (List ℕ)) → ((k : ℕ) → k < length numbers.now → (slice_index numbers.now k < length names) × (slice_index_or names (slice_index numbers.now k) [] ≡ slice_index_or old k [])) → (result.from < length names) × (result.to < length names) }
@@ -97,28 +97,34 @@ pub(crate) fn renumbered(numbers: &[u32], ends: (usize, usize), amount: u64) -> 
     }
 }
 
-/// The imports by the numbers of their modules, in the order of coming.
-fn numbered(alloc: Global, draft: &NetDraft, names: &[String]) -> Result<Vec<Priced>, AllocError>
+/// The imports with module numbers, in order of first occurrence.
+fn numbered(
+    alloc: Global,
+    builder: &NetBuilder,
+    names: &[String],
+) -> Result<Vec<Priced>, AllocError>
     requires ascending { AreNamesInOrder (texts names.now) }
     requires few { length names.now ≤ 8192 }
-    requires drafted { IsDrafted draft.now }
-    requires same { IsPermutation (texts draft.now.names.keys) (texts names.now) }
+    requires built { IsBuilder builder.now }
+    requires same { IsPermutation (texts builder.now.names.keys) (texts names.now) }
     ensures between { IfOk result (λ imports. AreBetween imports.items (length names.now)) }
-    ensures listed { IfOk result (λ imports. map (import_line (texts names.now)) imports.items ≡ map (entry_line (texts draft.now.names.keys)) draft.now.imports.entries) }
+    ensures listed { IfOk result (λ imports. map (import_line (texts names.now)) imports.items ≡ map (entry_line (texts builder.now.names.keys)) builder.now.imports.entries) }
 {
-    let numbers = numbers_of(alloc, draft.names.as_slice(), names)?;
-    let mut imports = Vec::with_capacity(alloc, draft.imports.len())?;
-    for (ends, weight) in &draft.imports {
+    let numbers = numbers_of(alloc, builder.names.as_slice(), names)?;
+    let mut imports = Vec::with_capacity(alloc, builder.imports.len())?;
+    for (ends, weight) in &builder.imports {
         imports.push(renumbered(&numbers, *ends, *weight))?;
     }
     Ok(imports)
 }
 
-/// Puts imports in ascending order by their modules. They are listed by counting where that can be done, which takes no comparisons but the last look at
-/// the list; else they are sorted.
-pub fn put_in_order(imports: &mut Vec<Priced>)
+/// Sorts imports by importer and imported module: in linear time by counting sort if there are enough imports for their modules,
+/// otherwise by comparisons.
+pub fn sort_imports(imports: &mut Vec<Priced>)
+    // They are the given imports.
     ensures same { IsPermutation imports.old.items imports.new.items }
-    ensures ascending { IsDistinct same_ends imports.old.items → IsAscending imports.new.items }
+    // They are strictly sorted, if no two have the same modules.
+    ensures ascending { IsDistinct have_equal_ends imports.old.items → IsAscending imports.new.items }
 {
     if is_ascending(imports) {
         return;
@@ -130,23 +136,23 @@ pub fn put_in_order(imports: &mut Vec<Priced>)
     imports.sort_unstable_by_key(|import| (import.from, import.to));
 }
 
-/// The names and the imports of the network of the lines that the tables hold.
-pub(crate) fn lists_of(
+/// The names and imports of the network whose lines the builder has.
+pub(crate) fn sorted_lists(
     alloc: Global,
-    draft: &NetDraft,
+    builder: &NetBuilder,
 ) -> Result<(Vec<String>, Vec<Priced>), AllocError>
-    requires drafted { IsDrafted draft.now }
-    ensures is_net { IfOk result (λ lists. (lines : List NetLine) → IsDraft lines draft.now → IsNetOf lines (net_of lists.0.items lists.1.items)) }
+    requires built { IsBuilder builder.now }
+    ensures is_net { IfOk result (λ lists. (lines : List NetLine) → HasLines lines builder.now → IsNetOf lines (net_of lists.0.items lists.1.items)) }
     ensures few_names { IfOk result (λ lists. length lists.0.items ≤ 8192) }
     ensures few_imports { IfOk result (λ lists. length lists.1.items ≤ 65536) }
 {
-    let names = sorted(alloc, draft.names.as_slice())?;
-    let mut imports = numbered(alloc, draft, names.as_slice())?;
-    put_in_order(&mut imports);
+    let names = sorted(alloc, builder.names.as_slice())?;
+    let mut imports = numbered(alloc, builder, names.as_slice())?;
+    sort_imports(&mut imports);
     Ok((names, imports))
 }
 
-/// Whether 64 bits hold the sum of the weights.
+/// Whether the sum of the weights fits 64 bits.
 pub(crate) fn fits(imports: &[Priced]) -> bool
     ensures { IsTrue result ↔ (sum_by (λ i. i.amount) imports.now < 2 ^ 64) }
 {
@@ -160,8 +166,8 @@ pub(crate) fn fits(imports: &[Priced]) -> bool
     true
 }
 
-/// The names of modules, by their numbers.
-pub(crate) fn names_at(
+/// The names of the modules with these numbers.
+pub(crate) fn names_of_nodes(
     alloc: Global,
     names: &[String],
     nodes: &[u32],

@@ -1,4 +1,4 @@
-//! Chains of pinned imports.
+//! Paths of pinned imports.
 ghost use Rattle.std.specs.Prelude.{◌<◌, IfNone, IfOk, IfSome, length};
 ghost use Rattle.cut_net.specs.Pins.{IsLeastPinChain, PinChain};
 
@@ -8,16 +8,20 @@ use digraph::least_chain;
 use std::alloc::AllocError;
 
 impl Net {
-    /// The chain of pinned imports from one module to another with the fewest imports, and of those the one with the least names, from the first on:
-    /// its modules, each imported by the one before it. None where no chain of pins leads there; a module is a chain to itself. Where there is one,
-    /// no cut parts the two. Fails where memory is refused.
+    /// The shortest path of pinned imports from one module to another, of several the lexicographically smallest, as module numbers. None
+    /// if there is none. The path from a module to itself has that module alone. If there is a path, no cut exists. Fails if an
+    /// allocation fails.
     pub fn pinned_chain(&self, from: u32, to: u32) -> Result<Option<Vec<u32>>, AllocError>
+        // `from` is a module.
         requires from { from < length self.now.names }
+        // `to` is a module.
         requires to { to < length self.now.names }
+        // The path has the fewest imports, and of those the smallest modules, from the first on.
         ensures found { IfOk result (λ answer. IfSome answer (λ chain. IsLeastPinChain self.now from to chain.items)) }
+        // Without a result no path of pinned imports leads from `from` to `to`.
         ensures none { IfOk result (λ answer. IfNone answer (PinChain self.now from to → ⊥)) }
     {
-        self.keeps();
+        self.invariants();
         let alloc = *self.names.allocator();
         let pairs = pairs_of(alloc, self.pins())?;
         least_chain(alloc, pairs.as_slice(), self.nodes() as usize, from, to)

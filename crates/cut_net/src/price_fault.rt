@@ -1,25 +1,25 @@
-//! Why bytes are no prices of a network.
+//! Errors of a prices file.
 
 use std::alloc::{AllocError, AllocFailed};
 use thiserror::Error;
 
-/// The first fault of a prices file: of the faults with a line the first line's, within a line in this order, then the sum of the weights.
-/// Lines are numbered from 1, and empty lines count.
+/// The first error of a prices file: of the errors of lines that of the first line, within a line in this order, then the sum of the
+/// weights. Lines are numbered from 1, and empty lines count.
 #[derive(Clone, Copy, Debug, Error)]
 pub enum PriceFault {
-    /// The line is neither empty nor one of the two forms.
+    /// The line is neither empty nor a valid `price` or `pin` line.
     #[error("line {line} breaks the form")]
     BadLine { line: u64 },
-    /// The network lacks the line's import, or one of its names.
+    /// The network lacks the import of the line, or one of its names.
     #[error("line {line} is of no import")]
     NoSuchImport { line: u64 },
-    /// An earlier line is of the same import.
+    /// An earlier line has the import of this line.
     #[error("line {line} is the second of its import")]
     TwicePrice { line: u64 },
-    /// The weights of the imports without a pin sum to more than 2^40.
+    /// The weights of the unpinned imports sum to more than 2^40.
     #[error("the weights sum to more than 2^40")]
     PriceOverflow,
-    /// A growth of memory was refused.
+    /// An allocation failed.
     #[error("memory ran out")]
     Memory,
 }
@@ -46,7 +46,7 @@ impl<T: Drop> From<AllocFailed<T>> for PriceFault {
     }
 }
 
-/// What is wrong with a line, in the order in which it is looked for.
+/// The errors of one line, in the order of testing.
 #[derive(Clone, Copy)]
 pub(crate) enum PriceLineFault {
     BadLine,
@@ -58,7 +58,7 @@ impl PriceLineFault {
     ghost use Rattle.std.specs.Prelude.{◌≡◌};
     ghost use Rattle.cut_net.specs.PriceReading.{price_fault_in_line};
 
-    /// The fault of a text whose line of this number has this fault.
+    /// The error of the text, given the number of the line.
     pub(crate) fn at(self, line: u64) -> PriceFault
         ensures { result ≡ price_fault_in_line line self }
     {

@@ -1,12 +1,12 @@
-//! The lines of a prices file.
+//! Parsing of the lines of a prices file.
 ghost use Rattle.std.specs.Prelude.{◌≡◌, option_map};
-ghost use Rattle.cut_net.specs.PriceReading.{line_said, pin_of_fields, price_line_of, price_of_fields};
+ghost use Rattle.cut_net.specs.PriceReading.{line_content, pin_of_fields, price_line_of, price_of_fields};
 
 use crate::lines::fields_after;
-use crate::standing::Change;
-use texts::fields::{cut_at_byte, name_in, number_in};
+use crate::pin_state::Change;
+use texts::fields::{cut_at_byte, field_name, field_number};
 
-/// A line: the names of its import, and what it says of it.
+/// A line: the names of its import, and the change.
 #[derive(Clone, Copy)]
 pub(crate) struct PriceLine<'a> {
     pub(crate) importer: &'a str,
@@ -16,11 +16,11 @@ pub(crate) struct PriceLine<'a> {
 
 #[tactic(auto, unfolding(crate::specs::PriceReading::pin_of_fields))]
 fn pin_in(fields: &[u8]) -> Option<PriceLine<'_>>
-    ensures { option_map line_said result ≡ pin_of_fields fields.now }
+    ensures { option_map line_content result ≡ pin_of_fields fields.now }
 {
     let (importer, imported) = cut_at_byte(fields, b' ')?;
-    let importer = name_in(importer)?;
-    let imported = name_in(imported)?;
+    let importer = field_name(importer)?;
+    let imported = field_name(imported)?;
     Some(PriceLine {
         importer,
         imported,
@@ -30,13 +30,13 @@ fn pin_in(fields: &[u8]) -> Option<PriceLine<'_>>
 
 #[tactic(auto, unfolding(crate::specs::PriceReading::price_of_fields))]
 fn price_in(fields: &[u8]) -> Option<PriceLine<'_>>
-    ensures { option_map line_said result ≡ price_of_fields fields.now }
+    ensures { option_map line_content result ≡ price_of_fields fields.now }
 {
     let (importer, rest) = cut_at_byte(fields, b' ')?;
     let (imported, weight) = cut_at_byte(rest, b' ')?;
-    let importer = name_in(importer)?;
-    let imported = name_in(imported)?;
-    let weight = number_in(weight)?;
+    let importer = field_name(importer)?;
+    let imported = field_name(imported)?;
+    let weight = field_number(weight)?;
     Some(PriceLine {
         importer,
         imported,
@@ -44,10 +44,10 @@ fn price_in(fields: &[u8]) -> Option<PriceLine<'_>>
     })
 }
 
-/// The line that the bytes between two line ends spell.
+/// The line that these bytes are, without a line end.
 #[tactic(auto, unfolding(crate::specs::PriceReading::price_line_of))]
 pub(crate) fn price_line_in(piece: &[u8]) -> Option<PriceLine<'_>>
-    ensures { option_map line_said result ≡ price_line_of piece.now }
+    ensures { option_map line_content result ≡ price_line_of piece.now }
 {
     if let Some(fields) = fields_after(b"pin", piece) {
         return pin_in(fields);

@@ -1,12 +1,12 @@
-//! Imports with what they carry.
+//! Imports with an amount.
 
-/// An import by the numbers of its modules, the one that imports first, with its weight or its flow.
+/// An import, given by the numbers of its two modules, with its weight or its flow.
 #[derive(Clone, Copy)]
 pub struct Priced {
-    /// The number of the module that imports.
+    /// The number of the importer.
     pub from: u32,
-    /// The number of the module that is imported.
+    /// The number of the imported module.
     pub to: u32,
-    /// How many qualified references cross the import, or how much flows over it.
+    /// The number of qualified references across the import, or the flow on it.
     pub amount: u64,
 }

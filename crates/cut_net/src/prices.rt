@@ -1,35 +1,37 @@
-//! Prices: a network whose imports get other weights, or are pinned.
+//! Prices: changes of the weights and pins of a network's imports.
 ghost use Rattle.std.specs.Prelude.{◌≡◌, ◌<◌, ◌≤◌, ◌↔◌, true, Contains, IfErr, IfNone, IfOk, IfSome, IsTrue, List, Option, Result, length, map, slice_index_or, sum_by};
 ghost use Rattle.std.specs.List.{flat_map};
 ghost use Rattle.cut_net.specs.declared.price_fault.PriceFault.{PriceFault};
 ghost use Rattle.cut_net.specs.declared.priced.Priced.{Priced};
-ghost use Rattle.cut_net.specs.declared.standing.Change.{Change};
-ghost use Rattle.cut_net.specs.declared.standing.PinState.{PinState};
-ghost use Rattle.cut_net.specs.Network.{Network, none_there};
+ghost use Rattle.cut_net.specs.declared.pin_state.Change.{Change};
+ghost use Rattle.cut_net.specs.declared.pin_state.PinState.{PinState};
+ghost use Rattle.cut_net.specs.Network.{Network, missing_item};
 ghost use Rattle.cut_net.specs.Pins.{most_weight};
-ghost use Rattle.cut_net.specs.Prices.{import_as, is_named, pin_as, pin_state_of, standing_so, stands_after, stands_by, IsPriceOutcome, PriceLine, Tells, UnlessMemory};
-ghost use Rattle.cut_net.specs.PriceReading.{unpinned_part, IsTold, IsToldOf, Notes};
+ghost use Rattle.cut_net.specs.Prices.{import_as, is_named, pin_as, pin_state_of, with_pin_states, changed_state, initial_state, IsPriceOutcome, PriceLine, HasOutcome, UnlessMemory};
+ghost use Rattle.cut_net.specs.PriceReading.{unpinned_part, AreChanges, AreChangesOf, Notes};
 
-use crate::found::{line_of, place_in};
+use crate::found::{import_index, line_of};
 use crate::numbering::copied;
+use crate::pin_state::{Change, PinState};
 use crate::price_fault::PriceLineFault;
 use crate::price_lines::price_line_in;
-use crate::standing::{Change, PinState};
 use crate::{Net, PriceFault, Priced};
 use std::alloc::{AllocError, Global};
 
-/// What the weights of the imports without a pin may sum to.
+/// The limit on the sum of the weights of unpinned imports.
 const MOST_WEIGHT: u64 = 1 << 40;
 
-/// The number of the import between the modules of two names, or none where the network lacks it.
+/// The number of the import between the modules of two names; none if the network lacks it.
 pub fn import_named(net: &Net, importer: &str, imported: &str) -> Option<usize>
-    ensures found { IfSome result (λ k. (k < length net.now.imports) × (is_named net.now importer.now imported.now (slice_index_or net.now.imports k none_there) ≡ true)) }
+    // It is the number of an import between the modules of these names.
+    ensures found { IfSome result (λ k. (k < length net.now.imports) × (is_named net.now importer.now imported.now (slice_index_or net.now.imports k missing_item) ≡ true)) }
+    // Without a result the network has no import between them.
     ensures none { IfNone result ((i : Priced) → Contains net.now.imports i → is_named net.now importer.now imported.now i ≡ true → ⊥) }
 {
-    net.keeps();
+    net.invariants();
     let from = net.index_of(importer)?;
     let to = net.index_of(imported)?;
-    place_in(
+    import_index(
         net.imports(),
         Priced {
             from,
@@ -39,12 +41,12 @@ pub fn import_named(net: &Net, importer: &str, imported: &str) -> Option<usize>
     )
 }
 
-/// Notes what the bytes between two line ends say, if they say anything: for the import of this number a change.
-fn note(net: &Net, told: &mut Vec<Option<Change>>, piece: &[u8]) -> Result<(), PriceLineFault>
-    requires { length told.old.items ≡ length net.now.imports }
-    ensures { (before : List PriceLine) → IsTold net.now before told.old.items → Notes net.now before piece.now result told.new.items }
+/// Records the change of the line that these bytes are, at the number of its import; nothing for an empty line.
+fn note(net: &Net, changes: &mut Vec<Option<Change>>, piece: &[u8]) -> Result<(), PriceLineFault>
+    requires { length changes.old.items ≡ length net.now.imports }
+    ensures { (before : List PriceLine) → AreChanges net.now before changes.old.items → Notes net.now before piece.now result changes.new.items }
 {
-    net.keeps();
+    net.invariants();
     if piece.is_empty() {
         return Ok(());
     }
@@ -54,38 +56,38 @@ fn note(net: &Net, told: &mut Vec<Option<Change>>, piece: &[u8]) -> Result<(), P
     let Some(number) = import_named(net, line.importer, line.imported) else {
         return Err(PriceLineFault::NoSuchImport);
     };
-    if told[number].is_some() {
+    if changes[number].is_some() {
         return Err(PriceLineFault::TwicePrice);
     }
-    told[number] = Some(line.change);
+    changes[number] = Some(line.change);
     Ok(())
 }
 
-/// For each import what its line says, or the fault of the first line that has one.
-fn told_by(alloc: Global, net: &Net, bytes: &[u8]) -> Result<Vec<Option<Change>>, PriceFault>
-    ensures told { IfOk result (λ told. IsToldOf net.now bytes.now told.items) }
+/// For each import its change, none without a line; or the error of the first line that has one.
+fn changes_of(alloc: Global, net: &Net, bytes: &[u8]) -> Result<Vec<Option<Change>>, PriceFault>
+    ensures changes { IfOk result (λ changes. AreChangesOf net.now bytes.now changes.items) }
     ensures fault { IfErr result (λ fault. UnlessMemory fault (IsPriceOutcome net.now bytes.now (Err fault))) }
 {
-    let mut told = vec![in alloc; None; net.imports().len()]?;
+    let mut changes = vec![in alloc; None; net.imports().len()]?;
     let mut line = 0;
     for piece in bytes.split(|b| *b == b'\n') {
         line += 1;
-        if let Err(fault) = note(net, &mut told, piece) {
+        if let Err(fault) = note(net, &mut changes, piece) {
             return Err(fault.at(line));
         }
     }
-    Ok(told)
+    Ok(changes)
 }
 
-/// How an import stands with what is told of it, where it stood so with its pin before.
-fn standing_after(import: Priced, pin: Option<Priced>, told: Option<Change>) -> PinState
-    ensures { result ≡ stands_after (stands_by import pin) told }
+/// The state of an import after its change, given its current pin.
+fn pin_state_after(import: Priced, pin: Option<Priced>, changes: Option<Change>) -> PinState
+    ensures { result ≡ changed_state (initial_state import pin) changes }
 {
     let before = match pin {
         Some(pin) => pin.amount,
         None => import.amount,
     };
-    match told {
+    match changes {
         Some(Change::Price(weight)) => PinState::Weighs(weight),
         Some(Change::Pin) => PinState::Stays(before),
         None => {
@@ -98,33 +100,33 @@ fn standing_after(import: Priced, pin: Option<Priced>, told: Option<Change>) -> 
     }
 }
 
-/// How each import stands, with what is told of it.
-fn standings_of(
+/// The state of each import after its change.
+fn pin_states_of(
     alloc: Global,
     net: &Net,
-    told: &[Option<Change>],
+    changes: &[Option<Change>],
 ) -> Result<Vec<PinState>, AllocError>
-    requires { length told.now ≡ length net.now.imports }
-    ensures { IfOk result (λ standings. (said : Priced → Option Change) → told.now ≡ map said net.now.imports →
-        standings.items ≡ map (λ i. stands_after (pin_state_of net.now i) (said i)) net.now.imports) }
+    requires { length changes.now ≡ length net.now.imports }
+    ensures { IfOk result (λ pin_states. (claim : Priced → Option Change) → changes.now ≡ map claim net.now.imports →
+        pin_states.items ≡ map (λ i. changed_state (pin_state_of net.now i) (claim i)) net.now.imports) }
 {
-    net.keeps();
+    net.invariants();
     let imports = net.imports();
-    let mut standings = Vec::new(alloc);
+    let mut pin_states = Vec::new(alloc);
     for number in 0..imports.len() {
         let pin = line_of(net.pins(), imports[number]);
-        standings.push(standing_after(imports[number], pin, told[number]))?;
+        pin_states.push(pin_state_after(imports[number], pin, changes[number]))?;
     }
-    Ok(standings)
+    Ok(pin_states)
 }
 
-/// Whether the weights of the imports without a pin sum to at most 2^40.
-fn is_light(standings: &[PinState]) -> bool
-    ensures { IsTrue result ↔ (sum_by unpinned_part standings.now ≤ most_weight) }
+/// Whether the weights of the unpinned imports sum to at most 2^40.
+fn is_light(pin_states: &[PinState]) -> bool
+    ensures { IsTrue result ↔ (sum_by unpinned_part pin_states.now ≤ most_weight) }
 {
     let mut total: u64 = 0;
-    for standing in standings {
-        if let PinState::Weighs(weight) = standing {
+    for pin_state in pin_states {
+        if let PinState::Weighs(weight) = pin_state {
             if *weight > MOST_WEIGHT - total {
                 return false;
             }
@@ -134,11 +136,11 @@ fn is_light(standings: &[PinState]) -> bool
     true
 }
 
-/// An import, as it stands.
-fn import_as(import: Priced, standing: PinState) -> Priced
-    ensures { result ≡ import_as import standing }
+/// The import with the weight of its state.
+fn import_as(import: Priced, pin_state: PinState) -> Priced
+    ensures { result ≡ import_as import pin_state }
 {
-    let amount = match standing {
+    let amount = match pin_state {
         PinState::Weighs(weight) => weight,
         PinState::Stays(_) => MOST_WEIGHT + 1,
     };
@@ -149,34 +151,34 @@ fn import_as(import: Priced, standing: PinState) -> Priced
     }
 }
 
-/// The imports, as they stand.
+/// The imports with the weights of their states.
 fn imports_as(
     alloc: Global,
     imports: &[Priced],
-    standings: &[PinState],
+    pin_states: &[PinState],
 ) -> Result<Vec<Priced>, AllocError>
-    requires { length standings.now ≡ length imports.now }
-    ensures { IfOk result (λ changed. (standing : Priced → PinState) → standings.now ≡ map standing imports.now → changed.items ≡ map (λ i. import_as i (standing i)) imports.now) }
+    requires { length pin_states.now ≡ length imports.now }
+    ensures { IfOk result (λ changed. (pin_state : Priced → PinState) → pin_states.now ≡ map pin_state imports.now → changed.items ≡ map (λ i. import_as i (pin_state i)) imports.now) }
 {
     let mut changed = Vec::new(alloc);
     for number in 0..imports.len() {
-        changed.push(import_as(imports[number], standings[number]))?;
+        changed.push(import_as(imports[number], pin_states[number]))?;
     }
     Ok(changed)
 }
 
-/// The pins of the imports that are pinned, as they stand.
+/// The pinned imports, each with the weight that it had before it was pinned.
 fn pins_as(
     alloc: Global,
     imports: &[Priced],
-    standings: &[PinState],
+    pin_states: &[PinState],
 ) -> Result<Vec<Priced>, AllocError>
-    requires { length standings.now ≡ length imports.now }
-    ensures { IfOk result (λ pins. (standing : Priced → PinState) → standings.now ≡ map standing imports.now → pins.items ≡ flat_map (λ i. pin_as i (standing i)) imports.now) }
+    requires { length pin_states.now ≡ length imports.now }
+    ensures { IfOk result (λ pins. (pin_state : Priced → PinState) → pin_states.now ≡ map pin_state imports.now → pins.items ≡ flat_map (λ i. pin_as i (pin_state i)) imports.now) }
 {
     let mut pins = Vec::new(alloc);
     for number in 0..imports.len() {
-        if let PinState::Stays(amount) = standings[number] {
+        if let PinState::Stays(amount) = pin_states[number] {
             pins.push(Priced {
                 from: imports[number].from,
                 to: imports[number].to,
@@ -187,44 +189,44 @@ fn pins_as(
     Ok(pins)
 }
 
-/// The network whose imports stand so.
-fn standing_so(alloc: Global, net: &Net, standings: &[PinState]) -> Result<Net, AllocError>
-    requires standing { (standing : Priced → PinState) × (standings.now ≡ map standing net.now.imports) }
-    requires light { sum_by unpinned_part standings.now ≤ most_weight }
-    ensures { IfOk result (λ changed. (standing : Priced → PinState) → standings.now ≡ map standing net.now.imports → changed ≡ standing_so net.now standing) }
+/// The network with these states of its imports.
+fn with_pin_states(alloc: Global, net: &Net, pin_states: &[PinState]) -> Result<Net, AllocError>
+    requires pin_state { (pin_state : Priced → PinState) × (pin_states.now ≡ map pin_state net.now.imports) }
+    requires light { sum_by unpinned_part pin_states.now ≤ most_weight }
+    ensures { IfOk result (λ changed. (pin_state : Priced → PinState) → pin_states.now ≡ map pin_state net.now.imports → changed ≡ with_pin_states net.now pin_state) }
 {
-    net.keeps();
+    net.invariants();
     let names = copied(alloc, net.names.as_slice())?;
-    let imports = imports_as(alloc, net.imports(), standings)?;
-    let pins = pins_as(alloc, net.imports(), standings)?;
+    let imports = imports_as(alloc, net.imports(), pin_states)?;
+    let pins = pins_as(alloc, net.imports(), pin_states)?;
     Ok(Net::with_pins(names, imports, pins))
 }
 
 impl Net {
-    /// The network with the prices and pins that the bytes spell, or the first fault: of the faults of lines the first line's, and then that
-    /// the weights of the imports without a pin sum to more than 2^40.
+    /// The network with the prices and pins of the file, or the first error: of the errors of lines that of the first line, then that the
+    /// weights of the unpinned imports sum to more than 2^40.
     ///
-    /// Each line is `price M N k`, by which the import's weight becomes k, or `pin M N`, by which it isn't to be removed and no flow is too
-    /// much for it; in the form of a network's lines. An import has one line at most. One without a line keeps its weight, or its pin; a
-    /// price ends a pin.
+    /// Each line is `price M N k`, which sets the import's weight to k and ends a pin, or `pin M N`, after which the import can't be
+    /// removed and has unlimited capacity; in the syntax of a network's lines. An import has at most one line. Without a line it keeps
+    /// its weight and its pin.
     pub fn price(&self, bytes: &[u8]) -> Result<Net, PriceFault>
-        // What is answered is so, unless memory ran out: the network, or the first fault.
-        ensures exact { Tells result (IsPriceOutcome self.now bytes.now) }
-        // What is so is answered, unless memory runs out.
-        ensures only { (o : Result Network PriceFault) → IsPriceOutcome self.now bytes.now o → Tells result (λ p. p ≡ o) }
+        // The result is an outcome of the file, unless an allocation failed.
+        ensures exact { HasOutcome result (IsPriceOutcome self.now bytes.now) }
+        // Any outcome of the file is the result, unless an allocation failed.
+        ensures only { (o : Result Network PriceFault) → IsPriceOutcome self.now bytes.now o → HasOutcome result (λ p. p ≡ o) }
     {
         self.priced(bytes)
     }
 
     fn priced(&self, bytes: &[u8]) -> Result<Net, PriceFault>
-        ensures { Tells result (IsPriceOutcome self.now bytes.now) }
+        ensures { HasOutcome result (IsPriceOutcome self.now bytes.now) }
     {
         let alloc = *self.names.allocator();
-        let told = told_by(alloc, self, bytes)?;
-        let standings = standings_of(alloc, self, &told)?;
-        if !is_light(&standings) {
+        let changes = changes_of(alloc, self, bytes)?;
+        let pin_states = pin_states_of(alloc, self, &changes)?;
+        if !is_light(&pin_states) {
             return Err(PriceFault::PriceOverflow);
         }
-        Ok(standing_so(alloc, self, &standings)?)
+        Ok(with_pin_states(alloc, self, &pin_states)?)
     }
 }

@@ -1,72 +1,71 @@
-//! Reading a network from its text.
+//! The reader of networks.
 ghost use Rattle.std.specs.Prelude.{◌≡◌, ◌≤◌, ℕ, IfErr, IfNone, IfOk, IfSome, List, [], OnOk, Result, length, map};
 ghost use Rattle.std.specs.List.{slice_index_or};
-ghost use Rattle.digraph.specs.Cycle.{NamesCycle};
+ghost use Rattle.digraph.specs.Cycle.{IsCanonicalCycle};
 ghost use Rattle.cut_net.specs.Lines.{IsAscending};
-ghost use Rattle.cut_net.specs.NetText.{IsNetOutcome, NetRefusal, NetText, Tells, UnlessMemory};
+ghost use Rattle.cut_net.specs.NetText.{IsNetOutcome, NetError, NetText, HasOutcome, UnlessMemory};
 ghost use Rattle.cut_net.specs.Network.{Network, texts};
-ghost use Rattle.cut_net.specs.NetReading.{net_of, IsDraft, IsDraftOf};
+ghost use Rattle.cut_net.specs.NetReading.{net_of, HasLines, HasTextLines};
 ghost use Rattle.cut_net.specs.Cuts.{Any, Imports};
 ghost use Rattle.cut_net.specs.WellFormed.{AreBetween, IsAcyclic};
 
+use crate::builder::{NetBuilder, seed_of};
 use crate::cycle::cycle_of;
-use crate::draft::{NetDraft, seed_of};
-use crate::numbering::{fits, lists_of, names_at};
-use crate::straight::straight_lists;
+use crate::line_list::lists_in_one_pass;
+use crate::numbering::{fits, names_of_nodes, sorted_lists};
 use crate::{Net, NetFault, Priced};
 use std::alloc::{AllocError, Global};
 
-/// Fills the tables of no lines with the lines that the bytes spell, or tells the fault of the first line that has one.
-fn draft_of(alloc: Global, bytes: &[u8], draft: &mut NetDraft) -> Result<(), NetFault>
-    requires { IsDraft [] draft.old }
-    ensures drafted { OnOk result (IsDraftOf bytes.now draft.new) }
+/// Adds the lines of the text to an empty builder, or returns the error of the first line that has one.
+fn fill_builder(alloc: Global, bytes: &[u8], builder: &mut NetBuilder) -> Result<(), NetFault>
+    requires { HasLines [] builder.old }
+    ensures built { OnOk result (HasTextLines bytes.now builder.new) }
     ensures fault { IfErr result (λ fault. UnlessMemory fault (λ refusal. IsNetOutcome bytes.now (Err refusal))) }
 {
     let mut line = 0;
     for piece in bytes.split(|b| *b == b'\n') {
         line += 1;
-        if let Err(fault) = draft.take(alloc, piece) {
+        if let Err(fault) = builder.take(alloc, piece) {
             return Err(fault.at(line));
         }
     }
     Ok(())
 }
 
-/// The names and the imports of the lines that the bytes spell, by way of the tables of no lines, or the fault of the first line that
-/// has one.
-fn lists_by(
+/// The names and imports of the text by the builder, or the error of the first line that has one.
+fn lists_by_builder(
     alloc: Global,
     bytes: &[u8],
-    draft: &mut NetDraft,
+    builder: &mut NetBuilder,
 ) -> Result<(Vec<String>, Vec<Priced>), NetFault>
-    requires { IsDraft [] draft.old }
+    requires { HasLines [] builder.old }
     ensures text { IfOk result (λ lists. NetText bytes.now (net_of lists.0.items lists.1.items)) }
     ensures few_names { IfOk result (λ lists. length lists.0.items ≤ 8192) }
     ensures few_imports { IfOk result (λ lists. length lists.1.items ≤ 65536) }
     ensures fault { IfErr result (λ fault. UnlessMemory fault (λ refusal. IsNetOutcome bytes.now (Err refusal))) }
 {
-    draft_of(alloc, bytes, draft)?;
-    Ok(lists_of(alloc, draft)?)
+    fill_builder(alloc, bytes, builder)?;
+    Ok(sorted_lists(alloc, builder)?)
 }
 
-/// The same, with the tables made and dropped here, and only for a text that isn't read straight on.
-fn lists_in(alloc: Global, bytes: &[u8]) -> Result<(Vec<String>, Vec<Priced>), NetFault>
+/// The names and imports of the text, or its first error: in one pass if possible, otherwise by a builder, which is freed here.
+fn lists_of_text(alloc: Global, bytes: &[u8]) -> Result<(Vec<String>, Vec<Priced>), NetFault>
     ensures text { IfOk result (λ lists. NetText bytes.now (net_of lists.0.items lists.1.items)) }
     ensures few_names { IfOk result (λ lists. length lists.0.items ≤ 8192) }
     ensures few_imports { IfOk result (λ lists. length lists.1.items ≤ 65536) }
     ensures fault { IfErr result (λ fault. UnlessMemory fault (λ refusal. IsNetOutcome bytes.now (Err refusal))) }
 {
-    // Where memory for these lists is refused, the tables tell the fault of a line all the same.
-    match straight_lists(alloc, bytes) {
+    // If an allocation fails here, the builder still finds an error of a line.
+    match lists_in_one_pass(alloc, bytes) {
         Ok(Some(lists)) => return Ok(lists),
         Err(NetFault::TwiceImport { line }) => return Err(NetFault::TwiceImport { line }),
         _ => {}
     }
-    let mut draft = NetDraft::new(alloc, seed_of(bytes));
-    lists_by(alloc, bytes, &mut draft)
+    let mut builder = NetBuilder::new(alloc, seed_of(bytes));
+    lists_by_builder(alloc, bytes, &mut builder)
 }
 
-/// The names on the named cycle of the imports, or none where no module comes back to itself.
+/// The names on the canonical cycle of the imports; none if they are acyclic.
 fn names_on_cycle(
     alloc: Global,
     names: &[String],
@@ -76,20 +75,20 @@ fn names_on_cycle(
     requires ascending { IsAscending imports.now }
     requires few_names { length names.now ≤ 8192 }
     requires few_imports { length imports.now ≤ 65536 }
-    ensures named { IfOk result (λ found. IfSome found (λ named. (cycle : List ℕ) × NamesCycle (Imports imports.now Any) cycle × (texts named.items ≡ map (λ m. slice_index_or (texts names.now) m []) cycle))) }
+    ensures named { IfOk result (λ found. IfSome found (λ named. (cycle : List ℕ) × IsCanonicalCycle (Imports imports.now Any) cycle × (texts named.items ≡ map (λ m. slice_index_or (texts names.now) m []) cycle))) }
     ensures none { IfOk result (λ found. IfNone found (IsAcyclic imports.now)) }
 {
     match cycle_of(alloc, imports, names.len())? {
         None => Ok(None),
-        Some(cycle) => Ok(Some(names_at(alloc, names, cycle.as_slice())?)),
+        Some(cycle) => Ok(Some(names_of_nodes(alloc, names, cycle.as_slice())?)),
     }
 }
 
-/// What the bytes say: a network, or the first fault.
+/// The network of the text, or its first error.
 fn net_in(alloc: Global, bytes: &[u8]) -> Result<Net, NetFault>
-    ensures { Tells result (IsNetOutcome bytes.now) }
+    ensures { HasOutcome result (IsNetOutcome bytes.now) }
 {
-    let (names, imports) = lists_in(alloc, bytes)?;
+    let (names, imports) = lists_of_text(alloc, bytes)?;
     if !fits(imports.as_slice()) {
         return Err(NetFault::WeightOverflow);
     }
@@ -100,16 +99,16 @@ fn net_in(alloc: Global, bytes: &[u8]) -> Result<Net, NetFault>
 }
 
 impl Net {
-    /// The network that the bytes spell, or the first fault: of the faults of lines the first line's, then a total
-    /// weight above 2^64 - 1, then a cycle.
+    /// The network of a text, or its first error: of the errors of lines that of the first line, then a total weight above 2^64 - 1, then
+    /// a cycle.
     ///
-    /// Each line is `module M` or `import M N w`: fields parted by one space, identifiers (Oberon-07 report, section 3), and a weight from 0 to
-    /// 2^64 - 1 without leading zeros. Empty lines are skipped, and the last line end may be missing.
+    /// Each line is `module M` or `import M N w`: fields separated by one space, identifiers (Oberon-07 report, section 3), and a weight
+    /// from 0 to 2^64 - 1 without leading zeros. Empty lines are skipped, and the last line end may be missing.
     pub fn read(alloc: Global, bytes: &[u8]) -> Result<Net, NetFault>
-        // What is answered is so, unless memory ran out: the network, or the first fault.
-        ensures exact { Tells result (IsNetOutcome bytes.now) }
-        // What is so is answered, unless memory runs out.
-        ensures only { (o : Result Network NetRefusal) → IsNetOutcome bytes.now o → Tells result (λ p. p ≡ o) }
+        // The result is an outcome of the text, unless an allocation failed.
+        ensures exact { HasOutcome result (IsNetOutcome bytes.now) }
+        // Any outcome of the text is the result, unless an allocation failed.
+        ensures only { (o : Result Network NetError) → IsNetOutcome bytes.now o → HasOutcome result (λ p. p ≡ o) }
     {
         net_in(alloc, bytes)
     }

@@ -1,6 +1,7 @@
-//! Where names were met last. Most lines name modules that were named before, and a place that is remembered is tested by one comparison, where the table hashes the name and
-//! goes through its own. And where each import was met, so that one that stands twice is told at once.
-//! A slot is chosen by multiplicative hashing (Knuth, volume 3, 6.4), and the hash is brought into the range of the slots by one more product and a shift (Lemire 2019).
+//! Caches of recent lookups. Most lines name modules that an earlier line names; a cached index is verified by one comparison, which
+//! saves hashing the name. A second cache finds repeated imports early.
+//! A slot is chosen by multiplicative hashing (Knuth, volume 3, 6.4), and the hash is reduced to the number of slots by a product and a
+//! shift (Lemire 2019).
 ghost use Rattle.std.specs.Prelude.{◌≡◌, ◌<◌, [], IfOk, IfSome, OnOk, length, true};
 ghost use Rattle.cut_net.specs.NetList.{HaveBetween};
 ghost use Rattle.std.specs.List.{slice_index_or};
@@ -8,35 +9,36 @@ ghost use Rattle.cut_net.specs.NetReading.{noted};
 ghost use Rattle.cut_net.specs.Network.{texts};
 
 use crate::Priced;
-use crate::draft::note_name;
+use crate::builder::note_name;
 use indexmap::IndexSet;
 use std::alloc::{AllocError, Global};
 use text_hash::Seed;
 
-/// There is a slot for so many bytes of a text, which have some three lines, up to a number of slots.
+/// A slot for each 64 bytes of a text, which have some three lines, up to a limit.
 const BYTES_A_SLOT: usize = 64;
 
 const MOST_SLOTS: usize = 32768;
 
-/// Of names that are known, so that few of them fall together.
+/// Slots for each name of a given list, so that few names collide.
 const SLOTS_A_NAME: usize = 4;
 
-/// There is a slot of an import for so many bytes, so that few are taken, up to a number of slots.
+/// A slot of an import for each 8 bytes of a text, so that few are occupied, up to a limit.
 const BYTES_AN_IMPORT: usize = 8;
 
 const MOST_IMPORT_SLOTS: usize = 131_072;
 
-/// In how many slots an import may stand.
+/// The number of consecutive slots that are probed for an import.
 const TRIES: usize = 8;
 
-/// Places among names, each in a slot that the name chooses. Another name may have chosen it since, so a place is taken only where the name that stands there is the same.
+/// Indices of names, each in the slot of its name. A later name may have replaced it, so an index is used only if the name there is
+/// equal.
 #[derive(Drop)]
 pub(crate) struct Recent {
     slots: Vec<u16>,
 }
 
-/// A few bytes by themselves.
-fn few_mixed(bytes: &[u8]) -> u64 {
+/// A hash of at most three bytes.
+fn mix_short(bytes: &[u8]) -> u64 {
     let mut mix = 0u64;
     for byte in bytes {
         mix = mix.wrapping_mul(256).wrapping_add(u64::from(*byte));
@@ -44,8 +46,8 @@ fn few_mixed(bytes: &[u8]) -> u64 {
     mix
 }
 
-/// The first and the last bytes, which are all bytes of a name of up to sixteen.
-fn ends_mixed(bytes: &[u8]) -> u64 {
+/// A hash of the first and the last eight bytes, of four for a shorter name; they cover a name of at most sixteen bytes.
+fn mix_ends(bytes: &[u8]) -> u64 {
     if let (Some(first), Some(last)) = (bytes.first_chunk::<8>(), bytes.last_chunk::<8>()) {
         let (first, last) = (u64::from_le_bytes(*first), u64::from_le_bytes(*last));
         return first.wrapping_mul(31).wrapping_add(last);
@@ -56,23 +58,23 @@ fn ends_mixed(bytes: &[u8]) -> u64 {
             .wrapping_mul(31 << 32)
             .wrapping_add(u64::from(last));
     }
-    few_mixed(bytes)
+    mix_short(bytes)
 }
 
-/// One of so many slots. Which one it is decides nothing but the time.
+/// The slot for a hash. It affects only the running time.
 fn slot_among(mix: u64, slots: usize) -> usize {
     let spread = mix.wrapping_mul(0x9E37_79B9_7F4A_7C15) >> 32;
     (spread.wrapping_mul(slots as u64) >> 32) as usize
 }
 
-/// The slot of a name, by its ends.
+/// The slot of a name.
 fn slot_of(name: &str, slots: usize) -> usize {
     let bytes = name.as_bytes();
-    let mix = ends_mixed(bytes).wrapping_add(bytes.len() as u64);
+    let mix = mix_ends(bytes).wrapping_add(bytes.len() as u64);
     slot_among(mix, slots)
 }
 
-/// So many slots with nothing in them; none where memory is refused, so that the table or a search tells all.
+/// This many empty slots; none if the allocation fails, so that no lookup is cached.
 fn slots_of(alloc: Global, count: usize) -> Vec<u16> {
     match vec![in alloc; 0u16; count] {
         Ok(slots) => slots,
@@ -80,8 +82,8 @@ fn slots_of(alloc: Global, count: usize) -> Vec<u16> {
     }
 }
 
-/// The place, where this name stands there.
-fn place_if_same(names: &IndexSet<String, Seed>, at: usize, name: &str) -> Option<usize>
+/// The index, if the name at this index is equal.
+fn index_if_equal(names: &IndexSet<String, Seed>, at: usize, name: &str) -> Option<usize>
     ensures within { IfSome result (λ at. at < length (texts names.now.keys)) }
     ensures place { IfSome result (λ at. slice_index_or (texts names.now.keys) at [] ≡ name.now) }
 {
@@ -94,14 +96,14 @@ fn place_if_same(names: &IndexSet<String, Seed>, at: usize, name: &str) -> Optio
 }
 
 impl Recent {
-    /// Slots for the names of a text of so many bytes.
+    /// Slots for the names of a text of this many bytes.
     pub(crate) fn new(alloc: Global, bytes: usize) -> Recent {
         Recent {
             slots: slots_of(alloc, (bytes / BYTES_A_SLOT).min(MOST_SLOTS)),
         }
     }
 
-    /// Slots for these names, each with the place of its own or of another name.
+    /// Slots for these names; a slot has the index of one of the names that choose it.
     pub(crate) fn of(alloc: Global, names: &[String]) -> Recent {
         let mut slots = slots_of(alloc, names.len().saturating_mul(SLOTS_A_NAME));
         for (at, name) in names.iter().enumerate() {
@@ -113,13 +115,13 @@ impl Recent {
         Recent { slots }
     }
 
-    /// The place that the name's slot has, which may be that of another name.
+    /// The index in the name's slot, which may be that of another name.
     pub(crate) fn guess(&self, name: &str) -> usize {
         let slot = slot_of(name, self.slots.len());
         usize::from(self.slots.get(slot).copied().unwrap_or(0))
     }
 
-    /// The place of a name among those that came, where it is now if it is new.
+    /// The index of a name in order of first occurrence. A new name is added.
     pub(crate) fn note(
         &mut self,
         alloc: Global,
@@ -132,7 +134,7 @@ impl Recent {
     {
         let slot = slot_of(name, self.slots.len());
         let recent = self.slots.get(slot).copied().unwrap_or(0);
-        if let Some(at) = place_if_same(names, usize::from(recent), name) {
+        if let Some(at) = index_if_equal(names, usize::from(recent), name) {
             return Ok(at);
         }
         let at = note_name(alloc, names, name)?;
@@ -143,15 +145,15 @@ impl Recent {
     }
 }
 
-/// Places among imports, each plus one, in the first free one of a few slots that its modules choose; 0 in a free one. None is given up, so an import that has a slot
-/// is found again.
+/// Indices of imports, each plus one, in the first free of a few slots that the import chooses; 0 is a free slot. None is replaced, so an
+/// import with a slot is found again.
 #[derive(Drop)]
-pub(crate) struct Met {
+pub(crate) struct ImportSlots {
     slots: Vec<u16>,
     all: bool,
 }
 
-/// Whether the import at this place has these ends.
+/// Whether the import at this index has these two modules.
 fn is_between(imports: &[Priced], at: usize, from: u32, to: u32) -> bool
     ensures { result ≡ true → HaveBetween imports.now from to }
 {
@@ -161,21 +163,22 @@ fn is_between(imports: &[Priced], at: usize, from: u32, to: u32) -> bool
     }
 }
 
-impl Met {
-    /// Slots for the imports of a text of so many bytes.
-    pub(crate) fn new(alloc: Global, bytes: usize) -> Met {
-        Met {
+impl ImportSlots {
+    /// Slots for the imports of a text of this many bytes.
+    pub(crate) fn new(alloc: Global, bytes: usize) -> ImportSlots {
+        ImportSlots {
             slots: slots_of(alloc, (bytes / BYTES_AN_IMPORT).min(MOST_IMPORT_SLOTS)),
             all: true,
         }
     }
 
-    /// Whether each import that came has a slot.
+    /// Whether each import so far has a slot.
     pub(crate) fn has_all(&self) -> bool {
         self.all
     }
 
-    /// Whether an import with these ends is known to stand in the list. Where none is, the place of the next one is kept, if there is a free slot.
+    /// Whether an import with these modules is known to be in the list. Otherwise records the index of the next import, if a slot is
+    /// free.
     pub(crate) fn is_repeat(&mut self, imports: &[Priced], from: u32, to: u32) -> bool
         ensures { result ≡ true → HaveBetween imports.now from to }
     {

@@ -8,7 +8,7 @@ use Rattle.cut_net.specs.WellFormed.{AreBetween}
 use Rattle.cut_net.specs.Cuts.{leaves, weight, AreThose, IsFlow, Reached}
 use Rattle.cut_net.proofs.ListSums.{sum_by-same}
 use Rattle.cut_net.proofs.Duality.{across, enters, value_within}
-use Rattle.cut_part.specs.Narrowing.{IsBarred, IsBarrier}
+use Rattle.cut_part.specs.CapacityReduction.{IsBarred, IsBarrier}
 
 sum_of_none : (imports : List Priced) → sum_by (λ _. 0) imports ≡ 0
 sum_of_none [] = refl

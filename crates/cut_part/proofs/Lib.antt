@@ -2,9 +2,9 @@ pub mod Adding
 pub mod Apart
 pub mod Conserved
 pub mod Greatest
-pub mod Inside
+pub mod Subnetworks
 pub mod Marking
-pub mod Narrowing
+pub mod CapacityReduction
 pub mod Numbering
 pub mod Parts
 pub mod PinnedParts
@@ -12,6 +12,6 @@ pub mod PrintedBetween
 pub mod Reaching
 pub mod Renumbering
 pub mod Sums
-pub mod Tallies
-pub mod Turning
+pub mod WeightSums
+pub mod Reversal
 pub mod Whole

@@ -5,12 +5,12 @@ use Rattle.std.proofs.lemmas.Bool.{cases_Bool, both_ways, and_parts, and_from, n
 use Rattle.digraph.proofs.Members.{in_filter, of_filter}
 use Rattle.cut_net.specs.declared.priced.Priced.{Priced}
 use Rattle.cut_net.specs.Network.{Network}
-use Rattle.cut_net.specs.Cuts.{Any, Chain, IsChain, AreThose, ArePrinted, IsLeastSide, IsPrintedOne, IsSide, LeavesNear, Near, leaves, weight}
+use Rattle.cut_net.specs.Cuts.{Any, Chain, IsChain, AreThose, AreReported, IsMinimumSide, IsReported, IsSide, LeavesSourceSide, InSourceSide, leaves, weight}
 use Rattle.cut_net.proofs.Certificate.{weight-mono}
 use Rattle.cut_net.proofs.Chains.{chain_or_none, step, widened}
 use Rattle.cut_net.proofs.ListSums.{sum_by-same, sum_by-mono}
-use Rattle.cut_part.specs.Inside.{IsBetween, inside, part_of}
-use Rattle.cut_part.proofs.Inside.{cond_le, has_chain, has_chain-true, has_chain-false, chain_there, onward, sum_by-filter}
+use Rattle.cut_part.specs.Subnetworks.{IsBetween, are_ends_in, part_of}
+use Rattle.cut_part.proofs.Subnetworks.{cond_le, has_chain, has_chain-true, has_chain-false, chain_there, onward, sum_by-filter}
 
 -- of the modules that have no mark those that have no chain to b
 module _ (net : Network) (kept : ℕ → Bool) (a b : ℕ) (those : AreThose kept (IsBetween net a b)) where
@@ -33,7 +33,7 @@ module _ (net : Network) (kept : ℕ → Bool) (a b : ℕ) (those : AreThose kep
         | inr f ↦ widen_other side m f ∙ rw (has_chain-false net.imports m b none) refl
       ]
 
-  leaves_widened : (side : ℕ → Bool) (i : Priced) → Contains net.imports i → leaves (widen side) i ≡ (inside kept i && leaves side i)
+  leaves_widened : (side : ℕ → Bool) (i : Priced) → Contains net.imports i → leaves (widen side) i ≡ (are_ends_in kept i && leaves side i)
   leaves_widened side i c =
       elim (cases_Bool (kept i.from)) [
         | inl t ↦ elim (cases_Bool (kept i.to)) [
@@ -57,20 +57,20 @@ module _ (net : Network) (kept : ℕ → Bool) (a b : ℕ) (those : AreThose kep
   both_conds true u n = refl
   both_conds false u n = refl
 
-  weight_part : (side : ℕ → Bool) → weight (part_of net kept).imports (leaves side) ≡ sum_by (λ i. cond (inside kept i) (cond (leaves side i) i.amount 0) 0) net.imports
-  weight_part side = sum_by-filter (λ i. cond (leaves side i) i.amount 0) (inside kept) net.imports
+  weight_part : (side : ℕ → Bool) → weight (part_of net kept).imports (leaves side) ≡ sum_by (λ i. cond (are_ends_in kept i) (cond (leaves side i) i.amount 0) 0) net.imports
+  weight_part side = sum_by-filter (λ i. cond (leaves side i) i.amount 0) (are_ends_in kept) net.imports
 
   weight_widened : (side : ℕ → Bool) → weight net.imports (leaves (widen side)) ≡ weight (part_of net kept).imports (leaves side)
   weight_widened side =
-      sum_by-same (λ i. cond (leaves (widen side) i) i.amount 0) (λ i. cond (inside kept i) (cond (leaves side i) i.amount 0) 0) net.imports
-      (λ i c. ap (λ t. cond t i.amount 0) (leaves_widened side i c) ∙ both_conds (inside kept i) (leaves side i) i.amount)
+      sum_by-same (λ i. cond (leaves (widen side) i) i.amount 0) (λ i. cond (are_ends_in kept i) (cond (leaves side i) i.amount 0) 0) net.imports
+      (λ i c. ap (λ t. cond t i.amount 0) (leaves_widened side i c) ∙ both_conds (are_ends_in kept i) (leaves side i) i.amount)
       ∙ sym (weight_part side)
 
   weight_inside : (side : ℕ → Bool) → weight (part_of net kept).imports (leaves side) ≤ weight net.imports (leaves side)
   weight_inside side =
       let e = weight_part side in
-      let le = sum_by-mono (λ (i : Priced). cond (inside kept i) (cond (leaves side i) i.amount 0) 0) (λ i. cond (leaves side i) i.amount 0) net.imports
-      (λ i c. cond_le (inside kept i) (cond (leaves side i) i.amount 0) (cond (leaves side i) i.amount 0) (λ _. omega arith)) in
+      let le = sum_by-mono (λ (i : Priced). cond (are_ends_in kept i) (cond (leaves side i) i.amount 0) 0) (λ i. cond (leaves side i) i.amount 0) net.imports
+      (λ i c. cond_le (are_ends_in kept i) (cond (leaves side i) i.amount 0) (cond (leaves side i) i.amount 0) (λ _. omega arith)) in
       omega arith
 
   side_widened : (side : ℕ → Bool) → IsSide (part_of net kept) a b side → IsSide net a b (widen side)
@@ -85,7 +85,7 @@ module _ (net : Network) (kept : ℕ → Bool) (a b : ℕ) (those : AreThose kep
     ];
   }
 
-  least_in_net : (side : ℕ → Bool) → IsLeastSide (part_of net kept) a b side → IsLeastSide net a b (widen side)
+  least_in_net : (side : ℕ → Bool) → IsMinimumSide (part_of net kept) a b side → IsMinimumSide net a b (widen side)
   least_in_net side least = record {
     is_side = side_widened side least.is_side;
     least = λ other is_side.
@@ -95,7 +95,7 @@ module _ (net : Network) (kept : ℕ → Bool) (a b : ℕ) (those : AreThose kep
         omega arith;
   }
 
-  least_in_part : (side : ℕ → Bool) → IsLeastSide net a b side → IsLeastSide (part_of net kept) a b side
+  least_in_part : (side : ℕ → Bool) → IsMinimumSide net a b side → IsMinimumSide (part_of net kept) a b side
   least_in_part side least = record {
     is_side = record { start = least.is_side.start; end = least.is_side.end };
     least = λ other is_side.
@@ -106,17 +106,17 @@ module _ (net : Network) (kept : ℕ → Bool) (a b : ℕ) (those : AreThose kep
   }
 
   -- the modules that are kept are near in the one where they are near in the other
-  to_part : (m : ℕ) → kept m ≡ true → Near net a b m → Near (part_of net kept) a b m
+  to_part : (m : ℕ) → kept m ≡ true → InSourceSide net a b m → InSourceSide (part_of net kept) a b m
   to_part m t near side least = sym (widen_kept side m t) ∙ near (widen side) (least_in_net side least)
 
-  to_net : (m : ℕ) → Near (part_of net kept) a b m → Near net a b m
+  to_net : (m : ℕ) → InSourceSide (part_of net kept) a b m → InSourceSide net a b m
   to_net m near side least = near side (least_in_part side least)
 
   -- the modules of a side that a reaches
   only_reached : (ℕ → Bool) → ℕ → Bool
   only_reached side m = side m && has_chain net.imports a m
 
-  least_reached : (side : ℕ → Bool) → IsLeastSide net a b side → IsLeastSide net a b (only_reached side)
+  least_reached : (side : ℕ → Bool) → IsMinimumSide net a b side → IsMinimumSide net a b (only_reached side)
   unfolding only_reached
   least_reached side least = record {
     is_side = record {
@@ -137,7 +137,7 @@ module _ (net : Network) (kept : ℕ → Bool) (a b : ℕ) (those : AreThose kep
   }
 
   -- an import that leaves the near modules leaves one that a reaches
-  from_reached : (i : Priced) → LeavesNear net a b i → Chain net.imports Any a i.from
+  from_reached : (i : Priced) → LeavesSourceSide net a b i → Chain net.imports Any a i.from
   unfolding only_reached
   from_reached i l =
       elim (chain_or_none net.imports Any (λ j. inl tt) a i.from) [
@@ -147,54 +147,54 @@ module _ (net : Network) (kept : ℕ → Bool) (a b : ℕ) (those : AreThose kep
             absurd (both_ways (has_chain net.imports a i.from) (has_chain-false net.imports a i.from none) (and_parts (side i.from) (has_chain net.imports a i.from) here).1)))
       ]
 
-  leaves_in_part : (i : Priced) → inside kept i ≡ true → LeavesNear net a b i → LeavesNear (part_of net kept) a b i
+  leaves_in_part : (i : Priced) → are_ends_in kept i ≡ true → LeavesSourceSide net a b i → LeavesSourceSide (part_of net kept) a b i
   leaves_in_part i t l =
       let parts = and_parts (kept i.from) (kept i.to) t in
       (to_part i.from parts.0 l.0, λ near. l.1 (to_net i.to near))
 
-  leaves_in_net : (i : Priced) → inside kept i ≡ true → LeavesNear (part_of net kept) a b i → LeavesNear net a b i
+  leaves_in_net : (i : Priced) → are_ends_in kept i ≡ true → LeavesSourceSide (part_of net kept) a b i → LeavesSourceSide net a b i
   leaves_in_net i t l =
       let parts = and_parts (kept i.from) (kept i.to) t in
       (to_net i.from l.0, λ near. l.1 (to_part i.to parts.1 near))
 
   -- a chain to b from a module that a reaches stays inside
-  chain_in_part : (m : ℕ) → Chain net.imports Any a m → (more : List ℕ) → IsChain net.imports (λ j. LeavesNear net a b j → ⊥) m more b → IsChain (part_of net kept).imports (λ j. LeavesNear (part_of net kept) a b j → ⊥) m more b
+  chain_in_part : (m : ℕ) → Chain net.imports Any a m → (more : List ℕ) → IsChain net.imports (λ j. LeavesSourceSide net a b j → ⊥) m more b → IsChain (part_of net kept).imports (λ j. LeavesSourceSide (part_of net kept) a b j → ⊥) m more b
   chain_in_part m before [] e = e
   chain_in_part m before (n ∷ more) ((i, c, from, to, not_leaves), rest) =
       let before_i : Chain net.imports Any a i.from = rw from before in
       let before_n : Chain net.imports Any a n = rw to at (onward net.imports a i c before_i) in
-      let after_n : Chain net.imports Any n b = (more, widened net.imports net.imports (λ j. LeavesNear net a b j → ⊥) Any (λ j d _. (d, tt)) n more b rest) in
+      let after_n : Chain net.imports Any n b = (more, widened net.imports net.imports (λ j. LeavesSourceSide net a b j → ⊥) Any (λ j d _. (d, tt)) n more b rest) in
       let after_i : Chain net.imports Any i.to b = rw to after_n in
-      let in_part : inside kept i ≡ true = and_from _ _ ((those i.from).1 (before_i, step net.imports Any b i c tt after_i)) ((those i.to).1 (onward net.imports a i c before_i, after_i)) in
-      ((i, in_filter (inside kept) net.imports i in_part c, from, to, λ l. not_leaves (leaves_in_net i in_part l)), chain_in_part n before_n more rest)
+      let in_part : are_ends_in kept i ≡ true = and_from _ _ ((those i.from).1 (before_i, step net.imports Any b i c tt after_i)) ((those i.to).1 (onward net.imports a i c before_i, after_i)) in
+      ((i, in_filter (are_ends_in kept) net.imports i in_part c, from, to, λ l. not_leaves (leaves_in_net i in_part l)), chain_in_part n before_n more rest)
 
-  printed_inside : (i : Priced) → Contains net.imports i → IsPrintedOne net a b i → inside kept i ≡ true
+  printed_inside : (i : Priced) → Contains net.imports i → IsReported net a b i → are_ends_in kept i ≡ true
   printed_inside i c (leaves, chain) =
       let before = from_reached i leaves in
-      let after : Chain net.imports Any i.to b = (chain.0, widened net.imports net.imports (λ j. LeavesNear net a b j → ⊥) Any (λ j d _. (d, tt)) i.to chain.0 b chain.1) in
+      let after : Chain net.imports Any i.to b = (chain.0, widened net.imports net.imports (λ j. LeavesSourceSide net a b j → ⊥) Any (λ j d _. (d, tt)) i.to chain.0 b chain.1) in
       and_from _ _ ((those i.from).1 (before, step net.imports Any b i c tt after)) ((those i.to).1 (onward net.imports a i c before, after))
 
-  printed_in_part : (i : Priced) → Contains net.imports i → IsPrintedOne net a b i → IsPrintedOne (part_of net kept) a b i
+  printed_in_part : (i : Priced) → Contains net.imports i → IsReported net a b i → IsReported (part_of net kept) a b i
   printed_in_part i c p =
       let in_part = printed_inside i c p in
       let parts = and_parts (kept i.from) (kept i.to) in_part in
       (leaves_in_part i in_part p.0, (p.1.0, chain_in_part i.to ((those i.to).0 parts.1).0 p.1.0 p.1.1))
 
-  printed_in_net : (i : Priced) → inside kept i ≡ true → IsPrintedOne (part_of net kept) a b i → IsPrintedOne net a b i
+  printed_in_net : (i : Priced) → are_ends_in kept i ≡ true → IsReported (part_of net kept) a b i → IsReported net a b i
   printed_in_net i t p = (
     leaves_in_net i t p.0,
     (
       p.1.0,
-      widened (part_of net kept).imports net.imports (λ j. LeavesNear (part_of net kept) a b j → ⊥) (λ j. LeavesNear net a b j → ⊥)
-          (λ j c no_leave. let was = of_filter (inside kept) net.imports j c in (was.0, λ l. no_leave (leaves_in_part j was.1 l))) i.to p.1.0 b p.1.1,
+      widened (part_of net kept).imports net.imports (λ j. LeavesSourceSide (part_of net kept) a b j → ⊥) (λ j. LeavesSourceSide net a b j → ⊥)
+          (λ j c no_leave. let was = of_filter (are_ends_in kept) net.imports j c in (was.0, λ l. no_leave (leaves_in_part j was.1 l))) i.to p.1.0 b p.1.1,
     ),
   )
 
   -- the same imports are printed
-  pub same_printed : (x : Priced → Bool) → ArePrinted (part_of net kept) a b x → ArePrinted net a b (λ i. inside kept i && x i)
+  pub same_printed : (x : Priced → Bool) → AreReported (part_of net kept) a b x → AreReported net a b (λ i. are_ends_in kept i && x i)
   same_printed x printed i c = (
-    λ t. let parts = and_parts (inside kept i) (x i) t in
-        printed_in_net i parts.0 ((printed i (in_filter (inside kept) net.imports i parts.0 c)).0 parts.1),
+    λ t. let parts = and_parts (are_ends_in kept i) (x i) t in
+        printed_in_net i parts.0 ((printed i (in_filter (are_ends_in kept) net.imports i parts.0 c)).0 parts.1),
     λ p. let in_part = printed_inside i c p in
-        and_from _ _ in_part ((printed i (in_filter (inside kept) net.imports i in_part c)).1 (printed_in_part i c p)),
+        and_from _ _ in_part ((printed i (in_filter (are_ends_in kept) net.imports i in_part c)).1 (printed_in_part i c p)),
   )

@@ -3,16 +3,16 @@ use Rattle.std.proofs.Common.{◌≡◌, ℕ, ◌+◌, ◌<◌, Bool, true, fals
 use Rattle.std.proofs.lemmas.Bool.{cases_eq}
 use Rattle.std.proofs.lemmas.List.{get_or_default}
 use Rattle.std.proofs.lemmas.List.Elements.{Contains-get_or}
-use Rattle.digraph.specs.Trails.{IsLast}
+use Rattle.digraph.specs.LinkedLists.{IsLast}
 use Rattle.digraph.proofs.SpreadMarks.{follow_ends, follow_marked, follow_starts, follow_unmarked, mark_before, mark_kept, spread_starts, start_alone, start_marked}
 use Rattle.cut_net.specs.declared.priced.Priced.{Priced}
-use Rattle.cut_net.specs.Network.{none_there}
+use Rattle.cut_net.specs.Network.{missing_item}
 use Rattle.cut_net.specs.Cuts.{Any, Chain, IsChain}
-use Rattle.cut_residual.specs.Graphs.{is_seen}
-use Rattle.cut_part.specs.Marks.{AreChained}
-use Rattle.cut_part.specs.Narrowing.{import_in}
+use Rattle.residual_graph.specs.Graphs.{is_flagged}
+use Rattle.cut_part.specs.Marks.{AreReachable}
+use Rattle.cut_part.specs.CapacityReduction.{import_in}
 use Rattle.cut_part.specs.Reach.{imported, IsFollowing, IsSpreading, Makes}
-use Rattle.cut_part.proofs.Inside.{onward}
+use Rattle.cut_part.proofs.Subnetworks.{onward}
 
 -- ---- one module's imports
 
@@ -20,20 +20,20 @@ module _ (imports : List Priced) (start : ℕ) (marks : List Bool) (waiting : Li
   pub following_starts : (next : ℕ) → IsLast (Makes imports m) (length imports) next → IsSpreading imports start marks (waiting ++ m ∷ []) → IsFollowing imports start marks waiting m next
   following_starts next last s = record {
     started = s.started;
-    chained = s.chained;
+    mark_reachable = s.mark_reachable;
     spread = follow_starts (Makes imports) (imported imports) (length imports) marks waiting m next last s.spread;
   }
 
   pub following_ends : IsFollowing imports start marks waiting m 0 → IsSpreading imports start marks waiting
-  following_ends f = record { started = f.started; chained = f.chained; spread = follow_ends (Makes imports) (imported imports) (length imports) marks waiting m f.spread }
+  following_ends f = record { started = f.started; mark_reachable = f.mark_reachable; spread = follow_ends (Makes imports) (imported imports) (length imports) marks waiting m f.spread }
 
   module _ (number next : ℕ) (low : number < length imports) (own : Makes imports m number) (last : IsLast (Makes imports m) number next)
       (f : IsFollowing imports start marks waiting m (number + 1)) where
     -- the imported module has a mark already
-    pub follows_marked : is_seen marks (imported imports number) ≡ true → IsFollowing imports start marks waiting m next
+    pub follows_marked : is_flagged marks (imported imports number) ≡ true → IsFollowing imports start marks waiting m next
     follows_marked on = record {
       started = f.started;
-      chained = f.chained;
+      mark_reachable = f.mark_reachable;
       spread = follow_marked (Makes imports) (imported imports) (length imports) marks waiting m number next last f.spread on;
     }
 
@@ -44,11 +44,11 @@ module _ (imports : List Priced) (start : ℕ) (marks : List Bool) (waiting : Li
         let to = imported imports number in
         record {
           started = mark_kept marks to start within f.started;
-          chained = λ x on. elim (cases_eq x to) [
+          mark_reachable = λ x on. elim (cases_eq x to) [
             | inl e ↦
-                let to_from = subst (Chain imports Any start) (sym own) (f.chained m f.spread.own) in
-                subst (Chain imports Any start) (sym e) (onward imports start (import_in imports number) (Contains-get_or imports number none_there low) to_from)
-            | inr ne ↦ f.chained x (mark_before marks to x ne on)
+                let to_from = subst (Chain imports Any start) (sym own) (f.mark_reachable m f.spread.own) in
+                subst (Chain imports Any start) (sym e) (onward imports start (import_in imports number) (Contains-get_or imports number missing_item low) to_from)
+            | inr ne ↦ f.mark_reachable x (mark_before marks to x ne on)
           ];
           spread = follow_unmarked (Makes imports) (imported imports) (length imports) marks waiting m number next last f.spread within;
         }
@@ -58,20 +58,20 @@ module _ (imports : List Priced) (start : ℕ) (marks : List Bool) (waiting : Li
 pub spreading_starts : (imports : List Priced) (start modules : ℕ) → start < modules → IsSpreading imports start (set (replicate modules false) start true) (start ∷ [])
 spreading_starts imports start modules low = record {
   started = start_marked start modules low;
-  chained = λ x on. ([], sym (start_alone start modules x on));
+  mark_reachable = λ x on. ([], sym (start_alone start modules x on));
   spread = spread_starts start modules (Makes imports) (imported imports) (length imports) low;
 }
 
-along : (imports : List Priced) (start : ℕ) (marks : List Bool) → IsSpreading imports start marks [] → (m : ℕ) → is_seen marks m ≡ true → (more : List ℕ) (n : ℕ) → IsChain imports Any m more n → is_seen marks n ≡ true
-along imports start marks s m on [] n e = subst (λ v. is_seen marks v ≡ true) e on
+along : (imports : List Priced) (start : ℕ) (marks : List Bool) → IsSpreading imports start marks [] → (m : ℕ) → is_flagged marks m ≡ true → (more : List ℕ) (n : ℕ) → IsChain imports Any m more n → is_flagged marks n ≡ true
+along imports start marks s m on [] n e = subst (λ v. is_flagged marks v ≡ true) e on
 along imports start marks s m on (x ∷ more) n ((i, (k, in_k, at_k), from, to, any), rest) =
-    let is : import_in imports k ≡ i = get_or_default imports k none_there i in_k ∙ at_k in
-    let from_on : is_seen marks (import_in imports k).from ≡ true = ap (λ (j : Priced). is_seen marks j.from) is ∙ ap (is_seen marks) from ∙ on in
+    let is : import_in imports k ≡ i = get_or_default imports k missing_item i in_k ∙ at_k in
+    let from_on : is_flagged marks (import_in imports k).from ≡ true = ap (λ (j : Priced). is_flagged marks j.from) is ∙ ap (is_flagged marks) from ∙ on in
     let to_is : (import_in imports k).to ≡ x = ap (λ (j : Priced). j.to) is ∙ to in
     elim (s.spread.followed k (import_in imports k).from in_k refl from_on) [
-      | inl to_on ↦ along imports start marks s x (subst (λ v. is_seen marks v ≡ true) to_is to_on) more n rest
+      | inl to_on ↦ along imports start marks s x (subst (λ v. is_flagged marks v ≡ true) to_is to_on) more n rest
       | inr w ↦ absurd (omega (arith, w.1))
     ]
 
-pub spread : (imports : List Priced) (start : ℕ) (marks : List Bool) → IsSpreading imports start marks [] → AreChained imports start marks
-spread imports start marks s m = (s.chained m, λ (more, chain). along imports start marks s start s.started more m chain)
+pub spread : (imports : List Priced) (start : ℕ) (marks : List Bool) → IsSpreading imports start marks [] → AreReachable imports start marks
+spread imports start marks s m = (s.mark_reachable m, λ (more, chain). along imports start marks s start s.started more m chain)

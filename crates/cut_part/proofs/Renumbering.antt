@@ -5,12 +5,12 @@ use Rattle.std.proofs.lemmas.Bool.{cases_eq, cases_lt, eq-eqb, ne_eqb}
 use Rattle.digraph.proofs.Members.{in_map, from_map}
 use Rattle.cut_net.specs.declared.priced.Priced.{Priced}
 use Rattle.cut_net.specs.Network.{Network}
-use Rattle.cut_net.specs.Cuts.{entering, leaving, leaves, weight, Chain, IsChain, IsFlow, IsLeastSide, ArePrinted, IsPrintedOne, LeavesNear, Near}
+use Rattle.cut_net.specs.Cuts.{entering, leaving, leaves, weight, Chain, IsChain, IsFlow, IsMinimumSide, AreReported, IsReported, LeavesSourceSide, InSourceSide}
 use Rattle.cut_net.proofs.ListSums.{sum_by-same}
-use Rattle.cut_part.specs.Narrowing.{IsBarred, IsGreatestFlow}
+use Rattle.cut_part.specs.CapacityReduction.{IsBarred, IsMaxFlow}
 use Rattle.cut_part.specs.Renumbering.{IsRenumbered, flow_renumbered, renumbered}
 use Rattle.cut_part.proofs.Sums.{sum_by-map}
-use Rattle.cut_part.proofs.Inside.{none_counts}
+use Rattle.cut_part.proofs.Subnetworks.{none_counts}
 
 -- the whole network by the imports of the small one
 abbrev lifted : Network → Network → (ℕ → ℕ) → Network
@@ -115,7 +115,7 @@ module _ (whole small : Network) (number back : ℕ → ℕ) (is : IsRenumbered 
         weight_number (λ m. side (back m))
         ∙ sum_by-same _ _ small.imports (λ i c. rw (is.back_is i.from (is.between i c).0, is.back_is i.to (is.between i c).1) refl)
 
-    least_up : (side : ℕ → Bool) → IsLeastSide small a b side → IsLeastSide (lifted whole small number) (number a) (number b) (λ m. side (back m))
+    least_up : (side : ℕ → Bool) → IsMinimumSide small a b side → IsMinimumSide (lifted whole small number) (number a) (number b) (λ m. side (back m))
     least_up side least = record {
       is_side = record { start = ap side (is.back_is a a_in) ∙ least.is_side.start; end = ap side (is.back_is b b_in) ∙ least.is_side.end };
       least = λ other is_side.
@@ -125,7 +125,7 @@ module _ (whole small : Network) (number back : ℕ → ℕ) (is : IsRenumbered 
           omega arith;
     }
 
-    least_down : (side : ℕ → Bool) → IsLeastSide (lifted whole small number) (number a) (number b) side → IsLeastSide small a b (λ m. side (number m))
+    least_down : (side : ℕ → Bool) → IsMinimumSide (lifted whole small number) (number a) (number b) side → IsMinimumSide small a b (λ m. side (number m))
     least_down side least = record {
       is_side = record { start = least.is_side.start; end = least.is_side.end };
       least = λ other is_side.
@@ -135,48 +135,48 @@ module _ (whole small : Network) (number back : ℕ → ℕ) (is : IsRenumbered 
           omega arith;
     }
 
-    near_up : (m : ℕ) → Near small a b m → Near (lifted whole small number) (number a) (number b) (number m)
+    near_up : (m : ℕ) → InSourceSide small a b m → InSourceSide (lifted whole small number) (number a) (number b) (number m)
     near_up m near side least = near (λ k. side (number k)) (least_down side least)
 
-    near_down : (m : ℕ) → m < length small.names → Near (lifted whole small number) (number a) (number b) (number m) → Near small a b m
+    near_down : (m : ℕ) → m < length small.names → InSourceSide (lifted whole small number) (number a) (number b) (number m) → InSourceSide small a b m
     near_down m h near side least = sym (ap side (is.back_is m h)) ∙ near (λ k. side (back k)) (least_up side least)
 
-    leaves_up : (i : Priced) → Contains small.imports i → LeavesNear small a b i → LeavesNear (lifted whole small number) (number a) (number b) (renumbered number i)
+    leaves_up : (i : Priced) → Contains small.imports i → LeavesSourceSide small a b i → LeavesSourceSide (lifted whole small number) (number a) (number b) (renumbered number i)
     leaves_up i c l = (near_up i.from l.0, λ near. l.1 (near_down i.to (is.between i c).1 near))
 
-    leaves_down : (i : Priced) → Contains small.imports i → LeavesNear (lifted whole small number) (number a) (number b) (renumbered number i) → LeavesNear small a b i
+    leaves_down : (i : Priced) → Contains small.imports i → LeavesSourceSide (lifted whole small number) (number a) (number b) (renumbered number i) → LeavesSourceSide small a b i
     leaves_down i c l = (near_down i.from (is.between i c).0 l.0, λ near. l.1 (near_up i.to near))
 
-    chain_up : (m : ℕ) (more : List ℕ) → IsChain small.imports (λ j. LeavesNear small a b j → ⊥) m more b →
-        IsChain (lifted whole small number).imports (λ j. LeavesNear (lifted whole small number) (number a) (number b) j → ⊥) (number m) (map number more) (number b)
+    chain_up : (m : ℕ) (more : List ℕ) → IsChain small.imports (λ j. LeavesSourceSide small a b j → ⊥) m more b →
+        IsChain (lifted whole small number).imports (λ j. LeavesSourceSide (lifted whole small number) (number a) (number b) j → ⊥) (number m) (map number more) (number b)
     chain_up m [] e = ap number e
     chain_up m (n ∷ more) ((i, c, from, to, not_leaves), rest) =
         ((renumbered number i, in_map (renumbered number) small.imports i c, ap number from, ap number to, λ l. not_leaves (leaves_down i c l)), chain_up n more rest)
 
-    chain_down : (m : ℕ) → m < length small.names → (more : List ℕ) → IsChain (lifted whole small number).imports (λ j. LeavesNear (lifted whole small number) (number a) (number b) j → ⊥) (number m) more (number b) →
-        Chain small.imports (λ j. LeavesNear small a b j → ⊥) m b
+    chain_down : (m : ℕ) → m < length small.names → (more : List ℕ) → IsChain (lifted whole small number).imports (λ j. LeavesSourceSide (lifted whole small number) (number a) (number b) j → ⊥) (number m) more (number b) →
+        Chain small.imports (λ j. LeavesSourceSide small a b j → ⊥) m b
     chain_down m h [] e = ([], same_number m b h b_in e)
     chain_down m h (n ∷ more) ((i, c, from, to, not_leaves), rest) =
         let was = from_map (renumbered number) small.imports i c in
         let from_is : number was.0.from ≡ number m = ap (λ (j : Priced). j.from) was.2 ∙ from in
         let to_is : number was.0.to ≡ n = ap (λ (j : Priced). j.to) was.2 ∙ to in
         let low = is.between was.0 was.1 in
-        let rest_here : IsChain (lifted whole small number).imports (λ j. LeavesNear (lifted whole small number) (number a) (number b) j → ⊥) (number was.0.to) more (number b) =
-        subst (λ k. IsChain (lifted whole small number).imports (λ j. LeavesNear (lifted whole small number) (number a) (number b) j → ⊥) k more (number b)) (sym to_is) rest in
+        let rest_here : IsChain (lifted whole small number).imports (λ j. LeavesSourceSide (lifted whole small number) (number a) (number b) j → ⊥) (number was.0.to) more (number b) =
+        subst (λ k. IsChain (lifted whole small number).imports (λ j. LeavesSourceSide (lifted whole small number) (number a) (number b) j → ⊥) k more (number b)) (sym to_is) rest in
         let after = chain_down was.0.to low.1 more rest_here in
-        let not_here : LeavesNear small a b was.0 → ⊥ = λ l. not_leaves (subst (λ (j : Priced). LeavesNear (lifted whole small number) (number a) (number b) j) was.2 (leaves_up was.0 was.1 l)) in
+        let not_here : LeavesSourceSide small a b was.0 → ⊥ = λ l. not_leaves (subst (λ (j : Priced). LeavesSourceSide (lifted whole small number) (number a) (number b) j) was.2 (leaves_up was.0 was.1 l)) in
         (was.0.to ∷ after.0, ((was.0, was.1, same_number was.0.from m low.0 h from_is, refl, not_here), after.1))
 
-    printed_up : (i : Priced) → Contains small.imports i → IsPrintedOne small a b i → IsPrintedOne (lifted whole small number) (number a) (number b) (renumbered number i)
+    printed_up : (i : Priced) → Contains small.imports i → IsReported small a b i → IsReported (lifted whole small number) (number a) (number b) (renumbered number i)
     printed_up i c p = (leaves_up i c p.0, (map number p.1.0, chain_up i.to p.1.0 p.1.1))
 
-    printed_down : (i : Priced) → Contains small.imports i → IsPrintedOne (lifted whole small number) (number a) (number b) (renumbered number i) → IsPrintedOne small a b i
+    printed_down : (i : Priced) → Contains small.imports i → IsReported (lifted whole small number) (number a) (number b) (renumbered number i) → IsReported small a b i
     printed_down i c p = (leaves_down i c p.0, chain_down i.to (is.between i c).1 p.1.0 p.1.1)
 
-    pub printed_renumbered : (x : Priced → Bool) → ArePrinted small a b x → ArePrinted (lifted whole small number) (number a) (number b) (λ i. x (renumbered back i))
+    pub printed_renumbered : (x : Priced → Bool) → AreReported small a b x → AreReported (lifted whole small number) (number a) (number b) (λ i. x (renumbered back i))
     printed_renumbered x printed i c =
         let was = from_map (renumbered number) small.imports i c in
-        subst (λ (j : Priced). (x (renumbered back j) ≡ true) ↔ IsPrintedOne (lifted whole small number) (number a) (number b) j) was.2
+        subst (λ (j : Priced). (x (renumbered back j) ≡ true) ↔ IsReported (lifted whole small number) (number a) (number b) j) was.2
         (let low = is.between was.0 was.1 in
         let same : renumbered back (renumbered number was.0) ≡ was.0 = rw (is.back_is was.0.from low.0, is.back_is was.0.to low.1) refl in (
           λ t. printed_up was.0 was.1 ((printed was.0 was.1).0 (sym (ap x same) ∙ t)),
@@ -191,11 +191,11 @@ module _ (whole small : Network) (number back : ℕ → ℕ) (is : IsRenumbered 
   pub flow_down_is : (flow : Priced → ℕ) (value : ℕ) → IsFlow whole (number a) (number b) flow value → IsFlow small a b (flow_renumbered number flow) value
   flow_down_is flow value is_flow = flow_down whole small number back is flow a b a_in b_in value (subst (λ (n : Network). IsFlow n (number a) (number b) flow value) (is_lifted whole small number back is) is_flow)
 
-  pub greatest_up_is : (flow : Priced → ℕ) (value : ℕ) → IsGreatestFlow small a b (flow_renumbered number flow) value → IsGreatestFlow whole (number a) (number b) flow value
+  pub greatest_up_is : (flow : Priced → ℕ) (value : ℕ) → IsMaxFlow small a b (flow_renumbered number flow) value → IsMaxFlow whole (number a) (number b) flow value
   greatest_up_is flow value greatest = record {
     is_flow = flow_up_is flow value greatest.is_flow;
     barred = subst (λ (n : Network). IsBarred n flow (number a) (number b)) (sym (is_lifted whole small number back is)) (barred_up whole small number back is flow a b a_in b_in value greatest.barred);
   }
 
-  pub printed_up_is : (x : Priced → Bool) → ArePrinted small a b x → ArePrinted whole (number a) (number b) (λ i. x (renumbered back i))
-  printed_up_is x printed = subst (λ (n : Network). ArePrinted n (number a) (number b) (λ i. x (renumbered back i))) (sym (is_lifted whole small number back is)) (printed_renumbered whole small number back is a b a_in b_in x printed)
+  pub printed_up_is : (x : Priced → Bool) → AreReported small a b x → AreReported whole (number a) (number b) (λ i. x (renumbered back i))
+  printed_up_is x printed = subst (λ (n : Network). AreReported n (number a) (number b) (λ i. x (renumbered back i))) (sym (is_lifted whole small number back is)) (printed_renumbered whole small number back is a b a_in b_in x printed)

@@ -6,7 +6,7 @@ use Rattle.cut_net.specs.declared.priced.Priced.{Priced}
 use Rattle.cut_net.specs.Cuts.{entering, leaving}
 use Rattle.cut_net.specs.Lines.{edge_of}
 use Rattle.cut_net.proofs.ListSums.{sum_by-same}
-use Rattle.cut_part.specs.Narrowing.{ends_of, IsByEnds}
+use Rattle.cut_part.specs.CapacityReduction.{ends_of, IsByEnds}
 
 -- a term is within the sum
 pub sum_one : {X : Type 0} (g : X → ℕ) (xs : List X) (k : ℕ) (d : X) → k < length xs → g (get_or xs k d) ≤ sum_by g xs

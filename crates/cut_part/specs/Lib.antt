@@ -1,8 +1,8 @@
 pub mod Apart
-pub mod Inside
+pub mod Subnetworks
 pub mod Marks
-pub mod Narrowing
+pub mod CapacityReduction
 pub mod Reach
 pub mod Renumbering
-pub mod Tallies
-pub mod Turning
+pub mod WeightSums
+pub mod Reversal

@@ -1,32 +1,32 @@
--- How the modules are found to which chains of imports lead.
+-- Reachability by paths of imports, as a worklist search.
 use Rattle.std.specs.Prelude.{◌≡◌, ℕ, Bool, true, List, length}
 use Rattle.digraph.specs.Spreading.{IsSpread, IsSpreadBut}
-use Rattle.digraph.specs.Trails.{AreTrails, IsOn}
+use Rattle.digraph.specs.LinkedLists.{AreLinkedLists, IsInList}
 use Rattle.cut_net.specs.declared.priced.Priced.{Priced}
 use Rattle.cut_net.specs.Cuts.{Any, Chain}
-use Rattle.cut_residual.specs.Graphs.{is_seen}
-use Rattle.cut_part.specs.Narrowing.{import_in}
+use Rattle.residual_graph.specs.Graphs.{is_flagged}
+use Rattle.cut_part.specs.CapacityReduction.{import_in}
 
--- the module makes the import of this number
+-- the import of this number is one by the module
 abbrev pub Makes : List Priced → ℕ → ℕ → Type 0
-Makes imports m k = IsOn (λ j. (import_in imports j).from) m k
+Makes imports m k = IsInList (λ j. (import_in imports j).from) m k
 
--- the module that the import of this number is of
+-- the module that the import of this number imports
 abbrev pub imported : List Priced → ℕ → ℕ
 imported imports k = (import_in imports k).to
 
--- of the first count imports: for each module its last one, and for each of them the one before it that the same module makes
-abbrev pub AreImportTrails : List Priced → ℕ → List ℕ → List ℕ → ℕ → Type 0
-AreImportTrails imports modules last before count = AreTrails (Makes imports) modules last before count
+-- the lists of the first count imports by importer: for each module its last one, and for each import the previous one by its importer
+abbrev pub AreImportLists : List Priced → ℕ → List ℕ → List ℕ → ℕ → Type 0
+AreImportLists imports modules last before count = AreLinkedLists (Makes imports) modules last before count
 
--- chains lead from the start to all that are marked, and what these import is marked too, unless they wait
+-- paths lead from the start to all flagged modules, and the imports of a flagged module that doesn't wait are flagged
 pub record IsSpreading (imports : List Priced) (start : ℕ) (marks : List Bool) (waiting : List ℕ) : Type 0 where
-  pub started : is_seen marks start ≡ true
-  pub chained : (m : ℕ) → is_seen marks m ≡ true → Chain imports Any start m
+  pub started : is_flagged marks start ≡ true
+  pub mark_reachable : (m : ℕ) → is_flagged marks m ≡ true → Chain imports Any start m
   pub spread : IsSpread (Makes imports) (imported imports) (length imports) marks waiting
 
--- the same, while the imports of one more module are followed: those whose number plus one is at most this are still left
+-- as `IsSpreading`, while the imports of one module are followed in descending order: those with a number below next are left
 pub record IsFollowing (imports : List Priced) (start : ℕ) (marks : List Bool) (waiting : List ℕ) (one next : ℕ) : Type 0 where
-  pub started : is_seen marks start ≡ true
-  pub chained : (m : ℕ) → is_seen marks m ≡ true → Chain imports Any start m
+  pub started : is_flagged marks start ≡ true
+  pub mark_reachable : (m : ℕ) → is_flagged marks m ≡ true → Chain imports Any start m
   pub spread : IsSpreadBut (Makes imports) (imported imports) (length imports) marks waiting one next

@@ -1,14 +1,16 @@
-//! Smaller networks with the same flows: the part between two modules, weights narrowed, imports turned round.
-//! Stands on `cut_net`, on `cut_residual` for what marks are, and on `digraph` for trails.
-//! Its contract: the part has the modules on a chain and the imports between them; what is answered of it is an answer of the whole network.
+//! Smaller networks with equal flows between two modules: the subnetwork of the modules on paths between them, capacities reduced along
+//! paths, and the reversed imports.
+//! Depends on `cut_net` for networks, `residual_graph` for flags of nodes, and `digraph` for linked lists.
+//! The main calls are `between` and `reduced_capacities`. An answer for the subnetwork is, after renumbering, an answer for the whole network;
+//! reduced capacities lose no flow.
 #![tactic(auto)]
 
 pub mod laws;
-mod narrow;
 mod order;
 mod part;
 mod reach;
+mod reduction;
 
-pub use narrow::narrowed;
-pub use order::numbers_along;
-pub use part::{NetPart, between, lines_whole, turned_imports};
+pub use order::topological_imports;
+pub use part::{Subnetwork, between, imports_in_net, reversed_imports};
+pub use reduction::reduced_capacities;

@@ -1,20 +1,20 @@
-//! The imports in an order along chains. Nothing is proved of it but which numbers it has.
+//! Topological order of imports (Kahn 1962). Proved is only that the numbers are those of imports.
 ghost use Rattle.std.specs.Prelude.{◌≡◌, ◌<◌, ◌≤◌, All, IfOk, OnOk, length, vec_len};
 ghost use Rattle.cut_net.specs.WellFormed.{AreBetween};
 
 use cut_net::Priced;
 use std::alloc::{AllocError, Global};
 
-/// Where the imports of each module begin and end, and how many lead to it.
+/// For each module the range of its imports, and its in-degree.
 #[derive(Drop)]
-struct Counted {
+struct ImportRanges {
     begins: Vec<u32>,
     ends: Vec<u32>,
     entering: Vec<u32>,
 }
 
-/// Goes over the imports once. Those of a module stand together.
-fn count_all(alloc: Global, imports: &[Priced], modules: u32) -> Result<Counted, AllocError>
+/// One pass over the imports. Those of a module are adjacent.
+fn count_all(alloc: Global, imports: &[Priced], modules: u32) -> Result<ImportRanges, AllocError>
     requires between { AreBetween imports.now modules }
     requires few { length imports.now ≤ 65536 }
     ensures begins { IfOk result (λ c. vec_len c.begins ≡ modules) }
@@ -33,15 +33,15 @@ fn count_all(alloc: Global, imports: &[Priced], modules: u32) -> Result<Counted,
         ends[from] = number as u32 + 1;
         entering[to] = entering[to].saturating_add(1);
     }
-    Ok(Counted {
+    Ok(ImportRanges {
         begins,
         ends,
         entering,
     })
 }
 
-/// The modules that no import leads to.
-fn free_of(alloc: Global, entering: &[u32]) -> Result<Vec<u32>, AllocError>
+/// The modules with in-degree 0.
+fn sources_of(alloc: Global, entering: &[u32]) -> Result<Vec<u32>, AllocError>
     requires { length entering.now ≤ 8192 }
     ensures { IfOk result (λ free. All (λ m. m < length entering.now) free.items) }
 {
@@ -54,8 +54,8 @@ fn free_of(alloc: Global, entering: &[u32]) -> Result<Vec<u32>, AllocError>
     Ok(free)
 }
 
-/// Adds the numbers of these imports, and takes them away: the modules that none leads to any more are free.
-fn release(
+/// Appends the numbers of these imports and removes them; an imported module whose in-degree becomes 0 is free.
+fn remove_node(
     imports: &[Priced],
     begin: u32,
     end: u32,
@@ -83,22 +83,27 @@ fn release(
     Ok(())
 }
 
-/// The numbers of the imports of a network: those of a module together and in order, and behind all that lead to it, where no chain of imports leads back. The module
-/// that became free last comes first. The imports of each module stand together, as those of a network do, which ascend. Else those between the first and the last of a
-/// module count as its own, so there may be as many numbers as the product of modules and imports. Fails where memory is refused.
-pub fn numbers_along(
+/// The numbers of a network's imports in topological order: the imports of a module are adjacent and follow all that lead to it, if the
+/// imports are acyclic. Of the free modules the latest one is next. The imports of each module must be adjacent, as those of a network
+/// are, which are sorted; otherwise all imports between the first and the last of a module count as its own, so there may be as many
+/// numbers as modules times imports. Fails if an allocation fails.
+pub fn topological_imports(
     alloc: Global,
     imports: &[Priced],
     modules: u32,
 ) -> Result<Vec<u32>, AllocError>
+    // The modules of each import are below `modules`.
     requires between { AreBetween imports.now modules }
+    // There are at most 8,192 modules.
     requires few_modules { modules ≤ 8192 }
+    // There are at most 65,536 imports.
     requires few_imports { length imports.now ≤ 65536 }
+    // The result has only numbers of imports.
     ensures { IfOk result (λ numbers. All (λ k. k < length imports.now) numbers.items) }
 {
     let counted = count_all(alloc, imports, modules)?;
     let mut entering = counted.entering;
-    let mut free = free_of(alloc, &entering)?;
+    let mut free = sources_of(alloc, &entering)?;
     let mut numbers = Vec::with_capacity(alloc, imports.len())?;
     for _ in 0..modules {
         let Some(importer) = free.pop() else {
@@ -108,7 +113,7 @@ pub fn numbers_along(
             counted.begins[importer as usize],
             counted.ends[importer as usize],
         );
-        release(imports, begin, end, &mut entering, &mut free, &mut numbers)?;
+        remove_node(imports, begin, end, &mut entering, &mut free, &mut numbers)?;
     }
     Ok(numbers)
 }

@@ -1,35 +1,36 @@
-//! The modules of a network between two others, and the imports between them.
+//! Subnetworks: the modules on paths between two modules, with the imports between them.
 ghost use Rattle.std.specs.Prelude.{◌≡◌, ◌<◌, ◌≤◌, ◌&&◌, ℕ, IfOk, All, filter, map, length, slice_index};
 ghost use Rattle.cut_net.specs.Cuts.{AreThose};
 ghost use Rattle.cut_net.specs.Network.{name_of, texts};
 ghost use Rattle.cut_net.specs.WellFormed.{AreBetween};
-ghost use Rattle.cut_residual.specs.Graphs.{is_seen};
-ghost use Rattle.cut_part.specs.Inside.{inside, IsBetween};
-ghost use Rattle.cut_part.specs.Marks.{lines_whole, with_ends, IsNumbering, IsPart};
+ghost use Rattle.residual_graph.specs.Graphs.{is_flagged};
+ghost use Rattle.cut_part.specs.Subnetworks.{are_ends_in, IsBetween};
+ghost use Rattle.cut_part.specs.Marks.{imports_in_net, with_ends, IsNumbering, IsPart};
 ghost use Rattle.cut_part.specs.Renumbering.{renumbered};
-ghost use Rattle.cut_part.specs.Turning.{turned};
+ghost use Rattle.cut_part.specs.Reversal.{reversed};
 
-use crate::reach::chained;
+use crate::reach::mark_reachable;
 use cut_net::{Net, Priced};
 use std::alloc::{AllocError, Global};
 
-/// The network between two modules: those on a chain of imports from the one to the other, with all imports between these. Both modules
-/// are there also where no chain leads, and then there is no import.
+/// The subnetwork between two modules: those on paths from the one to the other, with all imports between them. The two modules are in it
+/// even if no path leads from the one to the other; then it has no import.
 #[derive(Drop)]
-pub struct NetPart {
-    /// The smaller network, its modules in the order that they have in the whole one.
+pub struct Subnetwork {
+    /// The subnetwork, its modules in the order of the whole network.
     pub net: Net,
-    /// For each module of the smaller network its number in the whole one.
+    /// For each module of the subnetwork its number in the whole network.
     pub numbers: Vec<u32>,
-    /// For each module of the whole network that is in the smaller one its number there.
-    pub places: Vec<u32>,
-    /// For each module of the whole network whether it is on a chain from the one module to the other.
+    /// For each module of the whole network that is in the subnetwork its number there.
+    pub new_numbers: Vec<u32>,
+    /// For each module of the whole network whether it is on a path from the one module to the other.
     pub marks: Vec<bool>,
 }
 
-/// Each import the other way, in order of their numbers.
-pub fn turned_imports(alloc: Global, imports: &[Priced]) -> Result<Vec<Priced>, AllocError>
-    ensures { IfOk result (λ v. v.items ≡ map turned imports.now) }
+/// The reversed imports, in the order of the given ones. Fails if an allocation fails.
+pub fn reversed_imports(alloc: Global, imports: &[Priced]) -> Result<Vec<Priced>, AllocError>
+    // Each import is reversed.
+    ensures { IfOk result (λ v. v.items ≡ map reversed imports.now) }
 {
     let mut all = Vec::with_capacity(alloc, imports.len())?;
     for i in imports {
@@ -42,11 +43,11 @@ pub fn turned_imports(alloc: Global, imports: &[Priced]) -> Result<Vec<Priced>, 
     Ok(all)
 }
 
-/// Marks what both mark.
+/// The conjunction of the flags.
 fn both(alloc: Global, some: &[bool], others: &[bool]) -> Result<Vec<bool>, AllocError>
     requires { length some.now ≡ length others.now }
     ensures size { IfOk result (λ marks. length marks.items ≡ length some.now) }
-    ensures both { IfOk result (λ marks. (m : ℕ) → is_seen marks.items m ≡ (is_seen some.now m && is_seen others.now m)) }
+    ensures both { IfOk result (λ marks. (m : ℕ) → is_flagged marks.items m ≡ (is_flagged some.now m && is_flagged others.now m)) }
 {
     let mut marks = Vec::with_capacity(alloc, some.len())?;
     for m in 0..some.len() {
@@ -56,48 +57,48 @@ fn both(alloc: Global, some: &[bool], others: &[bool]) -> Result<Vec<bool>, Allo
     Ok(marks)
 }
 
-/// The numbers of the marked modules in order, and the place of each.
-fn numbered(alloc: Global, marks: &[bool]) -> Result<(Vec<u32>, Vec<u32>), AllocError>
+/// The numbers of the flagged modules in order, and the index of each in that list.
+fn renumbering(alloc: Global, marks: &[bool]) -> Result<(Vec<u32>, Vec<u32>), AllocError>
     requires { length marks.now ≤ 8192 }
     ensures { IfOk result (λ r. IsNumbering marks.now r.0.items r.1.items) }
 {
     let mut numbers = Vec::new(alloc);
-    let mut places = Vec::new(alloc);
+    let mut new_numbers = Vec::new(alloc);
     for m in 0..marks.len() {
-        places.push(numbers.len() as u32)?;
+        new_numbers.push(numbers.len() as u32)?;
         if marks[m] {
             numbers.push(m as u32)?;
         }
     }
-    Ok((numbers, places))
+    Ok((numbers, new_numbers))
 }
 
-/// Whether both modules of the import are marked.
-fn is_inside(import: Priced, marks: &[bool]) -> bool
+/// Whether both modules of the import are flagged.
+fn is_internal(import: Priced, marks: &[bool]) -> bool
     requires from { import.from < length marks.now }
     requires to { import.to < length marks.now }
-    ensures { result ≡ inside (is_seen marks.now) import }
+    ensures { result ≡ are_ends_in (is_flagged marks.now) import }
 {
     marks[import.from as usize] & marks[import.to as usize]
 }
 
-/// The imports between marked modules, by the places of these.
+/// The imports between flagged modules, with new numbers.
 fn imports_between(
     alloc: Global,
     imports: &[Priced],
     marks: &[bool],
-    places: &[u32],
+    new_numbers: &[u32],
 ) -> Result<Vec<Priced>, AllocError>
     requires between { AreBetween imports.now (length marks.now) }
-    requires places { length places.now ≡ length marks.now }
-    ensures { IfOk result (λ v. v.items ≡ map (renumbered (slice_index places.now)) (filter (inside (is_seen marks.now)) imports.now)) }
+    requires new_numbers { length new_numbers.now ≡ length marks.now }
+    ensures { IfOk result (λ v. v.items ≡ map (renumbered (slice_index new_numbers.now)) (filter (are_ends_in (is_flagged marks.now)) imports.now)) }
 {
     let mut some = Vec::new(alloc);
     for i in imports {
-        if is_inside(*i, marks) {
+        if is_internal(*i, marks) {
             some.push(Priced {
-                from: places[i.from as usize],
-                to: places[i.to as usize],
+                from: new_numbers[i.from as usize],
+                to: new_numbers[i.to as usize],
                 amount: i.amount,
             })?;
         }
@@ -105,22 +106,22 @@ fn imports_between(
     Ok(some)
 }
 
-/// Marks the modules that are on a chain from the one module to the other.
-fn marks_between(alloc: Global, net: &Net, from: u32, to: u32) -> Result<Vec<bool>, AllocError>
+/// Flags the modules on paths from the one module to the other.
+fn path_marks(alloc: Global, net: &Net, from: u32, to: u32) -> Result<Vec<bool>, AllocError>
     requires from { from < length net.now.names }
     requires to { to < length net.now.names }
     ensures size { IfOk result (λ marks. length marks.items ≡ length net.now.names) }
-    ensures between { IfOk result (λ marks. AreThose (is_seen marks.items) (IsBetween net.now from to)) }
+    ensures between { IfOk result (λ marks. AreThose (is_flagged marks.items) (IsBetween net.now from to)) }
 {
-    net.keeps();
-    let forth = chained(alloc, net.imports(), net.nodes(), from)?;
-    let turned = turned_imports(alloc, net.imports())?;
-    let back = chained(alloc, &turned, net.nodes(), to)?;
+    net.invariants();
+    let forth = mark_reachable(alloc, net.imports(), net.nodes(), from)?;
+    let reversed = reversed_imports(alloc, net.imports())?;
+    let back = mark_reachable(alloc, &reversed, net.nodes(), to)?;
     let marks = both(alloc, &forth, &back)?;
     Ok(marks)
 }
 
-/// The marks, with the two modules marked too.
+/// The flags, with those of the two modules set.
 fn with_both(alloc: Global, marks: &[bool], from: u32, to: u32) -> Result<Vec<bool>, AllocError>
     requires from { from < length marks.now }
     requires to { to < length marks.now }
@@ -132,8 +133,8 @@ fn with_both(alloc: Global, marks: &[bool], from: u32, to: u32) -> Result<Vec<bo
     Ok(all)
 }
 
-/// The numbers of the marked modules, and of these two, in order, and the place of each.
-fn numbering(
+/// The numbers of the flagged modules and of these two, in order, and the index of each in that list.
+fn renumbering_with_ends(
     alloc: Global,
     marks: &[bool],
     from: u32,
@@ -145,28 +146,28 @@ fn numbering(
     ensures { IfOk result (λ r. IsNumbering (with_ends marks.now from to) r.0.items r.1.items) }
 {
     let all = with_both(alloc, marks, from, to)?;
-    numbered(alloc, &all)
+    renumbering(alloc, &all)
 }
 
-/// The imports and the pins between marked modules, by the places of these.
+/// The imports and the pins between flagged modules, with new numbers.
 fn lines_between(
     alloc: Global,
     net: &Net,
     marks: &[bool],
-    places: &[u32],
+    new_numbers: &[u32],
 ) -> Result<(Vec<Priced>, Vec<Priced>), AllocError>
     requires marks { length marks.now ≡ length net.now.names }
-    requires places { length places.now ≡ length marks.now }
-    ensures imports { IfOk result (λ v. v.0.items ≡ map (renumbered (slice_index places.now)) (filter (inside (is_seen marks.now)) net.now.imports)) }
-    ensures pins { IfOk result (λ v. v.1.items ≡ map (renumbered (slice_index places.now)) (filter (inside (is_seen marks.now)) net.now.pins)) }
+    requires new_numbers { length new_numbers.now ≡ length marks.now }
+    ensures imports { IfOk result (λ v. v.0.items ≡ map (renumbered (slice_index new_numbers.now)) (filter (are_ends_in (is_flagged marks.now)) net.now.imports)) }
+    ensures pins { IfOk result (λ v. v.1.items ≡ map (renumbered (slice_index new_numbers.now)) (filter (are_ends_in (is_flagged marks.now)) net.now.pins)) }
 {
-    net.keeps();
-    let imports = imports_between(alloc, net.imports(), marks, places)?;
-    let pins = imports_between(alloc, net.pins(), marks, places)?;
+    net.invariants();
+    let imports = imports_between(alloc, net.imports(), marks, new_numbers)?;
+    let pins = imports_between(alloc, net.pins(), marks, new_numbers)?;
     Ok((imports, pins))
 }
 
-/// The names of modules, by their numbers.
+/// The names of the modules with these numbers.
 fn names_of(alloc: Global, net: &Net, numbers: &[u32]) -> Result<Vec<String>, AllocError>
     requires { All (λ m. m < length net.now.names) numbers.now }
     ensures { IfOk result (λ names. texts names.items ≡ map (name_of net.now) numbers.now) }
@@ -178,8 +179,8 @@ fn names_of(alloc: Global, net: &Net, numbers: &[u32]) -> Result<Vec<String>, Al
     Ok(names)
 }
 
-/// The line by the numbers of the whole network.
-fn line_whole(line: Priced, numbers: &[u32]) -> Priced
+/// The line with the module numbers of the whole network.
+fn line_in_net(line: Priced, numbers: &[u32]) -> Priced
     requires from { line.from < length numbers.now }
     requires to { line.to < length numbers.now }
     ensures { result ≡ renumbered (slice_index numbers.now) line }
@@ -191,38 +192,43 @@ fn line_whole(line: Priced, numbers: &[u32]) -> Priced
     }
 }
 
-/// Lines of the smaller network, by the numbers that its modules have in the whole one.
-pub fn lines_whole(
+/// Lines of the subnetwork, with the module numbers of the whole network. Fails if an allocation fails.
+pub fn imports_in_net(
     alloc: Global,
     lines: &[Priced],
     numbers: &[u32],
 ) -> Result<Vec<Priced>, AllocError>
+    // The lines are between modules of the subnetwork.
     requires { AreBetween lines.now (length numbers.now) }
-    ensures { IfOk result (λ v. v.items ≡ lines_whole numbers.now lines.now) }
+    // Each line has the numbers of the whole network.
+    ensures { IfOk result (λ v. v.items ≡ imports_in_net numbers.now lines.now) }
 {
     let mut all = Vec::with_capacity(alloc, lines.len())?;
     for line in lines {
-        all.push(line_whole(*line, numbers))?;
+        all.push(line_in_net(*line, numbers))?;
     }
     Ok(all)
 }
 
-/// The network between two modules of a network, which are told by their numbers, with its pins. It has the same flows from the one to the
-/// other, and what is printed of it is what is printed of the whole network.
-pub fn between(alloc: Global, net: &Net, from: u32, to: u32) -> Result<NetPart, AllocError>
+/// The subnetwork between two modules of a network, which are given by their numbers, with its pins. It has equal flows from the one to
+/// the other, and its reported imports are those of the whole network. Fails if an allocation fails.
+pub fn between(alloc: Global, net: &Net, from: u32, to: u32) -> Result<Subnetwork, AllocError>
+    // `from` is a module.
     requires from { from < length net.now.names }
+    // `to` is a module.
     requires to { to < length net.now.names }
-    ensures { IfOk result (λ part. IsPart net.now from to part.marks.items part.numbers.items part.places.items part.net) }
+    // It is the subnetwork of the modules on paths from `from` to `to`.
+    ensures { IfOk result (λ part. IsPart net.now from to part.marks.items part.numbers.items part.new_numbers.items part.net) }
 {
-    net.keeps();
-    let marks = marks_between(alloc, net, from, to)?;
-    let (numbers, places) = numbering(alloc, &marks, from, to)?;
-    let (imports, pins) = lines_between(alloc, net, &marks, &places)?;
+    net.invariants();
+    let marks = path_marks(alloc, net, from, to)?;
+    let (numbers, new_numbers) = renumbering_with_ends(alloc, &marks, from, to)?;
+    let (imports, pins) = lines_between(alloc, net, &marks, &new_numbers)?;
     let names = names_of(alloc, net, &numbers)?;
-    Ok(NetPart {
+    Ok(Subnetwork {
         net: Net::with_pins(names, imports, pins),
         numbers,
-        places,
+        new_numbers,
         marks,
     })
 }

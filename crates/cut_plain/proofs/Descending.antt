@@ -2,11 +2,11 @@
 use Rattle.std.proofs.Common.{◌≡◌, ◌≢◌, ℕ, zero, suc, ◌+◌, ◌≤◌, ◌<◌, Bool, true, false, List, [], ◌∷◌, ◌++◌, get_or, refl, sym, ap, ◌∙◌, reverse, subst, arith, inl, inr}
 use Rattle.std.specs.Prelude.{All, AllPairs}
 use Rattle.std.proofs.lemmas.List.{length_push, get_or_append_left, reverse-append}
-use Rattle.cut_residual.specs.declared.arc.Arc.{Arc}
-use Rattle.cut_residual.specs.declared.arc.ResidualArc.{ResidualArc}
-use Rattle.cut_residual.specs.Flows.{IsBalanced}
-use Rattle.cut_residual.specs.Graphs.{tail, head, IsResidualWalk}
-use Rattle.cut_residual.proofs.Walking.{AllPairs-reverse, same_arc}
+use Rattle.residual_graph.specs.declared.arc.Arc.{Arc}
+use Rattle.residual_graph.specs.declared.arc.ResidualArc.{ResidualArc}
+use Rattle.residual_graph.specs.Flows.{IsBalanced}
+use Rattle.residual_graph.specs.Graphs.{tail, head, IsResidualWalk}
+use Rattle.residual_graph.proofs.Walking.{AllPairs-reverse, same_arc}
 use Rattle.cut_plain.specs.Levels.{opposite, Climbs, LeadsBack, RaisesOrKeeps}
 
 All-rest : {X : Type 0} (P : X → Type 0) (x : X) (xs : List X) → All P (x ∷ xs) → All P xs

@@ -3,8 +3,8 @@ use Rattle.std.proofs.Common.{◌≡◌, ℕ, ◌+◌, ◌-◌, ◌≤◌, ◌<�
 use Rattle.std.specs.Prelude.{All, map}
 use Rattle.std.proofs.lemmas.List.Sums.{sum_by-cons}
 use Rattle.cut_net.proofs.ListSums.{sum_by-mono}
-use Rattle.cut_residual.specs.declared.arc.Arc.{Arc}
-use Rattle.cut_residual.specs.Flows.{emptied, entering, leaving, AreSameArcs, IsBalanced}
+use Rattle.residual_graph.specs.declared.arc.Arc.{Arc}
+use Rattle.residual_graph.specs.Flows.{emptied, entering, leaving, DifferInFlowOnly, IsBalanced}
 use Rattle.cut_plain.specs.Levels.{Raises}
 
 abbrev pub total : List Arc → ℕ
@@ -20,7 +20,7 @@ total_emptied (r ∷ more) =
     let rest = total_emptied more in
     omega (arith, sum_by-cons (λ (s : Arc). s.capacity) (emptied r) (map emptied more), sum_by-cons (λ (s : Arc). s.capacity) r more)
 
-pub total_same : (old new : List Arc) → AreSameArcs old new → total new ≡ total old
+pub total_same : (old new : List Arc) → DifferInFlowOnly old new → total new ≡ total old
 total_same old new same =
     let a = total_emptied old in
     let b = total_emptied new in
@@ -39,7 +39,7 @@ value_within arcs a b value within f =
     omega arith
 
 -- a flow that is raised has less left to rise by
-pub measure_falls : (old new : List Arc) (a b value : ℕ) → AreSameArcs old new → All (λ r. r.flow ≤ r.capacity) new → IsBalanced old a b value → Raises old new a b →
+pub measure_falls : (old new : List Arc) (a b value : ℕ) → DifferInFlowOnly old new → All (λ r. r.flow ≤ r.capacity) new → IsBalanced old a b value → Raises old new a b →
     total new - value_of new a < total old - value_of old a
 measure_falls old new a b value same within f (more, some, raises) =
     let g = raises value f in

@@ -1,9 +1,9 @@
 -- Paths in a level graph, built from the sink backwards, and flows that rise.
 use Rattle.std.specs.Prelude.{◌≡◌, ℕ, ◌<◌, not, List, [], ◌∷◌, length, slice_index_or, All}
-use Rattle.cut_residual.specs.declared.arc.Arc.{Arc}
-use Rattle.cut_residual.specs.declared.arc.ResidualArc.{ResidualArc}
-use Rattle.cut_residual.specs.Flows.{RaisesBy}
-use Rattle.cut_residual.specs.Graphs.{Graph, HasArc, head, tail}
+use Rattle.residual_graph.specs.declared.arc.Arc.{Arc}
+use Rattle.residual_graph.specs.declared.arc.ResidualArc.{ResidualArc}
+use Rattle.residual_graph.specs.Flows.{RaisesBy}
+use Rattle.residual_graph.specs.Graphs.{Graph, HasArc, head, tail}
 
 -- the reversed arc
 abbrev pub opposite : ResidualArc → ResidualArc

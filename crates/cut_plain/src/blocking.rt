@@ -1,10 +1,10 @@
 //! Blocking flows in a level graph (Dinic 1970). The proofs use only that levels rise along a path, so that no arc occurs on it twice.
 ghost use Rattle.std.specs.Prelude.{◌≡◌, ◌≢◌, ◌<◌, IsTrue, OnOk, length};
-ghost use Rattle.cut_residual.specs.Flows.{AreSameArcs};
-ghost use Rattle.cut_residual.specs.Graphs.{HasArc};
+ghost use Rattle.residual_graph.specs.Flows.{DifferInFlowOnly};
+ghost use Rattle.residual_graph.specs.Graphs.{HasArc};
 ghost use Rattle.cut_plain.specs.Levels.{Climbs, IsDescent, RaisesOrKeeps, opposite};
 
-use cut_residual::{ResidualArc, ResidualGraph};
+use residual_graph::{ResidualArc, ResidualGraph};
 use std::alloc::{AllocError, Global};
 
 /// A path to the sink, as far as it has been found, from its last step back: its first node, and for each node the index of its current
@@ -47,7 +47,7 @@ fn make_move(
     requires apart { from ≢ to }
     requires descent { IsDescent graph.old levels.now to descent.old.current.items descent.old.path.items descent.old.at }
     ensures nodes { OnOk result (graph.new.nodes ≡ graph.old.nodes) }
-    ensures same { OnOk result (AreSameArcs graph.old.arcs graph.new.arcs) }
+    ensures same { OnOk result (DifferInFlowOnly graph.old.arcs graph.new.arcs) }
     ensures rises { OnOk result (RaisesOrKeeps graph.old.arcs graph.new.arcs from to) }
     ensures descent { OnOk result (IsDescent graph.new levels.now to descent.new.current.items descent.new.path.items descent.new.at) }
 {
@@ -84,8 +84,8 @@ fn make_move(
     }
 }
 
-/// Augments along paths on which levels rise until none is left. With the levels of a breadth-first search from the source, a path is dropped
-/// only at saturated arcs.
+/// Augments along paths on which levels rise until none is left. With the levels of a breadth-first search from the source, a path is
+/// dropped only at saturated arcs.
 pub(crate) fn blocking_flow(
     alloc: Global,
     graph: &mut ResidualGraph,
@@ -97,7 +97,7 @@ pub(crate) fn blocking_flow(
     requires levels { length levels.now ≡ graph.old.nodes }
     requires to { to < graph.old.nodes }
     ensures nodes { OnOk result (graph.new.nodes ≡ graph.old.nodes) }
-    ensures same { OnOk result (AreSameArcs graph.old.arcs graph.new.arcs) }
+    ensures same { OnOk result (DifferInFlowOnly graph.old.arcs graph.new.arcs) }
     ensures rises { OnOk result (RaisesOrKeeps graph.old.arcs graph.new.arcs from to) }
 {
     let mut descent = Descent {

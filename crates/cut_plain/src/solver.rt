@@ -1,9 +1,9 @@
 //! The reference solver: Dinic's algorithm (1970) in one thread.
 ghost use Rattle.std.specs.Prelude.{◌≡◌, ◌≢◌, ◌<◌, Err, IfOk, length};
-ghost use Rattle.cut_net.specs.Answers.{said_by, said_by_cut};
-ghost use Rattle.cut_net.specs.Lines.{IsAnswer, IsCheapestSaid};
-ghost use Rattle.cut_solve.specs.Faults.{Tells};
-ghost use Rattle.cut_solve.specs.Solving.{AreNeeded, IsSolveOutcome, SolveRefusal};
+ghost use Rattle.cut_net.specs.Answers.{answer_claim, cut_claim};
+ghost use Rattle.cut_net.specs.Lines.{IsAnswer, IsCheapestAnswer};
+ghost use Rattle.cut_solve.specs.Faults.{HasOutcome};
+ghost use Rattle.cut_solve.specs.Solving.{AreNeeded, IsSolveOutcome, SolveError};
 
 use crate::maximum_flow::maximum_flow;
 use cut_net::{Answer, Cut, Net};
@@ -15,15 +15,15 @@ fn solve(alloc: Global, net: &Net, from: u32, to: u32) -> Result<Cut, AllocError
     requires apart { from ≢ to }
     requires from { from < length net.now.names }
     requires to { to < length net.now.names }
-    ensures answer { IfOk result (λ cut. IsAnswer net.now from to (said_by_cut cut)) }
-    ensures cheapest { IfOk result (λ cut. IsCheapestSaid net.now from to (said_by_cut cut)) }
+    ensures answer { IfOk result (λ cut. IsAnswer net.now from to (cut_claim cut)) }
+    ensures cheapest { IfOk result (λ cut. IsCheapestAnswer net.now from to (cut_claim cut)) }
 {
-    net.keeps();
+    net.invariants();
     let mut graph = graph_of(alloc, net)?;
-    let near = maximum_flow(alloc, &mut graph, from, to)?;
-    graph.keeps();
+    let source_side = maximum_flow(alloc, &mut graph, from, to)?;
+    graph.invariants();
     let flow = flow_of(alloc, graph.arcs())?;
-    minimum_cut(alloc, net, &near.seen, flow, from, to)
+    minimum_cut(alloc, net, &source_side.reached_flags, flow, from, to)
 }
 
 /// A cheapest cut between the modules of two names: the reported imports with their weights, the sum of the weights in qualified
@@ -35,13 +35,13 @@ fn solve(alloc: Global, net: &Net, from: u32, to: u32) -> Result<Cut, AllocError
 /// `Memory`.
 pub fn plain(alloc: Global, net: &Net, from: &str, to: &str) -> Result<Answer, SolveFault>
     // The result is a cheapest cut with a flow that proves it, a path of pinned imports, or the error in the names.
-    ensures exact { Tells said_by result (IsSolveOutcome net.now from.now to.now) }
+    ensures exact { HasOutcome answer_claim result (IsSolveOutcome net.now from.now to.now) }
     // An error in the names is returned, unless an allocation fails.
-    ensures refused { (refusal : SolveRefusal) → IsSolveOutcome net.now from.now to.now (Err refusal) → Tells said_by result (λ o. o ≡ Err refusal) }
+    ensures refused { (refusal : SolveError) → IsSolveOutcome net.now from.now to.now (Err refusal) → HasOutcome answer_claim result (λ o. o ≡ Err refusal) }
     // Each import of a cut is needed: if only the others are removed, a path still leads from the one module to the other.
-    ensures needed { IfOk result (λ answer. AreNeeded net.now from.now to.now (said_by answer)) }
+    ensures needed { IfOk result (λ answer. AreNeeded net.now from.now to.now (answer_claim answer)) }
 {
-    net.keeps();
+    net.invariants();
     let from = module_of(alloc, net, from)?;
     let to = module_of(alloc, net, to)?;
     if from == to {

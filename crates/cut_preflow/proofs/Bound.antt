@@ -8,7 +8,7 @@ use Rattle.cut_preflow.specs.declared.event.Event.{Event}
 use Rattle.cut_preflow.specs.Total.{total}
 use Rattle.cut_preflow.specs.Preflow.{FlowNetwork, State, count, import_at, flow_at, label_at, inflow, outflow, excess, is_forward, residual, is_active, push_amount, pushed, relabel_target, relabelled, after, applies, run, opening, is_legal}
 use Rattle.cut_preflow.specs.Kept.{IsFlowNetwork, IsValidPreflow}
-use Rattle.cut_preflow.specs.Bound.{changes, most_changes}
+use Rattle.cut_preflow.specs.Bound.{changes, max_steps}
 use Rattle.cut_preflow.proofs.Choices.{choice_le, choice_same, choice_other, pick_true, pick_false, true_or_false}
 use Rattle.cut_preflow.proofs.Totals.{total-le, total-zero, total-at_most, total-change}
 use Rattle.cut_preflow.proofs.Pushes.{by_key_raised}
@@ -302,7 +302,7 @@ bound_of n m k c lev lab low hl hd paid =
     omega arith
 
 -- No list of events, from the opening on, changes the state more often than this.
-pub changes_le : (net : FlowNetwork) (events : List Event) → IsFlowNetwork net → changes net (opening net) events ≤ most_changes net
+pub changes_le : (net : FlowNetwork) (events : List Event) → IsFlowNetwork net → changes net (opening net) events ≤ max_steps net
 changes_le net events is =
     bound_of net.nodes (count net) (top net) (changes net s events) (levels net t) (labels net t) (omega arith)
     (total-at_most (count net) (λ i. level (import_at net i).amount (flow_at t i) (label_at t (import_at net i).from) (label_at t (import_at net i).to)) (top net)
@@ -340,5 +340,5 @@ changes_of_legal net s (x ∷ xs) e =
     omega (arith, one, ih)
 
 -- so no legal history is longer
-pub legal_le : (net : FlowNetwork) (events : List Event) → IsFlowNetwork net → is_legal net (opening net) events ≡ true → length events ≤ most_changes net
+pub legal_le : (net : FlowNetwork) (events : List Event) → IsFlowNetwork net → is_legal net (opening net) events ≡ true → length events ≤ max_steps net
 legal_le net events is e = omega (arith, changes_le net events is, changes_of_legal net (opening net) events e)

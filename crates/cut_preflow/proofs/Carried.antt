@@ -4,7 +4,7 @@ use Rattle.std.specs.Prelude.{Contains}
 use Rattle.std.proofs.lemmas.List.{get_or_default}
 use Rattle.std.proofs.lemmas.List.Sums.{sum_by-cons}
 use Rattle.cut_net.specs.declared.priced.Priced.{Priced}
-use Rattle.cut_net.specs.Network.{none_there}
+use Rattle.cut_net.specs.Network.{missing_item}
 use Rattle.cut_net.specs.Cuts.{entering, leaving}
 use Rattle.cut_part.specs.Apart.{AreApart}
 use Rattle.cut_part.proofs.Apart.{flow_by_number}
@@ -15,7 +15,7 @@ use Rattle.cut_preflow.proofs.Totals.{total-same}
 
 -- what holds at each number holds of each import
 pub at_numbers : (imports : List Priced) (P : Priced → Type 0) → ((k : ℕ) → k < length imports → P (import_in imports k)) → (i : Priced) → Contains imports i → P i
-at_numbers imports P each i (k, in_k, at_k) = subst P (get_or_default imports k none_there i in_k ∙ at_k) (each k in_k)
+at_numbers imports P each i (k, in_k, at_k) = subst P (get_or_default imports k missing_item i in_k ∙ at_k) (each k in_k)
 
 -- a sum with its first term apart
 total-front : (n : ℕ) (g : ℕ → ℕ) → total (suc n) g ≡ g 0 + total n (λ i. g (suc i))

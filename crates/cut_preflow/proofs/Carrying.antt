@@ -4,7 +4,7 @@ use Rattle.std.proofs.lemmas.Bool.{cases_eq}
 use Rattle.std.proofs.lemmas.Bool.Decides.{nat_tests}
 use Rattle.std.proofs.lemmas.List.{length-set}
 use Rattle.cut_net.specs.declared.priced.Priced.{Priced}
-use Rattle.cut_preflow.specs.declared.ends.Ends.{Ends}
+use Rattle.cut_preflow.specs.declared.ends.FlowEnds.{FlowEnds}
 use Rattle.cut_preflow.specs.Preflow.{FlowNetwork, State, count, import_at, flow_at, inflow, outflow, excess, is_forward, tail, head, residual, is_active, push_amount, pushed}
 use Rattle.cut_preflow.specs.Kept.{IsValidPreflow}
 use Rattle.cut_preflow.specs.Trace.{IsSound, IsWithinLimits, flow_network}
@@ -103,12 +103,12 @@ same_more true false c x y same = ap (λ n. c && nat_lt 0 n) (same refl refl)
 same_more false b c x y same = refl
 
 -- with the right excesses a node is active by them where it is active
-by_excesses : (ends : Ends) (imports : List Priced) (s : State) (xs : List ℕ) → ((v : ℕ) → v < ends.nodes → v ≢ ends.source → get_or xs v 0 ≡ excess (flow_network ends imports) s v) → (v : ℕ) → is_active_by ends xs v ≡ is_active (flow_network ends imports) s v
+by_excesses : (ends : FlowEnds) (imports : List Priced) (s : State) (xs : List ℕ) → ((v : ℕ) → v < ends.nodes → v ≢ ends.source → get_or xs v 0 ≡ excess (flow_network ends imports) s v) → (v : ℕ) → is_active_by ends xs v ≡ is_active (flow_network ends imports) s v
 by_excesses ends imports s xs are v =
     same_more (nat_lt v ends.nodes) (v == ends.source) (not (v == ends.sink)) (get_or xs v 0) (excess (flow_network ends imports) s v)
     (λ low other. are v (lt_from v ends.nodes low) (not_eq_from v ends.source other))
 
-pub indexed_from : (ends : Ends) (imports : List Priced) (s : State) (nodes : ℕ) (xs : List ℕ) (active : List Bool) → nodes ≡ ends.nodes → ((v : ℕ) → v < ends.nodes → v ≢ ends.source → get_or xs v 0 ≡ excess (flow_network ends imports) s v) → AreActive ends xs active → IsIndexed (flow_network ends imports) s nodes xs active
+pub indexed_from : (ends : FlowEnds) (imports : List Priced) (s : State) (nodes : ℕ) (xs : List ℕ) (active : List Bool) → nodes ≡ ends.nodes → ((v : ℕ) → v < ends.nodes → v ≢ ends.source → get_or xs v 0 ≡ excess (flow_network ends imports) s v) → AreActive ends xs active → IsIndexed (flow_network ends imports) s nodes xs active
 indexed_from ends imports s nodes xs active same are by = record {
   nodes_are = same;
   each_counted = by.each_counted;
@@ -117,7 +117,7 @@ indexed_from ends imports s nodes xs active same are by = record {
   active_are = λ v. by.active_are v ∙ by_excesses ends imports s xs are v;
 }
 
-pub active_from_index : (ends : Ends) (imports : List Priced) (s : State) (nodes : ℕ) (xs : List ℕ) (active : List Bool) → IsIndexed (flow_network ends imports) s nodes xs active → AreActive ends xs active
+pub active_from_index : (ends : FlowEnds) (imports : List Priced) (s : State) (nodes : ℕ) (xs : List ℕ) (active : List Bool) → IsIndexed (flow_network ends imports) s nodes xs active → AreActive ends xs active
 active_from_index ends imports s nodes xs active is = record {
   each_counted = is.each_counted;
   each_tested = is.each_tested;
@@ -155,7 +155,7 @@ carries net s nodes xs active arc sound is can = record {
     apart e = let same = ap (λ v. get_or s.label v 0) e in omega (arith, can.downhill, same)
 
 -- after a push that applies they are those of the state after it
-pub pushed_indexed : (ends : Ends) (imports : List Priced) (s : State) (nodes : ℕ) (xs ys : List ℕ) (before after : List Bool) (arc : ℕ) → IsSound (flow_network ends imports) s → IsIndexed (flow_network ends imports) s nodes xs before → Pushable (flow_network ends imports) s arc →
+pub pushed_indexed : (ends : FlowEnds) (imports : List Priced) (s : State) (nodes : ℕ) (xs ys : List ℕ) (before after : List Bool) (arc : ℕ) → IsSound (flow_network ends imports) s → IsIndexed (flow_network ends imports) s nodes xs before → Pushable (flow_network ends imports) s arc →
     ys ≡ carried ends.source xs (tail (flow_network ends imports) arc) (head (flow_network ends imports) arc) (push_amount (flow_network ends imports) s arc) → AreActive ends ys after →
     IsIndexed (flow_network ends imports) (after_push (flow_network ends imports) s arc) nodes ys after
 pushed_indexed ends imports s nodes xs ys before after arc sound is can same by =
@@ -183,7 +183,7 @@ relabelled_indexed net s labels nodes xs active is = record {
 }
 
 -- another excess of a node, which is a member by it now
-pub active_written : (ends : Ends) (excesses : List ℕ) (active : List Bool) (node excess : ℕ) (is : Bool) → node < ends.nodes → AreActive ends excesses active →
+pub active_written : (ends : FlowEnds) (excesses : List ℕ) (active : List Bool) (node excess : ℕ) (is : Bool) → node < ends.nodes → AreActive ends excesses active →
     is_active_by ends (set excesses node excess) node ≡ is → AreActive ends (set excesses node excess) (set active node is)
 active_written ends excesses active node excess is low was by = record {
   each_counted = length-set excesses node excess ∙ was.each_counted;
@@ -199,7 +199,7 @@ active_written ends excesses active node excess is low was by = record {
 }
 
 -- another excess of an end, which is no member
-pub active_kept : (ends : Ends) (excesses : List ℕ) (active : List Bool) (node excess : ℕ) → AreActive ends excesses active →
+pub active_kept : (ends : FlowEnds) (excesses : List ℕ) (active : List Bool) (node excess : ℕ) → AreActive ends excesses active →
     ((xs : List ℕ) → is_active_by ends xs node ≡ false) → AreActive ends (set excesses node excess) active
 active_kept ends excesses active node excess was none = record {
   each_counted = length-set excesses node excess ∙ was.each_counted;

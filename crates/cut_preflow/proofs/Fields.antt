@@ -16,8 +16,8 @@ module _ (q : Inside) (is : IsTrace (net_of q) q.graph.flow q.labels.items q.his
   sound_fields = played_sound (net_of q) (fields_of q) q.history.items is
 
   module _ (p : Trace) (view : record { net = net_of q; history = q.history.items } ≡ p) where
-    pub seen : (P : FlowNetwork → State → Type 0) → P (net_of q) (fields_of q) → P p.net (state_of p)
-    seen P h = subst (λ r. P r.net (state_of r)) view (subst (P (net_of q)) (played_state (net_of q) (fields_of q) q.history.items is) h)
+    pub reached_flags : (P : FlowNetwork → State → Type 0) → P (net_of q) (fields_of q) → P p.net (state_of p)
+    reached_flags P h = subst (λ r. P r.net (state_of r)) view (subst (P (net_of q)) (played_state (net_of q) (fields_of q) q.history.items is) h)
 
     pub unseen : (P : FlowNetwork → State → Type 0) → P p.net (state_of p) → P (net_of q) (fields_of q)
     unseen P h = subst (P (net_of q)) (sym (played_state (net_of q) (fields_of q) q.history.items is)) (subst (λ r. P r.net (state_of r)) (sym view) h)

@@ -2,14 +2,14 @@
 use Rattle.std.proofs.Common.{◌≡◌, ◌≢◌, ℕ, ◌<◌, ◌≤◌, ◌==◌, if◌then◌else◌, Bool, true, false, List, length, refl, sym, ◌∙◌, subst, arith, inl, inr}
 use Rattle.std.proofs.lemmas.Bool.{both_ways, cases_lt, false_from_ne_true}
 use Rattle.std.proofs.lemmas.List.Elements.{Contains-get_or}
-use Rattle.cut_net.specs.Network.{Network, none_there}
+use Rattle.cut_net.specs.Network.{Network, missing_item}
 use Rattle.cut_net.specs.WellFormed.{AreBetween}
-use Rattle.cut_net.specs.Cuts.{AreThose, IsClosed, IsFlow, Near, Reached}
+use Rattle.cut_net.specs.Cuts.{AreThose, IsClosed, IsFlow, InSourceSide, Reached}
 use Rattle.cut_net.proofs.NearSide.{is_near}
-use Rattle.cut_part.specs.Narrowing.{IsBarred}
+use Rattle.cut_part.specs.CapacityReduction.{IsBarred}
 use Rattle.cut_preflow.specs.Preflow.{FlowNetwork, State, count, flow_at, import_at, inflow, outflow}
 use Rattle.cut_preflow.specs.Kept.{IsFlowNetwork, IsValidPreflow, IsQuiet}
-use Rattle.cut_preflow.specs.Flows.{AreNear, AreReached, HasFlow, IsShutOff, flow_on, network_between, value_of}
+use Rattle.cut_preflow.specs.Flows.{AreSourceSide, AreReached, HasFlow, IsShutOff, flow_on, network_between, value_of}
 use Rattle.cut_preflow.specs.Side.{has, IsReach}
 use Rattle.cut_preflow.proofs.Choices.{choice_other}
 use Rattle.cut_preflow.proofs.Totals.{total-zero}
@@ -39,14 +39,14 @@ module _ (net : Network) (a b : ℕ) (s : State) (is : IsFlowNetwork (network_be
   closed_shut : (side : ℕ → Bool) → IsClosed net (flow_on flow_net s) side → IsShut flow_net s side
   closed_shut side closed k h =
       let i = import_at flow_net k in
-      let there = Contains-get_or net.imports k none_there h in
+      let there = Contains-get_or net.imports k missing_item h in
       (λ room t. closed.forward i there (omega (arith, flow_here k h, room)) t, λ some t. closed.backward i there (omega (arith, flow_here k h, some)) t)
 
   -- the marks of what the source reaches by arcs are of what it reaches by residual imports
-  pub reached : (marks : List Bool) → IsReach net.imports s.flow a marks → AreThose (has marks) (Reached net (flow_on flow_net s) a)
-  reached marks reach m = (
+  pub reached : (bits : List Bool) → IsReach net.imports s.flow a bits → AreThose (has bits) (Reached net (flow_on flow_net s) a)
+  reached bits reach m = (
     λ t modules start closed. reach.least modules start (closed_by_arcs flow_net s modules (closed_shut modules closed)) m t,
-    λ r. r (has marks) reach.starts (shut_closed (has marks) (closed_by_imports flow_net s (has marks) reach.closed)),
+    λ r. r (has bits) reach.starts (shut_closed (has bits) (closed_by_imports flow_net s (has bits) reach.closed)),
   )
 
   module _ (kept : IsValidPreflow flow_net s) (quiet : IsQuiet flow_net s) where
@@ -79,7 +79,7 @@ module _ (net : Network) (a b : ℕ) (s : State) (is : IsFlowNetwork (network_be
         (some.0, record { start = some.1; end = some.2; closed = shut_closed some.0 some.3 })
 
     -- so what is reached is what is near
-    pub near : (modules : ℕ → Bool) → AreThose modules (Reached net (flow_on flow_net s) a) → AreThose modules (Near net a b)
+    pub near : (modules : ℕ → Bool) → AreThose modules (Reached net (flow_on flow_net s) a) → AreThose modules (InSourceSide net a b)
     near modules those = is_near net a b (flow_on flow_net s) (value_of flow_net s) between is.source_low has_flow modules those without
       where
         without : modules b ≡ false
@@ -98,18 +98,18 @@ quiet_is_shut_off flow_net s is kept quiet net of =
     subst (λ f. IsFlowNetwork f → IsValidPreflow f s → IsQuiet f s → IsBarred net (flow_on f s) f.source f.sink) (sym of)
     (λ is' kept' quiet'. shut_off net flow_net.source flow_net.sink s is' kept'.flows kept' quiet') is kept quiet
 
-pub marks_reached : (flow_net : FlowNetwork) (s : State) (marks : List Bool) → IsFlowNetwork flow_net → length s.flow ≡ count flow_net → IsReach flow_net.imports s.flow flow_net.source marks → AreReached flow_net s marks
-marks_reached flow_net s marks is size reach net of =
-    subst (λ f. IsFlowNetwork f → length s.flow ≡ count f → IsReach f.imports s.flow f.source marks → AreThose (has marks) (Reached net (flow_on f s) f.source)) (sym of)
-    (λ is' size' reach'. reached net flow_net.source flow_net.sink s is' size' marks reach') is size reach
+pub marks_reached : (flow_net : FlowNetwork) (s : State) (bits : List Bool) → IsFlowNetwork flow_net → length s.flow ≡ count flow_net → IsReach flow_net.imports s.flow flow_net.source bits → AreReached flow_net s bits
+marks_reached flow_net s bits is size reach net of =
+    subst (λ f. IsFlowNetwork f → length s.flow ≡ count f → IsReach f.imports s.flow f.source bits → AreThose (has bits) (Reached net (flow_on f s) f.source)) (sym of)
+    (λ is' size' reach'. reached net flow_net.source flow_net.sink s is' size' bits reach') is size reach
 
-pub marks_near : (flow_net : FlowNetwork) (s : State) (marks : List Bool) → IsFlowNetwork flow_net → IsValidPreflow flow_net s → IsQuiet flow_net s → AreReached flow_net s marks → AreNear flow_net marks
-marks_near flow_net s marks is kept quiet those net of =
-    subst (λ f. IsFlowNetwork f → IsValidPreflow f s → IsQuiet f s → AreReached f s marks → AreThose (has marks) (Near net f.source f.sink)) (sym of)
-    (λ is' kept' quiet' those'. near net flow_net.source flow_net.sink s is' kept'.flows kept' quiet' (has marks) (those' net refl)) is kept quiet those
+pub marks_near : (flow_net : FlowNetwork) (s : State) (bits : List Bool) → IsFlowNetwork flow_net → IsValidPreflow flow_net s → IsQuiet flow_net s → AreReached flow_net s bits → AreSourceSide flow_net bits
+marks_near flow_net s bits is kept quiet those net of =
+    subst (λ f. IsFlowNetwork f → IsValidPreflow f s → IsQuiet f s → AreReached f s bits → AreThose (has bits) (InSourceSide net f.source f.sink)) (sym of)
+    (λ is' kept' quiet' those'. near net flow_net.source flow_net.sink s is' kept'.flows kept' quiet' (has bits) (those' net refl)) is kept quiet those
 
 -- once quiet, the sink is not reached
-pub sink_outside : (flow_net : FlowNetwork) (s : State) (marks : List Bool) → IsFlowNetwork flow_net → IsValidPreflow flow_net s → IsQuiet flow_net s → IsReach flow_net.imports s.flow flow_net.source marks → has marks flow_net.sink ≡ false
-sink_outside flow_net s marks is kept quiet reach =
+pub sink_outside : (flow_net : FlowNetwork) (s : State) (bits : List Bool) → IsFlowNetwork flow_net → IsValidPreflow flow_net s → IsQuiet flow_net s → IsReach flow_net.imports s.flow flow_net.source bits → has bits flow_net.sink ≡ false
+sink_outside flow_net s bits is kept quiet reach =
     let some = closed_side flow_net s is kept quiet in
     false_from_ne_true _ (λ t. both_ways (some.0 flow_net.sink) some.2 (reach.least some.0 some.1 (closed_by_arcs flow_net s some.0 some.3) flow_net.sink t))

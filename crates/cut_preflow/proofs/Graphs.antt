@@ -4,13 +4,13 @@ use Rattle.std.specs.Prelude.{◌↔◌, All, Contains}
 use Rattle.std.proofs.lemmas.List.{get_or-map, length-map, map-set}
 use Rattle.std.proofs.Math.Seq.{map-set_same}
 use Rattle.cut_net.specs.declared.priced.Priced.{Priced}
-use Rattle.cut_residual.specs.declared.arc.Arc.{Arc}
-use Rattle.cut_residual.specs.declared.arc.OutArc.{OutArc}
-use Rattle.cut_residual.specs.declared.arc.ResidualArc.{ResidualArc}
-use Rattle.cut_residual.specs.Flows.{pushed}
-use Rattle.cut_residual.proofs.Walking.{along, reaches_itself}
-use Rattle.cut_residual.specs.Graphs.{AreClosed, AreReached, HasArc, head, no_arc, residual, tail}
-use Rattle.cut_residual.specs.OutArcs.{IsOutOf, no_out_arc, step_of}
+use Rattle.residual_graph.specs.declared.arc.Arc.{Arc}
+use Rattle.residual_graph.specs.declared.arc.OutArc.{OutArc}
+use Rattle.residual_graph.specs.declared.arc.ResidualArc.{ResidualArc}
+use Rattle.residual_graph.specs.Flows.{pushed}
+use Rattle.residual_graph.proofs.Walking.{along, reaches_itself}
+use Rattle.residual_graph.specs.Graphs.{AreClosed, AreReached, HasArc, head, no_arc, residual, tail}
+use Rattle.residual_graph.specs.OutArcs.{IsOutOf, no_out_arc, step_of}
 use Rattle.cut_preflow.specs.FlowGraphs.{Carried, IsArcFrom, arc_opened, arcs_opened, flow_of, flows_of, import_of, imports_of, arc_number, out_arc_number}
 use Rattle.cut_preflow.specs.Preflow.{head_in, import_in, is_forward, opening_flows, residual_in, tail_in}
 use Rattle.cut_preflow.specs.Side.{IsReach, has}
@@ -152,15 +152,15 @@ module _ (arcs : List Arc) (a amount : ℕ) where
       ∙ ap (λ n. set (flows_of arcs) (a / 2) (if is_forward a then n + amount else n - amount)) (sym (flow_is arcs (a / 2)))
 
 -- what a search marks is the least set with its start that no arc with something left leaves
-pub reach_is : (nodes : ℕ) (arcs : List Arc) (source : ℕ) (marks : List Bool) → source < nodes → AreReached (record { nodes = nodes; arcs = arcs }) source marks → AreClosed arcs marks →
-    IsReach (imports_of arcs) (flows_of arcs) source marks
-reach_is nodes arcs source marks low reached closed =
+pub reach_is : (nodes : ℕ) (arcs : List Arc) (source : ℕ) (bits : List Bool) → source < nodes → AreReached (record { nodes = nodes; arcs = arcs }) source bits → AreClosed arcs bits →
+    IsReach (imports_of arcs) (flows_of arcs) source bits
+reach_is nodes arcs source bits low reached closed =
     let len = length-map arcs import_of in
     record {
       starts = (reached.each source).1 (low, reaches_itself arcs source);
       closed = λ a below room on.
-          subst (λ v. has marks v ≡ true) (sym (head_is arcs a))
-          (closed (numbered a) (known_is arcs a (omega arith)) (subst (λ n. 0 < n) (residual_is arcs a) room) (subst (λ v. has marks v ≡ true) (tail_is arcs a) on));
+          subst (λ v. has bits v ≡ true) (sym (head_is arcs a))
+          (closed (numbered a) (known_is arcs a (omega arith)) (subst (λ n. 0 < n) (residual_is arcs a) room) (subst (λ v. has bits v ≡ true) (tail_is arcs a) on));
       least = λ side on shut v h.
           let (in_nodes, (path, way)) = (reached.each v).0 h in
           along (λ n. side n ≡ true) arcs (λ s known left from.

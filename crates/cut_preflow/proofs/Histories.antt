@@ -1,7 +1,7 @@
 -- A history with one more event.
 use Rattle.std.proofs.Common.{◌≡◌, ℕ, true, List, [], ◌∷◌, ◌++◌, refl, sym, ap, ◌∙◌, subst}
 use Rattle.cut_net.specs.declared.priced.Priced.{Priced}
-use Rattle.cut_preflow.specs.declared.ends.Ends.{Ends}
+use Rattle.cut_preflow.specs.declared.ends.FlowEnds.{FlowEnds}
 use Rattle.cut_preflow.specs.declared.event.Event.{Event}
 use Rattle.cut_preflow.specs.Preflow.{FlowNetwork, State, after, applies, run, opening, is_legal}
 use Rattle.cut_preflow.specs.Trace.{Trace, flow_network, state_of, IsTrace, IsSound}
@@ -28,7 +28,7 @@ played_sound net s history p =
     subst (λ t. IsSound net t) (sym (played_state net s history p)) (record { network = p.network; limits = p.limits; kept = runs_keep net history p.network })
 
 -- so what contracts see is a state that a run can reach
-pub played_keeps : (ends : Ends) (imports : List Priced) (flows labels : List ℕ) (history : List Event) (p : Trace) → IsTrace (flow_network ends imports) flows labels history → record { net = flow_network ends imports; history = history } ≡ p → IsSound p.net (state_of p)
+pub played_keeps : (ends : FlowEnds) (imports : List Priced) (flows labels : List ℕ) (history : List Event) (p : Trace) → IsTrace (flow_network ends imports) flows labels history → record { net = flow_network ends imports; history = history } ≡ p → IsSound p.net (state_of p)
 played_keeps ends imports flows labels history p is view =
     subst (λ q. IsSound q.net (state_of q)) view (record { network = is.network; limits = is.limits; kept = runs_keep (flow_network ends imports) history is.network })
 

@@ -1,7 +1,7 @@
 -- A network between two of its modules, as the core sees it.
 use Rattle.std.proofs.Common.{ℕ, arith}
 use Rattle.std.proofs.lemmas.List.Elements.{Contains-get_or}
-use Rattle.cut_net.specs.Network.{Network, none_there}
+use Rattle.cut_net.specs.Network.{Network, missing_item}
 use Rattle.cut_net.specs.WellFormed.{IsNetwork}
 use Rattle.cut_part.proofs.Apart.{ascending_apart}
 use Rattle.cut_preflow.specs.Kept.{IsFlowNetwork}
@@ -11,8 +11,8 @@ use Rattle.cut_preflow.proofs.Carried.{total-sum}
 
 pub between_is : (net : Network) (a b : ℕ) → IsNetwork net → AreEnds net a b → IsFlowNetwork (network_between net a b)
 between_is net a b is ends = record {
-  from_low = λ i h. (is.between _ (Contains-get_or net.imports i none_there h)).0;
-  to_low = λ i h. (is.between _ (Contains-get_or net.imports i none_there h)).1;
+  from_low = λ i h. (is.between _ (Contains-get_or net.imports i missing_item h)).0;
+  to_low = λ i h. (is.between _ (Contains-get_or net.imports i missing_item h)).1;
   source_low = ends.from_in;
   sink_low = ends.to_in;
   apart = ends.apart;

@@ -1,7 +1,7 @@
 -- What the imports out of the source bring to the nodes at the opening, one import after another.
 use Rattle.std.proofs.Common.{◌≡◌, ◌≢◌, ℕ, ◌+◌, ◌^◌, ◌<◌, Bool, ◌==◌, if◌then◌else◌, List, length, get_or, ap, ◌∙◌, add-one, arith}
 use Rattle.cut_net.specs.declared.priced.Priced.{Priced}
-use Rattle.cut_preflow.specs.declared.ends.Ends.{Ends}
+use Rattle.cut_preflow.specs.declared.ends.FlowEnds.{FlowEnds}
 use Rattle.cut_preflow.specs.Total.{total}
 use Rattle.cut_preflow.specs.Preflow.{import_in, into, opening, opening_flows}
 use Rattle.cut_preflow.specs.Trace.{flow_network}
@@ -39,7 +39,7 @@ saturate_same source imports xs k v from was =
     omega (arith, flow, next, choice_le ((import_in imports k).to == v) (get_or (opening_flows source imports) k 0), was)
 
 -- what is at hand at the opening
-pub opening_indexed : (ends : Ends) (imports : List Priced) (nodes : ℕ) (xs : List ℕ) (active : List Bool) → nodes ≡ ends.nodes →
+pub opening_indexed : (ends : FlowEnds) (imports : List Priced) (nodes : ℕ) (xs : List ℕ) (active : List Bool) → nodes ≡ ends.nodes →
     ((v : ℕ) → v ≢ ends.source → get_or xs v 0 ≡ into imports (opening_flows ends.source imports) v) → AreActive ends xs active →
     IsIndexed (flow_network ends imports) (opening (flow_network ends imports)) nodes xs active
 opening_indexed ends imports nodes xs active same comes by =

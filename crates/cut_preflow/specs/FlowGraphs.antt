@@ -1,12 +1,12 @@
 -- A network's imports as the arcs of a residual graph.
 use Rattle.std.specs.Prelude.{◌≡◌, ℕ, ◌+◌, ◌*◌, ◌<◌, ◌==◌, if◌then◌else◌, List, length, map}
 use Rattle.cut_net.specs.declared.priced.Priced.{Priced}
-use Rattle.cut_residual.specs.declared.arc.Arc.{Arc}
-use Rattle.cut_residual.specs.declared.arc.OutArc.{OutArc}
-use Rattle.cut_residual.specs.declared.arc.ResidualArc.{ResidualArc}
+use Rattle.residual_graph.specs.declared.arc.Arc.{Arc}
+use Rattle.residual_graph.specs.declared.arc.OutArc.{OutArc}
+use Rattle.residual_graph.specs.declared.arc.ResidualArc.{ResidualArc}
 use Rattle.cut_preflow.specs.Preflow.{tail_in, head_in, residual_in}
 
--- what contracts see of a residual graph: its nodes, the imports, and the flow on each
+-- the specification of a residual graph: the number of nodes, the imports, and the flow on each
 pub record Carried : Type 0 where
   pub nodes : ℕ
   pub imports : List Priced
@@ -25,28 +25,28 @@ imports_of arcs = map import_of arcs
 abbrev pub flows_of : List Arc → List ℕ
 flows_of arcs = map flow_of arcs
 
--- the arc of an import, saturated where that leaves from the source
+-- the arc of an import, saturated if its tail is the source
 abbrev pub arc_opened : ℕ → Priced → Arc
 arc_opened source i = record { from = i.from; to = i.to; capacity = i.amount; flow = if i.from == source then i.amount else 0 }
 
 abbrev pub arcs_opened : ℕ → List Priced → List Arc
 arcs_opened source imports = map (arc_opened source) imports
 
--- the number of a residual arc: 2 i forwards, 2 i + 1 backwards
+-- the number of a residual arc: 2 i forward, 2 i + 1 backward
 abbrev pub arc_number : ResidualArc → ℕ
 arc_number s = if s.forward then 2 * s.arc else 2 * s.arc + 1
 
 abbrev pub out_arc_number : OutArc → ℕ
 out_arc_number a = arc_number a.step
 
--- an arc with its head and what is left of it
+-- an arc with its head and residual capacity
 pub record IsArc (g : Carried) (a : OutArc) : Type 0 where
   pub known : out_arc_number a < 2 * length g.imports
   pub head_is : a.head ≡ head_in g.imports (out_arc_number a)
   pub residual_is : a.residual ≡ residual_in g.imports g.flow (out_arc_number a)
   pub low : a.head < g.nodes
 
--- and one that leaves from the node
+-- an arc of node v, with its head and residual capacity
 pub record IsArcFrom (g : Carried) (v : ℕ) (a : OutArc) : Type 0 where
   pub arc : IsArc g a
   pub leaves : tail_in g.imports (out_arc_number a) ≡ v

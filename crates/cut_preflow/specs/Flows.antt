@@ -1,12 +1,12 @@
--- The core's flow and side in the words of networks: flows, residual imports and near modules (Goldberg and Tarjan 1988, section 2).
+-- The flow and the source side of a preflow as those of a network (Goldberg and Tarjan 1988, section 2).
 use Rattle.std.specs.Prelude.{◌≡◌, ◌≢◌, ℕ, ◌-◌, ◌<◌, Bool, List, length}
 use Rattle.cut_net.specs.declared.priced.Priced.{Priced}
 use Rattle.cut_net.specs.Network.{Network}
-use Rattle.cut_net.specs.Cuts.{AreThose, IsFlow, Near, Reached}
+use Rattle.cut_net.specs.Cuts.{AreThose, IsFlow, InSourceSide, Reached}
 use Rattle.cut_net.specs.Lines.{flow_by}
-use Rattle.cut_net.specs.Pins.{ArePins, NearWithPins, PinChain}
+use Rattle.cut_net.specs.Pins.{ArePins, InSourceSideWithPins, PinChain}
 use Rattle.cut_part.specs.Apart.{flow_lines}
-use Rattle.cut_part.specs.Narrowing.{IsBarred}
+use Rattle.cut_part.specs.CapacityReduction.{IsBarred}
 use Rattle.cut_preflow.specs.Preflow.{FlowNetwork, State, inflow, outflow}
 use Rattle.cut_preflow.specs.Side.{has}
 
@@ -16,15 +16,15 @@ pub record AreEnds (net : Network) (a b : ℕ) : Type 0 where
   pub to_in : b < length net.names
   pub apart : a ≢ b
 
--- the network between two of its modules, by their numbers in place of their names
+-- the network between two of its modules, which are given by numbers instead of names
 abbrev pub network_between : Network → ℕ → ℕ → FlowNetwork
 network_between net a b = record { nodes = length net.names; imports = net.imports; source = a; sink = b }
 
--- the network of so many nodes and these imports, between two of its nodes
+-- the network with this number of nodes and these imports, between two of its nodes
 abbrev pub network_on : ℕ → List Priced → ℕ → ℕ → FlowNetwork
 network_on nodes imports source sink = record { nodes = nodes; imports = imports; source = source; sink = sink }
 
--- these are the nodes and imports of the network
+-- the flow network has the nodes and imports of the network
 abbrev pub IsOf : Network → FlowNetwork → Type 0
 IsOf net flow_net = flow_net ≡ network_between net flow_net.source flow_net.sink
 
@@ -32,27 +32,27 @@ IsOf net flow_net = flow_net ≡ network_between net flow_net.source flow_net.si
 abbrev pub flow_on : FlowNetwork → State → Priced → ℕ
 flow_on flow_net s = flow_by (flow_lines flow_net.imports s.flow)
 
--- what leaves the source less what enters it
+-- the value of the flow: the outflow of the source less its inflow
 abbrev pub value_of : FlowNetwork → State → ℕ
 value_of flow_net s = outflow flow_net s flow_net.source - inflow flow_net s flow_net.source
 
--- the state's flow is a flow of the network, of its value
+-- the state's flow is a flow of the network, with its value
 abbrev pub HasFlow : FlowNetwork → State → Type 0
 HasFlow flow_net s = (net : Network) → IsOf net flow_net → IsFlow net flow_net.source flow_net.sink (flow_on flow_net s) (value_of flow_net s)
 
--- the residual imports of the state's flow don't lead from the source to the sink
+-- the sink isn't reachable from the source in the residual graph of the state's flow
 abbrev pub IsShutOff : FlowNetwork → State → Type 0
 IsShutOff flow_net s = (net : Network) → IsOf net flow_net → IsBarred net (flow_on flow_net s) flow_net.source flow_net.sink
 
--- the marked modules are those that the source reaches by residual imports of the state's flow
+-- the flagged modules are those that the source reaches in the residual graph of the state's flow
 abbrev pub AreReached : FlowNetwork → State → List Bool → Type 0
-AreReached flow_net s marks = (net : Network) → IsOf net flow_net → AreThose (has marks) (Reached net (flow_on flow_net s) flow_net.source)
+AreReached flow_net s bits = (net : Network) → IsOf net flow_net → AreThose (has bits) (Reached net (flow_on flow_net s) flow_net.source)
 
--- the marked modules are those that are near
-abbrev pub AreNear : FlowNetwork → List Bool → Type 0
-AreNear flow_net marks = (net : Network) → IsOf net flow_net → AreThose (has marks) (Near net flow_net.source flow_net.sink)
+-- the flagged modules are the minimal source side
+abbrev pub AreSourceSide : FlowNetwork → List Bool → Type 0
+AreSourceSide flow_net bits = (net : Network) → IsOf net flow_net → AreThose (has bits) (InSourceSide net flow_net.source flow_net.sink)
 
--- and where no chain of pins leads from the source to the sink, those that are near with pins
-abbrev pub AreNearWithPins : FlowNetwork → List Bool → Type 0
-AreNearWithPins flow_net marks =
-    (net : Network) → IsOf net flow_net → ArePins net → (PinChain net flow_net.source flow_net.sink → ⊥) → AreThose (has marks) (NearWithPins net flow_net.source flow_net.sink)
+-- if no path of pinned imports leads from the source to the sink, the flagged modules are the minimal source side with pins
+abbrev pub AreSourceSideWithPins : FlowNetwork → List Bool → Type 0
+AreSourceSideWithPins flow_net bits =
+    (net : Network) → IsOf net flow_net → ArePins net → (PinChain net flow_net.source flow_net.sink → ⊥) → AreThose (has bits) (InSourceSideWithPins net flow_net.source flow_net.sink)

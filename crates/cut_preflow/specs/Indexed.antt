@@ -1,9 +1,9 @@
--- What a preflow has at hand beside its flows and labels: a graph of its nodes, the excess of each, and the active ones.
+-- The redundant data of a preflow: a graph of its nodes, the excess of each, and the active ones.
 use Rattle.std.specs.Prelude.{◌≡◌, ◌≢◌, ℕ, ◌+◌, ◌-◌, ◌<◌, Bool, false, not, ◌&&◌, ◌==◌, nat_lt, if◌then◌else◌, List, length, slice_index, slice_index_or, slice_set}
-use Rattle.cut_preflow.specs.declared.ends.Ends.{Ends}
+use Rattle.cut_preflow.specs.declared.ends.FlowEnds.{FlowEnds}
 use Rattle.cut_preflow.specs.Preflow.{FlowNetwork, State, excess, is_active}
 
--- the graph has the network's nodes, the excesses are those of each node but the source, and the active nodes those of the state
+-- the graph has the network's nodes, the excesses are those of all nodes but the source, and the active nodes are those of the state
 pub record IsIndexed (net : FlowNetwork) (s : State) (nodes : ℕ) (excesses : List ℕ) (active : List Bool) : Type 0 where
   pub nodes_are : nodes ≡ net.nodes
   pub each_counted : length excesses ≡ net.nodes
@@ -11,20 +11,20 @@ pub record IsIndexed (net : FlowNetwork) (s : State) (nodes : ℕ) (excesses : L
   pub each_tested : length active ≡ net.nodes
   pub active_are : (v : ℕ) → slice_index_or active v false ≡ is_active net s v
 
--- a node with excess that is neither end, by a list of excesses
-abbrev pub is_active_by : Ends → List ℕ → ℕ → Bool
+-- a node other than the source and the sink that has excess, given the excesses
+abbrev pub is_active_by : FlowEnds → List ℕ → ℕ → Bool
 is_active_by ends excesses v = nat_lt v ends.nodes && (not (v == ends.source) && (not (v == ends.sink) && nat_lt 0 (slice_index excesses v)))
 
--- there is an excess for each node, and the members are the active nodes
-pub record AreActive (ends : Ends) (excesses : List ℕ) (active : List Bool) : Type 0 where
+-- there is an excess for each node, and the flagged nodes are the active ones
+pub record AreActive (ends : FlowEnds) (excesses : List ℕ) (active : List Bool) : Type 0 where
   pub each_counted : length excesses ≡ ends.nodes
   pub each_tested : length active ≡ ends.nodes
   pub active_are : (v : ℕ) → slice_index_or active v false ≡ is_active_by ends excesses v
 
--- the excesses after an amount came to a node; the source's isn't counted
+-- the excesses after an amount is added to a node; the source's isn't recorded
 abbrev pub brought : ℕ → List ℕ → ℕ → ℕ → List ℕ
 brought source excesses node amount = if node == source then excesses else slice_set excesses node (slice_index excesses node + amount)
 
--- the excesses after an amount went from one node to another
+-- the excesses after an amount moves from one node to another
 abbrev pub carried : ℕ → List ℕ → ℕ → ℕ → ℕ → List ℕ
 carried source excesses from to amount = brought source (slice_set excesses from (slice_index excesses from - amount)) to amount

@@ -1,8 +1,8 @@
--- When a relabel applies, and what it gives (Goldberg and Tarjan 1988, section 3).
+-- When a relabel applies, and its new label (Goldberg and Tarjan 1988, section 3).
 use Rattle.std.specs.Prelude.{◌≡◌, ℕ, ◌+◌, ◌*◌, ◌<◌, ◌≤◌, true}
 use Rattle.cut_preflow.specs.Preflow.{FlowNetwork, State, count, head, is_active, label_at, residual, tail}
 
--- an arc of the node with residual above 0 leads to this label
+-- an arc of the node with residual capacity leads to this label
 pub record LeadsTo (net : FlowNetwork) (s : State) (v least : ℕ) : Type 0 where
   pub arc : ℕ
   pub known : arc < 2 * count net
@@ -10,7 +10,8 @@ pub record LeadsTo (net : FlowNetwork) (s : State) (v least : ℕ) : Type 0 wher
   pub room : 0 < residual net s arc
   pub head_label : label_at s (head net arc) ≡ least
 
--- the label is one more than the least that arcs of the active node with residual above 0 lead to, which is no lower than its own
+-- the new label is one more than the smallest label at the heads of the active node's arcs with residual capacity, which is at least its
+-- own
 pub record IsRaised (net : FlowNetwork) (s : State) (v label : ℕ) : Type 0 where
   pub active : is_active net s v ≡ true
   pub least : ℕ

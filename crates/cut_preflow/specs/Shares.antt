@@ -1,30 +1,30 @@
--- Preflows that threads share: what contracts see of a share and of a preflow, and what an event's outcome does to their counts.
+-- Specifications of shares and of shared preflows, and the effect of an outcome on their counts.
 use Rattle.std.specs.Prelude.{ℕ, ◌+◌, Bool, true}
 use Rattle.cut_preflow.specs.declared.event.Outcome.{Outcome}
 use Rattle.cut_preflow.specs.declared.event.Outcome.TheVariants.{Moved, Raised, Stale, Refused}
 use Rattle.cut_preflow.specs.Trace.{Trace}
 
--- what a contract sees of a share: the steps that are counted in it, and its mark
+-- the specification of a share: its counted steps, and its flag
 pub record Counted : Type 0 where
   pub count : ℕ
   pub marked : Bool
 
--- what a contract sees of a preflow: its network and history, the steps in the book of its ledger, those that are counted in its own
--- share, and how many shares are out
+-- the specification of a shared preflow: its network and history, the total of its ledger, the steps counted in its own share, and the
+-- number of shares that are out
 pub record Shared : Type 0 where
   pub trace : Trace
   pub counted : ℕ
   pub own : ℕ
   pub shares_out : ℕ
 
--- a step that was applied is counted
+-- an applied step is counted
 abbrev pub count_after : ℕ → Outcome → ℕ
 count_after n (Moved amount) = n + 1
 count_after n (Raised label) = n + 1
 count_after n Stale = n
 count_after n Refused = n
 
--- a refused step marks the share
+-- an event with outcome `Refused` flags the share
 abbrev pub mark_after : Bool → Outcome → Bool
 mark_after marked (Moved amount) = marked
 mark_after marked (Raised label) = marked

@@ -1,18 +1,18 @@
-//! What a push or a relabel of a preflow would do.
+//! Which pushes and relabels apply, and what they change.
 ghost use Rattle.std.specs.Prelude.{◌≡◌, ◌*◌, ◌<◌, ◌≤◌, ◌↔◌, ℕ, All, Some, None, IfSome, IsNone, IsSome, true, false, length, if◌then◌else◌};
 ghost use Rattle.cut_preflow.specs.FlowGraphs.{IsArcFrom, out_arc_number};
 ghost use Rattle.cut_preflow.specs.Preflow.{applies, can_push, count, is_active, push_amount, relabel_target, smaller, tail};
 ghost use Rattle.cut_preflow.specs.Kept.{IsQuiet};
-ghost use Rattle.cut_preflow.specs.Bound.{most_changes};
+ghost use Rattle.cut_preflow.specs.Bound.{max_steps};
 ghost use Rattle.cut_preflow.specs.Trace.{carried_in, state_of};
 ghost use Rattle.cut_preflow.specs.Relabels.{LeadsTo};
 
 use crate::Step;
 use crate::flow_graph::arc_number;
 use crate::preflow_core::PreflowCore;
-use cut_residual::OutArc;
+use residual_graph::OutArc;
 
-/// The smaller of a label and what there was so far.
+/// The minimum of a label and an optional one.
 fn smaller(least: Option<u32>, label: u32) -> u32
     ensures { result ≡ smaller least label }
 {
@@ -23,7 +23,7 @@ fn smaller(least: Option<u32>, label: u32) -> u32
 }
 
 impl PreflowCore {
-    /// How much a push over the arc would move, where it applies.
+    /// The amount of a push over the arc; none if the push doesn't apply.
     pub(crate) fn push_amount(&self, arc: u32) -> Option<u64>
         ensures { result ≡ (if can_push self.now.net (state_of self.now) arc then Some (push_amount self.now.net (state_of self.now) arc) else None) }
     {
@@ -41,7 +41,7 @@ impl PreflowCore {
         }
     }
 
-    /// The least label that a node's arcs with residual above 0 lead to.
+    /// The smallest label at the heads of a node's arcs with residual capacity.
     fn least_label(&self, node: u32) -> Option<u32>
         requires { node < self.now.net.nodes }
         ensures some { IfSome result (λ least. LeadsTo self.now.net (state_of self.now) node least × ((other : ℕ) → LeadsTo self.now.net (state_of self.now) node other → least ≤ other)) }
@@ -57,14 +57,14 @@ impl PreflowCore {
         least
     }
 
-    /// The label that a relabel of the node would give, where it applies.
+    /// The new label by a relabel of the node; none if the relabel doesn't apply.
     pub(crate) fn raised_label(&self, node: u32) -> Option<u32>
         ensures { result ≡ relabel_target self.now.net (state_of self.now) node }
     {
         if !self.is_active(node) {
             return None;
         }
-        self.keeps();
+        self.invariants();
         let least = self.least_label(node)?;
         if self.label(node) <= least {
             Some(least + 1)
@@ -73,7 +73,7 @@ impl PreflowCore {
         }
     }
 
-    /// Whether a push over an arc of a node applies, where the node is active.
+    /// Whether a push over an arc of a node applies, provided that the node is active.
     fn can_push(&self, out: OutArc, node: u32) -> bool
         requires out { IsArcFrom (carried_in self.now.net (state_of self.now)) node out }
         requires node { node < self.now.net.nodes }
@@ -82,19 +82,19 @@ impl PreflowCore {
         out.residual > 0 && u64::from(self.label(node)) == u64::from(self.label(out.head)) + 1
     }
 
-    /// How many arcs of a node may be passed by a push over this one of them: those that still are, and from there on those over which
-    /// no push goes, up to this one.
+    /// The new current arc of a node after a push over this arc: the index of the first arc from the current one on over which a push
+    /// applies, at most the index after this arc.
     pub(crate) fn arcs_passed(&self, node: u32, arc: u32) -> usize
         requires { node < self.now.net.nodes }
     {
         let outs = self.outs_from(node);
-        for place in self.passed(node)..outs.len() {
-            let out = outs[place];
+        for position in self.passed(node)..outs.len() {
+            let out = outs[position];
             if self.can_push(out, node) {
-                return place;
+                return position;
             }
             if out.step.arc == (arc / 2) as usize && out.step.forward == (arc % 2 == 0) {
-                return place + 1;
+                return position + 1;
             }
         }
         outs.len()
@@ -117,8 +117,8 @@ impl PreflowCore {
         None
     }
 
-    /// The first arc of an active node over which a push applies: first of those that aren't passed. From a label 0 nothing leads down, which
-    /// saves a look at all arcs of a node at its first turn.
+    /// The first arc of an active node over which a push applies, from its current arc on and then from its first arc. A node with label
+    /// 0 has none, which saves a scan of all arcs before its first relabel.
     fn push_from(&self, node: u32) -> Option<u32>
         requires active { is_active self.now.net (state_of self.now) node ≡ true }
         requires node { node < self.now.net.nodes }
@@ -136,14 +136,14 @@ impl PreflowCore {
         }
     }
 
-    /// A step that applies, unless the preflow is quiet: a push of an active node, or else its relabel.
+    /// A step that applies: a push of an active node, or its relabel if no push applies. None if no node is active.
     pub(crate) fn next_step(&self) -> Option<Step>
         ensures some { IfSome result (λ step. applies self.now.net (state_of self.now) step ≡ true) }
         ensures none { IsNone result ↔ IsQuiet self.now.net (state_of self.now) }
-        ensures few { IsSome result → length self.now.history < most_changes self.now.net }
+        ensures few { IsSome result → length self.now.history < max_steps self.now.net }
     {
-        let node = self.next_node()?;
-        self.keeps();
+        let node = self.choose_node()?;
+        self.invariants();
         let _ = self.history();
         match self.push_from(node) {
             Some(arc) => Some(Step::Push { arc }),

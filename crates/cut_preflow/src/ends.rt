@@ -1,8 +1,8 @@
-//! The two ends of a question.
+//! The source and the sink of a preflow.
 
-/// How many nodes there are, and between which two the flow goes.
+/// The number of nodes, and the source and the sink.
 #[derive(Clone, Copy)]
-pub(crate) struct Ends {
+pub(crate) struct FlowEnds {
     pub(crate) nodes: u32,
     pub(crate) source: u32,
     pub(crate) sink: u32,

@@ -1,47 +1,48 @@
-//! Events, and what becomes of them.
+//! Events and their outcomes.
 
 use std::mem::size_of;
 
-/// A step that is tried (Goldberg and Tarjan 1988, section 3). An import of number i has the forward arc 2i, from the module that
-/// imports to the one that is imported, and the backward arc 2i + 1.
+/// A step of push-relabel (Goldberg and Tarjan 1988, section 3). Import i has the forward arc 2i, from the importer to the imported
+/// module, and the backward arc 2i + 1.
 #[derive(Clone, Copy, Debug)]
 pub enum Step {
-    /// Moves excess over an arc.
+    /// Pushes excess over an arc.
     Push { arc: u32 },
-    /// Raises the label of a node.
+    /// Relabels a node.
     Relabel { node: u32 },
 }
 
-/// A step, with the number of the worker that tries it. Any numbers are taken: a step over an arc or of a node that there isn't
+/// A step, with the number of the worker that tries it. All numbers are allowed: a step over an arc or of a node that doesn't exist
 /// doesn't apply.
 #[derive(Clone, Copy, Debug)]
 pub struct Event {
-    /// Who tries the step. It changes nothing of what the step does.
+    /// The worker that tries the step; it doesn't affect the outcome.
     pub worker: u32,
-    /// What is tried.
+    /// The step.
     pub step: Step,
 }
 
 const _: () = prove!(size_of::<Event>() <= 12);
 
-/// What became of an event.
+/// The outcome of an event.
 #[derive(Clone, Copy, Debug, PartialEq, Eq)]
 pub enum Outcome {
-    /// The push moved this much, in qualified references.
+    /// The push moved this amount, in qualified references.
     Moved { amount: u64 },
-    /// The node has this label now.
+    /// The new label of the node.
     Raised { label: u32 },
     /// The step doesn't apply, and nothing changed.
     Stale,
-    /// The step applies, but memory for the history was refused, and nothing changed but the mark of a share that would have counted it.
+    /// The step applies, but the history's allocation failed, and nothing changed except the flag of a share that would have counted the
+    /// step.
     Refused,
 }
 
-/// Why a preflow was not settled. The steps that were applied stay.
+/// Why a preflow didn't run to completion. The steps that were applied stay.
 #[derive(Clone, Copy)]
 pub(crate) enum SettleFault {
-    /// As many steps as were allowed were applied, and it isn't quiet.
+    /// The allowed number of steps was applied, and a node is active.
     Unfinished,
-    /// A growth of memory was refused.
+    /// An allocation failed.
     Memory,
 }

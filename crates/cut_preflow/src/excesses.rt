@@ -1,25 +1,25 @@
-//! The excess of each node, and the set of the active nodes.
+//! The excess of each node, and the set of active nodes.
 ghost use Rattle.std.specs.Prelude.{◌≡◌, ◌≢◌, ◌+◌, ◌^◌, ◌<◌, ◌≤◌, ℕ, IfOk, length, slice_index, slice_set};
 ghost use Rattle.cut_preflow.specs.Total.{total};
 ghost use Rattle.cut_preflow.specs.Preflow.{import_in, into, opening_flows};
 ghost use Rattle.cut_preflow.specs.Indexed.{AreActive, brought, carried};
 
-use crate::ends::Ends;
+use crate::discharge_order::DischargeOrder;
+use crate::ends::FlowEnds;
 use crate::node_set::NodeSet;
-use crate::tour::Tour;
 use cut_net::Priced;
 use std::alloc::{AllocError, Global};
 
-/// The excess of each node, and the active nodes.
+/// The excess of each node, and the set of active nodes.
 #[derive(Drop)]
 pub(crate) struct Excesses {
     pub(crate) each: Vec<u64>,
     pub(crate) active: NodeSet,
 }
 
-/// Writes the excess of a node. The node becomes active or not by it, where it is neither end.
+/// Sets the excess of a node, and updates whether it is active. The source and the sink never are.
 #[inline(always)]
-fn write(ends: Ends, excesses: &mut Vec<u64>, active: &mut NodeSet, node: u32, excess: u64)
+fn write(ends: FlowEnds, excesses: &mut Vec<u64>, active: &mut NodeSet, node: u32, excess: u64)
     requires node { node < ends.nodes }
     requires active { AreActive ends excesses.old.items active.old }
     ensures excesses { excesses.new.items ≡ slice_set excesses.old.items node excess }
@@ -35,9 +35,9 @@ fn write(ends: Ends, excesses: &mut Vec<u64>, active: &mut NodeSet, node: u32, e
     }
 }
 
-/// Brings an amount to a node. What comes to the source isn't counted.
+/// Adds an amount to the excess of a node, except the source's, which isn't recorded.
 pub(crate) fn add_excess(
-    ends: Ends,
+    ends: FlowEnds,
     excesses: &mut Vec<u64>,
     active: &mut NodeSet,
     node: u32,
@@ -55,9 +55,9 @@ pub(crate) fn add_excess(
     }
 }
 
-/// Carries an amount from one node to another.
+/// Moves an amount of excess from one node to another.
 pub(crate) fn move_excess(
-    ends: Ends,
+    ends: FlowEnds,
     excesses: &mut Vec<u64>,
     active: &mut NodeSet,
     from: u32,
@@ -77,8 +77,8 @@ pub(crate) fn move_excess(
     add_excess(ends, excesses, active, to, amount);
 }
 
-/// Brings to each node what the imports out of the source bring to it at the opening.
-fn saturate(ends: Ends, imports: &[Priced], excesses: &mut Vec<u64>, active: &mut NodeSet)
+/// Adds to each node the flow of the saturated imports by the source.
+fn saturate(ends: FlowEnds, imports: &[Priced], excesses: &mut Vec<u64>, active: &mut NodeSet)
     requires nodes { (i : ℕ) → i < length imports.now → (import_in imports.now i).to < ends.nodes }
     requires weights { total (length imports.now) (λ i. (import_in imports.now i).amount) < 2 ^ 64 }
     requires none { (v : ℕ) → slice_index excesses.old.items v ≡ 0 }
@@ -93,12 +93,12 @@ fn saturate(ends: Ends, imports: &[Priced], excesses: &mut Vec<u64>, active: &mu
     }
 }
 
-/// The excess of each node at the opening, and the active nodes, with their tour. Fails where memory is refused.
+/// The excess of each node in the initial preflow, and the set of active nodes, with their discharge order. Fails if an allocation fails.
 pub(crate) fn excesses_opened(
     alloc: Global,
-    ends: Ends,
+    ends: FlowEnds,
     imports: &[Priced],
-    tour: Tour,
+    discharge_order: DischargeOrder,
 ) -> Result<Excesses, AllocError>
     requires nodes { (i : ℕ) → i < length imports.now → (import_in imports.now i).to < ends.nodes }
     requires weights { total (length imports.now) (λ i. (import_in imports.now i).amount) < 2 ^ 64 }
@@ -106,7 +106,7 @@ pub(crate) fn excesses_opened(
     ensures active { IfOk result (λ e. AreActive ends e.each.items e.active) }
 {
     let mut each = vec![in alloc; 0u64; ends.nodes as usize]?;
-    let mut active = NodeSet::new(alloc, ends.nodes, tour)?;
+    let mut active = NodeSet::new(alloc, ends.nodes, discharge_order)?;
     saturate(ends, imports, &mut each, &mut active);
     Ok(Excesses { each, active })
 }

@@ -1,19 +1,19 @@
-//! The imports of a network with the flow on each, as a residual graph.
+//! The imports of a network with their flow, as a residual graph.
 ghost use Rattle.std.specs.Prelude.{◌≡◌, ◌+◌, ◌-◌, ◌*◌, ◌/◌, ◌^◌, ◌<◌, ◌≤◌, ℕ, All, Contains, IfOk, if◌then◌else◌, length, map, slice_index, slice_set};
-ghost use Rattle.cut_residual.specs.declared.arc.ResidualArc.{ResidualArc};
+ghost use Rattle.residual_graph.specs.declared.arc.ResidualArc.{ResidualArc};
 ghost use Rattle.cut_preflow.specs.Total.{total};
 ghost use Rattle.cut_preflow.specs.FlowGraphs.{IsArcFrom, arcs_opened, arc_number, out_arc_number};
 ghost use Rattle.cut_preflow.specs.Side.{IsReach};
 ghost use Rattle.cut_preflow.specs.Preflow.{import_in, into, is_forward, opening_flows, out_of, tail_in, head_in, residual_in};
 
-use crate::ends::Ends;
+use crate::ends::FlowEnds;
 use crate::sums::excess;
 use cut_net::Priced;
-use cut_residual::{Arc, OutArc, ResidualArc, ResidualGraph, order_of, search};
+use residual_graph::{Arc, OutArc, ResidualArc, ResidualGraph, search, topological_order};
 use std::alloc::{AllocError, Global};
 use std::marker::Model;
 
-/// The residual graph of a network's imports. Contracts see how many nodes there are, the imports, and the flow on each.
+/// The residual graph of a network's imports. Its specification is the number of nodes, the imports, and the flow on each.
 #[derive(Drop)]
 pub(crate) struct FlowGraph {
     graph: ResidualGraph,
@@ -30,7 +30,7 @@ impl Model for FlowGraph {
     ghost invariant = { λ f. length f.graph.arcs ≤ 65536 };
 }
 
-/// The arcs of the opening: those of the imports out of the source are saturated.
+/// The arcs of the initial preflow: those of the imports by the source are saturated.
 fn arcs_opened(alloc: Global, source: u32, imports: &[Priced]) -> Result<Vec<Arc>, AllocError>
     ensures { IfOk result (λ arcs. arcs.items ≡ arcs_opened source imports.now) }
 {
@@ -65,10 +65,10 @@ pub(crate) fn arc_number(step: ResidualArc) -> u32
 }
 
 impl FlowGraph {
-    /// The imports out of the source carry their weight, and the others nothing. Fails where memory is refused.
+    /// The initial preflow: imports by the source are saturated, and the others have flow 0. Fails if an allocation fails.
     pub(crate) fn opened(
         alloc: Global,
-        ends: Ends,
+        ends: FlowEnds,
         imports: &[Priced],
     ) -> Result<FlowGraph, AllocError>
         requires between { (i : ℕ) → i < length imports.now → ((import_in imports.now i).from < ends.nodes) × ((import_in imports.now i).to < ends.nodes) }
@@ -80,14 +80,14 @@ impl FlowGraph {
         Ok(FlowGraph { graph })
     }
 
-    /// The nodes in an order along the imports.
+    /// The nodes in topological order.
     pub(crate) fn order(&self, alloc: Global) -> Result<Vec<u32>, AllocError>
         ensures { IfOk result (λ order. All (λ v. v < self.now.nodes) order.items) }
     {
-        order_of(alloc, &self.graph)
+        topological_order(alloc, &self.graph)
     }
 
-    /// How many imports there are.
+    /// The number of imports.
     pub(crate) fn count(&self) -> usize
         ensures is { result ≡ length self.now.imports }
         ensures few { result ≤ 65536 }
@@ -103,7 +103,7 @@ impl FlowGraph {
         self.graph.arcs()[import as usize].flow
     }
 
-    /// The node that an arc leads from.
+    /// The tail of an arc.
     pub(crate) fn tail(&self, arc: u32) -> u32
         requires { arc / 2 < length self.now.imports }
         ensures { result ≡ tail_in self.now.imports arc }
@@ -111,7 +111,7 @@ impl FlowGraph {
         self.graph.tail(step_of(arc))
     }
 
-    /// The node that an arc leads to.
+    /// The head of an arc.
     pub(crate) fn head(&self, arc: u32) -> u32
         requires { arc / 2 < length self.now.imports }
         ensures { result ≡ head_in self.now.imports arc }
@@ -119,7 +119,7 @@ impl FlowGraph {
         self.graph.head(step_of(arc))
     }
 
-    /// How much more an arc can carry.
+    /// The residual capacity of an arc.
     pub(crate) fn residual(&self, arc: u32) -> u64
         requires { arc / 2 < length self.now.imports }
         ensures { result ≡ residual_in self.now.imports self.now.flow arc }
@@ -127,7 +127,7 @@ impl FlowGraph {
         self.graph.residual(step_of(arc))
     }
 
-    /// The arcs that leave from a node, each with its head and what is left of it: one run of memory.
+    /// The arcs of a node, each with its head and residual capacity, as one slice.
     pub(crate) fn outs_from(&self, node: u32) -> &[OutArc]
         requires { node < self.now.nodes }
         ensures each { All (IsArcFrom self.now node) result.now }
@@ -136,7 +136,7 @@ impl FlowGraph {
         self.graph.residual_arcs(node)
     }
 
-    /// Sends an amount over an arc that has as much left.
+    /// Sends an amount, at most the residual capacity, over an arc.
     pub(crate) fn send(&mut self, arc: u32, amount: u64)
         requires known { arc / 2 < length self.old.imports }
         requires left { amount ≤ residual_in self.old.imports self.old.flow arc }
@@ -145,17 +145,17 @@ impl FlowGraph {
         self.graph.send(step_of(arc), amount);
     }
 
-    /// Marks all that the source reaches by arcs with something left. Fails where memory is refused.
+    /// Flags the nodes that the source reaches by arcs with residual capacity. Fails if an allocation fails.
     pub(crate) fn reach(&self, alloc: Global, source: u32) -> Result<Vec<bool>, AllocError>
         requires { source < self.now.nodes }
-        ensures size { IfOk result (λ marks. length marks.items ≡ self.now.nodes) }
-        ensures reach { IfOk result (λ marks. IsReach self.now.imports self.now.flow source marks.items) }
+        ensures size { IfOk result (λ bits. length bits.items ≡ self.now.nodes) }
+        ensures reach { IfOk result (λ bits. IsReach self.now.imports self.now.flow source bits.items) }
     {
         let found = search(alloc, &self.graph, source)?;
-        Ok(found.seen)
+        Ok(found.reached_flags)
     }
 
-    /// What enters a node less what leaves it, and 0 where more leaves it; summed over all imports.
+    /// The inflow of a node less its outflow, 0 if that is negative. Sums over all imports.
     pub(crate) fn excess(&self, node: u32) -> u64
         requires { total (length self.now.flow) (λ i. slice_index self.now.flow i) < 2 ^ 64 }
         ensures { result ≡ into self.now.imports self.now.flow node - out_of self.now.imports self.now.flow node }

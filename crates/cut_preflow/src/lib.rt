@@ -1,21 +1,23 @@
-//! Preflows on a network: pushes and relabels one event at a time, with the events that were applied kept as a history.
-//! Stands on `cut_net`, on `cut_residual` for its residual graph, and on `cut_part` for what a greatest flow is.
-//! Its contract: the state is the run of a legal history, whatever events came, and each step is counted in one share; once quiet, its flow and its side are those of cuts.
+//! Push-relabel on a network (Goldberg and Tarjan 1988), one event at a time, with the history of the applied events. Nodes are
+//! discharged in topological order.
+//! Depends on `cut_net` for networks, `residual_graph` for residual graphs, and `cut_part` for maximum flows.
+//! The main calls are `Preflow::start`, `apply` and `settle`. The state is the run of a legal history for every schedule, and each step
+//! is counted in one share; without an active node the flow is maximum, and `side` is the minimal source side.
 #![tactic(auto)]
 
 mod admissible;
+mod bits;
+mod discharge_order;
 mod ends;
 mod event;
 mod excesses;
 mod flow_graph;
 pub mod laws;
-mod marks;
 mod node_set;
 mod preflow;
 mod preflow_core;
 mod share;
 mod sums;
-mod tour;
 
 pub use event::{Event, Outcome, Step};
 pub use preflow::Preflow;

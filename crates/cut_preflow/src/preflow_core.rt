@@ -1,31 +1,31 @@
-//! A preflow with its history, before its steps are counted.
+//! Preflows with their history, without ledger.
 ghost use Rattle.std.specs.Prelude.{◌≡◌, ◌≢◌, ◌+◌, ◌*◌, ◌/◌, ◌<◌, ◌≤◌, ◌↔◌, ℕ, true, false, All, IfOk, IfSome, IsNone, Contains, length, map, replicate, slice_set, []};
 ghost use Rattle.cut_preflow.specs.Preflow.{count, head, import_at, residual, tail, flow_at, label_at, excess, inflow, outflow, is_active, applies, after, opening, is_legal};
 ghost use Rattle.cut_preflow.specs.FlowGraphs.{IsArcFrom, out_arc_number};
 ghost use Rattle.cut_preflow.specs.Kept.{IsFlowNetwork, IsQuiet};
-ghost use Rattle.cut_preflow.specs.Bound.{most_changes};
-ghost use Rattle.cut_preflow.specs.Flows.{AreEnds, AreNear, AreReached, HasFlow, IsShutOff, network_between};
+ghost use Rattle.cut_preflow.specs.Bound.{max_steps};
+ghost use Rattle.cut_preflow.specs.Flows.{AreEnds, AreSourceSide, AreReached, HasFlow, IsShutOff, network_between};
 ghost use Rattle.cut_preflow.specs.Side.{has};
 ghost use Rattle.cut_preflow.specs.Trace.{carried_in, state_of, step_outcome, history_after, IsSound, IsWithinLimits, flow_network};
 
-use crate::ends::Ends;
+use crate::discharge_order::DischargeOrder;
+use crate::ends::FlowEnds;
 use crate::excesses::{excesses_opened, move_excess};
 use crate::flow_graph::FlowGraph;
 use crate::node_set::NodeSet;
-use crate::tour::Tour;
 use crate::{Event, Outcome, Step};
 use cut_net::{Net, Priced};
-use cut_residual::{CurrentArcs, OutArc};
+use residual_graph::{CurrentArcs, OutArc};
 use std::alloc::{AllocError, Global};
 use std::marker::Model;
 
-/// A preflow on a network between two of its modules (Goldberg and Tarjan 1988, section 3): a flow for each import and a label for each
-/// module, with the events that were applied. Contracts see the network and the events: flows and labels are what these lead to.
-/// The imports and their flows are a residual graph, in which the arcs of a node stand together, so a step goes over these alone. It also
-/// has the excess of each node but the source, the nodes that are active with the tour of their turns, and the current arc of each node.
+/// A preflow on a network between two of its modules (Goldberg and Tarjan 1988, section 3): a flow for each import, a label for each
+/// module, and the applied events. Its specification is the network and the events, which determine flows and labels. The imports with
+/// their flows are a residual graph, in which the arcs of a node are adjacent. For speed it also has the excess of each node but the
+/// source, the set of active nodes with their discharge order, and the current arc of each node.
 #[derive(Drop)]
 pub(crate) struct PreflowCore {
-    ends: Ends,
+    ends: FlowEnds,
     graph: FlowGraph,
     labels: Vec<u32>,
     history: Vec<Event>,
@@ -45,8 +45,8 @@ impl Model for PreflowCore {
     ghost invariant = { λ p. IsTrace (flow_network p.ends p.graph.imports) p.graph.flow p.labels.items p.history.items × IsIndexed (flow_network p.ends p.graph.imports) (state_with p.graph.flow p.labels.items) p.graph.nodes p.excesses.items p.active };
 }
 
-/// The labels of the opening: the source's is the number of nodes.
-fn opening_labels(alloc: Global, ends: Ends) -> Result<Vec<u32>, AllocError>
+/// The initial labels: the number of nodes for the source, 0 for the others.
+fn opening_labels(alloc: Global, ends: FlowEnds) -> Result<Vec<u32>, AllocError>
     requires { ends.source < ends.nodes }
     ensures { IfOk result (λ labels. labels.items ≡ slice_set (replicate ends.nodes 0) ends.source ends.nodes) }
 {
@@ -55,8 +55,8 @@ fn opening_labels(alloc: Global, ends: Ends) -> Result<Vec<u32>, AllocError>
     Ok(labels)
 }
 
-/// The opening, before it is any node's turn.
-fn before_turns(alloc: Global, ends: Ends, imports: Vec<Priced>) -> Result<PreflowCore, AllocError>
+/// The initial preflow, before the discharge order is advanced.
+fn new_core(alloc: Global, ends: FlowEnds, imports: Vec<Priced>) -> Result<PreflowCore, AllocError>
     requires network { IsFlowNetwork (flow_network ends imports.items) }
     requires limits { IsWithinLimits (flow_network ends imports.items) }
     ensures { IfOk result (λ p. p ≡ record { net = flow_network ends imports.items; history = [] }) }
@@ -64,8 +64,8 @@ fn before_turns(alloc: Global, ends: Ends, imports: Vec<Priced>) -> Result<Prefl
     let graph = FlowGraph::opened(alloc, ends, imports.as_slice())?;
     let labels = opening_labels(alloc, ends)?;
     let order = graph.order(alloc)?;
-    let tour = Tour::through(alloc, order, ends.nodes)?;
-    let excesses = excesses_opened(alloc, ends, imports.as_slice(), tour)?;
+    let discharge_order = DischargeOrder::through(alloc, order, ends.nodes)?;
+    let excesses = excesses_opened(alloc, ends, imports.as_slice(), discharge_order)?;
     let current = CurrentArcs::new(alloc, ends.nodes)?;
     Ok(PreflowCore {
         ends,
@@ -78,24 +78,24 @@ fn before_turns(alloc: Global, ends: Ends, imports: Vec<Priced>) -> Result<Prefl
     })
 }
 
-/// The opening on a network of nodes, whose imports stand in any order.
+/// The initial preflow on these nodes and imports, which may be in any order.
 pub(crate) fn opening(
     alloc: Global,
-    ends: Ends,
+    ends: FlowEnds,
     imports: Vec<Priced>,
 ) -> Result<PreflowCore, AllocError>
     requires network { IsFlowNetwork (flow_network ends imports.items) }
     requires limits { IsWithinLimits (flow_network ends imports.items) }
     ensures { IfOk result (λ p. p ≡ record { net = flow_network ends imports.items; history = [] }) }
 {
-    let mut preflow = before_turns(alloc, ends, imports)?;
-    preflow.go_on();
+    let mut preflow = new_core(alloc, ends, imports)?;
+    preflow.advance();
     Ok(preflow)
 }
 
 impl PreflowCore {
-    /// The opening between two different modules: the imports out of `from` carry their weight, and its label is the number of
-    /// modules. Fails where memory is refused.
+    /// The initial preflow between two different modules: the imports by `from` are saturated, and its label is the number of modules.
+    /// Fails if an allocation fails.
     pub(crate) fn start(
         alloc: Global,
         net: &Net,
@@ -105,9 +105,9 @@ impl PreflowCore {
         requires { AreEnds net.now from to }
         ensures { IfOk result (λ p. p ≡ record { net = network_between net.now from to; history = [] }) }
     {
-        net.keeps();
+        net.invariants();
         let imports = net.imports().to_vec(alloc)?;
-        let ends = Ends {
+        let ends = FlowEnds {
             nodes: net.nodes(),
             source: from,
             sink: to,
@@ -115,8 +115,8 @@ impl PreflowCore {
         opening(alloc, ends, imports)
     }
 
-    /// Tries an event: a step that applies is taken, and the event joins the history. Answers what it moved or the new label, Stale where
-    /// the step doesn't apply, and Refused where memory for the history was refused; then nothing changed.
+    /// Tries an event: applies its step and appends it to the history, if the step applies. Returns the moved amount or the new label;
+    /// `Stale` if the step doesn't apply; `Refused` if the history's allocation fails, and nothing changes then.
     pub(crate) fn apply(&mut self, event: Event) -> Outcome
         ensures stale { (result ≡ Outcome.Stale) ↔ (applies self.old.net (state_of self.old) event.step ≡ false) }
         ensures outcome { result ≢ Outcome.Refused → result ≡ step_outcome self.old.net (state_of self.old) event.step }
@@ -124,11 +124,11 @@ impl PreflowCore {
         ensures state { result ≢ Outcome.Refused → state_of self.new ≡ after self.old.net (state_of self.old) event.step }
     {
         let outcome = self.take(event);
-        self.go_on();
+        self.advance();
         outcome
     }
 
-    /// The same, with the turn left as it is.
+    /// As `apply`, without advancing the discharge order.
     fn take(&mut self, event: Event) -> Outcome
         ensures stale { (result ≡ Outcome.Stale) ↔ (applies self.old.net (state_of self.old) event.step ≡ false) }
         ensures outcome { result ≢ Outcome.Refused → result ≡ step_outcome self.old.net (state_of self.old) event.step }
@@ -141,14 +141,14 @@ impl PreflowCore {
         }
     }
 
-    /// Goes on to an active node's turn, if there is one.
-    fn go_on(&mut self)
+    /// Advances the discharge order to an active node, if there is one.
+    fn advance(&mut self)
         ensures { self.new ≡ self.old }
     {
-        self.active.go_on();
+        self.active.advance();
     }
 
-    /// After a push over an arc of a node, passes arcs of the node.
+    /// Advances the current arc of a node after a push over one of its arcs.
     fn pass_arcs(&mut self, node: u32, arc: u32)
         requires { node < self.old.net.nodes }
         ensures { self.new ≡ self.old }
@@ -157,16 +157,16 @@ impl PreflowCore {
         self.current.pass(node, passed);
     }
 
-    /// How many arcs of a node were passed since its last relabel, by their order.
+    /// The index of the node's current arc.
     pub(crate) fn passed(&self, node: u32) -> usize {
         self.current.passed(node)
     }
 
-    /// The node whose turn it is, where it is active.
-    fn turn(&self) -> Option<u32>
+    /// The current node of the discharge order, if it is active.
+    fn scheduled_node(&self) -> Option<u32>
         ensures { IfSome result (λ v. is_active self.now.net (state_of self.now) v ≡ true) }
     {
-        let node = self.active.turn()?;
+        let node = self.active.scheduled_node()?;
         if self.is_active(node) {
             Some(node)
         } else {
@@ -174,13 +174,13 @@ impl PreflowCore {
         }
     }
 
-    /// An active node: the one whose turn it is, if it is one's.
-    pub(crate) fn next_node(&self) -> Option<u32>
+    /// An active node: the current one of the discharge order, if that is active.
+    pub(crate) fn choose_node(&self) -> Option<u32>
         ensures some { IfSome result (λ v. is_active self.now.net (state_of self.now) v ≡ true) }
         ensures none { IsNone result ↔ IsQuiet self.now.net (state_of self.now) }
     {
         let other = self.active()?;
-        match self.turn() {
+        match self.scheduled_node() {
             Some(node) => Some(node),
             None => Some(other),
         }
@@ -188,9 +188,9 @@ impl PreflowCore {
 }
 
 impl PreflowCore {
-    /// What every preflow keeps: each flow is within its import's weight, no module but the source sends out more than enters it, the
-    /// labelling is valid, and labels stay below twice the number of modules. And once quiet, the flow is a flow of the network.
-    pub(crate) fn keeps(&self)
+    /// The invariant of a preflow: no flow exceeds its import's weight, no module but the source has more outflow than inflow, the
+    /// labelling is valid, and labels are below twice the number of modules. If no node is active, the flow is a flow of the network.
+    pub(crate) fn invariants(&self)
         ensures sound { IsSound self.now.net (state_of self.now) }
         ensures flow { IsQuiet self.now.net (state_of self.now) → HasFlow self.now.net (state_of self.now) }
         ensures shut { IsQuiet self.now.net (state_of self.now) → IsShutOff self.now.net (state_of self.now) }
@@ -199,11 +199,11 @@ impl PreflowCore {
         let _ = &self.labels;
     }
 
-    /// The events that were applied, in order, each at a place where it applies. They are never more than the bound.
+    /// The applied events, in order; each applied to the state of its predecessors. Their number is bounded.
     pub(crate) fn history(&self) -> &[Event]
         ensures events { result.now ≡ self.now.history }
         ensures legal { is_legal self.now.net (opening self.now.net) self.now.history ≡ true }
-        ensures few { length self.now.history ≤ most_changes self.now.net }
+        ensures few { length self.now.history ≤ max_steps self.now.net }
     {
         self.history.as_slice()
     }
@@ -226,8 +226,8 @@ impl PreflowCore {
         self.graph.flow(import)
     }
 
-    /// The excess of a node: what enters it less what leaves it. Of the source, 0 where more leaves it than enters it; it isn't kept, but
-    /// summed over all imports.
+    /// The excess of a node: its inflow less its outflow. For the source it is 0 if that is negative; it isn't stored, but summed over
+    /// all imports.
     pub(crate) fn excess(&self, node: u32) -> u64
         requires { node < self.now.net.nodes }
         ensures value { result ≡ excess self.now.net (state_of self.now) node }
@@ -240,8 +240,8 @@ impl PreflowCore {
         }
     }
 
-    /// How many nodes there are, and the two ends.
-    pub(crate) fn ends(&self) -> Ends
+    /// The number of nodes, and the source and the sink.
+    pub(crate) fn ends(&self) -> FlowEnds
         ensures nodes { result.nodes ≡ self.now.net.nodes }
         ensures source { result.source ≡ self.now.net.source }
         ensures sink { result.sink ≡ self.now.net.sink }
@@ -249,14 +249,14 @@ impl PreflowCore {
         self.ends
     }
 
-    /// How many imports there are.
+    /// The number of imports.
     pub(crate) fn count(&self) -> usize
         ensures { result ≡ count self.now.net }
     {
         self.graph.count()
     }
 
-    /// The arcs that leave from a node, each with its head and what is left of it.
+    /// The arcs of a node, each with its head and residual capacity.
     pub(crate) fn outs_from(&self, node: u32) -> &[OutArc]
         requires { node < self.now.net.nodes }
         ensures each { All (IsArcFrom (carried_in self.now.net (state_of self.now)) node) result.now }
@@ -266,7 +266,7 @@ impl PreflowCore {
         self.graph.outs_from(node)
     }
 
-    /// The node that an arc leads from.
+    /// The tail of an arc.
     pub(crate) fn tail(&self, arc: u32) -> u32
         requires { arc / 2 < count self.now.net }
         ensures value { result ≡ tail self.now.net arc }
@@ -275,7 +275,7 @@ impl PreflowCore {
         self.graph.tail(arc)
     }
 
-    /// The node that an arc leads to.
+    /// The head of an arc.
     pub(crate) fn head(&self, arc: u32) -> u32
         requires { arc / 2 < count self.now.net }
         ensures value { result ≡ head self.now.net arc }
@@ -284,7 +284,7 @@ impl PreflowCore {
         self.graph.head(arc)
     }
 
-    /// How much more an arc can carry.
+    /// The residual capacity of an arc.
     pub(crate) fn residual(&self, arc: u32) -> u64
         requires { arc / 2 < count self.now.net }
         ensures { result ≡ residual self.now.net (state_of self.now) arc }
@@ -292,7 +292,7 @@ impl PreflowCore {
         self.graph.residual(arc)
     }
 
-    /// Whether a node other than the two ends has excess.
+    /// Whether a node other than the source and the sink has excess.
     pub(crate) fn is_active(&self, node: u32) -> bool
         ensures value { result ≡ is_active self.now.net (state_of self.now) node }
         ensures low { result ≡ true → node < self.now.net.nodes }
@@ -303,16 +303,16 @@ impl PreflowCore {
             && self.excesses[node as usize] > 0
     }
 
-    /// As many steps as can be applied: 4n²m + 2nm + 4n² for n modules and m imports.
+    /// The bound on applied steps: 4n²m + 2nm + 4n² for n modules and m imports.
     pub(crate) fn most_steps(&self) -> u64
-        ensures { result ≡ most_changes self.now.net }
+        ensures { result ≡ max_steps self.now.net }
     {
-        self.keeps();
+        self.invariants();
         let (nodes, imports) = (u64::from(self.ends.nodes), self.graph.count() as u64);
         4 * nodes * nodes * imports + 2 * nodes * imports + 4 * nodes * nodes
     }
 
-    /// A node with excess that is neither end, if there is one.
+    /// A node other than the source and the sink that has excess, if there is one.
     pub(crate) fn active(&self) -> Option<u32>
         ensures some { IfSome result (λ v. is_active self.now.net (state_of self.now) v ≡ true) }
         ensures none { IsNone result ↔ IsQuiet self.now.net (state_of self.now) }
@@ -320,18 +320,19 @@ impl PreflowCore {
         self.active.last()
     }
 
-    /// Marks what the source reaches by arcs with residual above 0. Once quiet, these are the near modules, and the sink is none of them.
+    /// Flags the nodes that the source reaches by arcs with residual capacity. If no node is active, they are the minimal source side,
+    /// and the sink isn't one of them.
     pub(crate) fn side(&self) -> Result<Vec<bool>, AllocError>
         ensures size { IfOk result (λ m. length m.items ≡ self.now.net.nodes) }
         ensures reached { IfOk result (λ m. AreReached self.now.net (state_of self.now) m.items) }
-        ensures near { IsQuiet self.now.net (state_of self.now) → IfOk result (λ m. AreNear self.now.net m.items) }
+        ensures near { IsQuiet self.now.net (state_of self.now) → IfOk result (λ m. AreSourceSide self.now.net m.items) }
         ensures end { IsQuiet self.now.net (state_of self.now) → IfOk result (λ m. has m.items self.now.net.sink ≡ false) }
     {
-        self.keeps();
+        self.invariants();
         self.graph.reach(*self.labels.allocator(), self.ends.source)
     }
 
-    /// Pushes over an arc, where that applies.
+    /// Pushes over an arc, if that applies.
     fn push(&mut self, event: Event, arc: u32) -> Outcome
         requires { event.step ≡ Step.Push arc }
         ensures outcome { result ≢ Outcome.Refused → result ≡ step_outcome self.old.net (state_of self.old) event.step }
@@ -359,7 +360,7 @@ impl PreflowCore {
         Outcome::Moved { amount }
     }
 
-    /// Raises the label of a node, where that applies.
+    /// Relabels a node, if that applies.
     fn relabel(&mut self, event: Event, node: u32) -> Outcome
         requires { event.step ≡ Step.Relabel node }
         ensures outcome { result ≢ Outcome.Refused → result ≡ step_outcome self.old.net (state_of self.old) event.step }

@@ -1,4 +1,4 @@
-//! The shares of a preflow's ledger, and the ledger that names the preflow's network.
+//! Shares of a preflow's ledger, and the ledger that names the network.
 
 ghost use Rattle.std.specs.Prelude.{◌≡◌};
 
@@ -6,30 +6,29 @@ use std::marker::{Brand, Model};
 use std::sync::ledger;
 use std::sync::ledger::Ledger;
 
-/// How many parts the ledger of a preflow has: one for each share that may be out, and the preflow's own.
+/// The number of parts of a preflow's ledger: one for each share that may be out, and one for the preflow's own share.
 pub const PARTS: u64 = 65;
 
-/// How many shares may be out at a time.
+/// The largest number of shares that may be out at a time.
 pub(crate) const MOST_SHARES: u32 = 64;
 
-/// The ledger of a preflow's steps. It names the network between two modules that the preflow is on, so a preflow of another
-/// network has another type. A ledger is picked where a function over it is called at `Brand` with a new `Blank` of 65 parts; the
-/// proofs of that call name the network.
+/// The ledger of a preflow's steps. It names the network between two modules that the preflow is on, so preflows of different networks
+/// have different types. A ledger is chosen by a call at `Brand` with a new `Blank` of 65 parts, whose proofs name the network.
 pub trait NetworkLedger: Ledger {
     ghost use Rattle.cut_preflow.specs.Preflow.{FlowNetwork};
 
     ghost net: { FlowNetwork };
 }
 
-/// Stands in where a call picks the ledger. Its own network is never used.
+/// The placeholder for a call that chooses the ledger. Its own network is never used.
 impl NetworkLedger for Brand {
     ghost use Rattle.std.specs.Prelude.{[]};
 
     ghost net = { record { nodes = 0; imports = []; source = 0; sink = 0 } };
 }
 
-/// The steps of one worker, and a mark that it may stop: it saw that the preflow is quiet, or had a step refused. It belongs to the
-/// preflow of its ledger, and has one part of it.
+/// The steps of one worker, and a flag that it may stop, since it saw no active node or had an event with outcome `Refused`. It belongs
+/// to the preflow of its ledger, and has one of its parts.
 #[derive(Drop)]
 pub struct Share<L: Ledger> {
     pub(crate) part: ledger::Share<L>,
@@ -49,15 +48,17 @@ impl<L: Ledger> Model for Share<L> {
 }
 
 impl<L: Ledger> Share<L> {
-    /// How many steps are counted in it.
+    /// The number of counted steps.
     pub fn count(&self) -> u64
+        // It is the number of counted steps.
         ensures { result ≡ self.now.count }
     {
         self.count
     }
 
-    /// Whether its worker saw that the preflow is quiet, or had a step refused.
+    /// Whether the share is flagged: its worker saw no active node, or had an event with outcome `Refused`.
     pub fn is_marked(&self) -> bool
+        // It is the flag.
         ensures { result ≡ self.now.marked }
     {
         self.marked

@@ -1,12 +1,12 @@
-//! Sums of flows over arcs.
+//! Inflow, outflow and excess of a node.
 ghost use Rattle.std.specs.Prelude.{◌≡◌, ◌-◌, ◌^◌, ◌<◌, length, slice_index};
 ghost use Rattle.cut_preflow.specs.Total.{total};
 ghost use Rattle.cut_preflow.specs.FlowGraphs.{flows_of, imports_of};
 ghost use Rattle.cut_preflow.specs.Preflow.{into, out_of};
 
-use cut_residual::Arc;
+use residual_graph::Arc;
 
-/// What enters a node.
+/// The inflow of a node.
 fn inflow(arcs: &[Arc], node: u32) -> u64
     requires { total (length arcs.now) (λ i. slice_index (flows_of arcs.now) i) < 2 ^ 64 }
     ensures { result ≡ into (imports_of arcs.now) (flows_of arcs.now) node }
@@ -20,7 +20,7 @@ fn inflow(arcs: &[Arc], node: u32) -> u64
     sum
 }
 
-/// What leaves a node.
+/// The outflow of a node.
 fn outflow(arcs: &[Arc], node: u32) -> u64
     requires { total (length arcs.now) (λ i. slice_index (flows_of arcs.now) i) < 2 ^ 64 }
     ensures { result ≡ out_of (imports_of arcs.now) (flows_of arcs.now) node }
@@ -34,7 +34,7 @@ fn outflow(arcs: &[Arc], node: u32) -> u64
     sum
 }
 
-/// What enters a node less what leaves it, and 0 where more leaves it.
+/// The inflow of a node less its outflow, 0 if that is negative.
 pub(crate) fn excess(arcs: &[Arc], node: u32) -> u64
     requires { total (length arcs.now) (λ i. slice_index (flows_of arcs.now) i) < 2 ^ 64 }
     ensures { result ≡ into (imports_of arcs.now) (flows_of arcs.now) node - out_of (imports_of arcs.now) (flows_of arcs.now) node }

@@ -4,23 +4,23 @@ use Rattle.std.specs.Option.{ok_or}
 use Rattle.cut_net.specs.Network.{Network, index_of}
 use Rattle.cut_report.specs.declared.fault.ReportLineFault.{ReportLineFault}
 use Rattle.cut_report.specs.declared.fault.ReportLineFault.TheVariants as faults
-use Rattle.cut_report.specs.Drafts.{◌>>=◌, chain_of}
+use Rattle.cut_report.specs.Builders.{◌>>=◌, chain_of}
 
 module _ (net : Network) where
   itself : (r : Result (List ℕ) ReportLineFault) → r ≡ (r >>= λ back. Ok back)
   itself (Ok x) = refl
   itself (Err e) = refl
 
-  inner : (m : ℕ) (r s : Result (List ℕ) ReportLineFault) → ((r >>= λ front. s >>= λ back. Ok (front ++ back)) >>= λ more. Ok (m ∷ more)) ≡ ((r >>= λ more. Ok (m ∷ more)) >>= λ front. s >>= λ back. Ok (front ++ back))
+  inner : (m : ℕ) (r s : Result (List ℕ) ReportLineFault) → ((r >>= λ prefix. s >>= λ back. Ok (prefix ++ back)) >>= λ more. Ok (m ∷ more)) ≡ ((r >>= λ more. Ok (m ∷ more)) >>= λ prefix. s >>= λ back. Ok (prefix ++ back))
   inner m (Ok f) (Ok b) = refl
   inner m (Ok f) (Err e) = refl
   inner m (Err e) s = refl
 
-  chain_append : (xs ys : List (List ℕ)) → chain_of net (xs ++ ys) ≡ (chain_of net xs >>= λ front. chain_of net ys >>= λ back. Ok (front ++ back))
+  chain_append : (xs ys : List (List ℕ)) → chain_of net (xs ++ ys) ≡ (chain_of net xs >>= λ prefix. chain_of net ys >>= λ back. Ok (prefix ++ back))
   chain_append [] ys = itself (chain_of net ys)
   chain_append (x ∷ xs) ys = go (chain_append xs ys) (index_of net x)
     where
-      go : chain_of net (xs ++ ys) ≡ (chain_of net xs >>= λ front. chain_of net ys >>= λ back. Ok (front ++ back)) → (o : Option ℕ) → (ok_or o faults.UnknownName >>= λ m. chain_of net (xs ++ ys) >>= λ more. Ok (m ∷ more)) ≡ ((ok_or o faults.UnknownName >>= λ m. chain_of net xs >>= λ more. Ok (m ∷ more)) >>= λ front. chain_of net ys >>= λ back. Ok (front ++ back))
+      go : chain_of net (xs ++ ys) ≡ (chain_of net xs >>= λ prefix. chain_of net ys >>= λ back. Ok (prefix ++ back)) → (o : Option ℕ) → (ok_or o faults.UnknownName >>= λ m. chain_of net (xs ++ ys) >>= λ more. Ok (m ∷ more)) ≡ ((ok_or o faults.UnknownName >>= λ m. chain_of net xs >>= λ more. Ok (m ∷ more)) >>= λ prefix. chain_of net ys >>= λ back. Ok (prefix ++ back))
       go rest None = refl
       go rest (Some m) = rw rest (inner m (chain_of net xs) (chain_of net ys))
 

@@ -8,14 +8,14 @@ use Rattle.std.proofs.lemmas.List.Elements.{All-cons, All-head, All-nil, All-tai
 use Rattle.cut_net.specs.declared.priced.Priced.{Priced}
 use Rattle.cut_net.specs.Network.{Network, name_of, index_of}
 use Rattle.cut_net.specs.WellFormed.{IsNetwork}
-use Rattle.cut_net.specs.Said.{Said, CutOf, BlockedBy}
+use Rattle.cut_net.specs.AnswerClaim.{AnswerClaim, CutOf, BlockedBy}
 use Rattle.cut_report.specs.ReportClaim.{ReportClaim}
 use Rattle.cut_report.specs.ReportText.{IsReport, IsSayable, MaySay}
 use Rattle.cut_report.specs.ReportLine.{ReportLine, Ends, Weighs, Removes, Flows, Blocks, Last}
 use Rattle.texts.specs.Fields.{is_name}
-use Rattle.cut_report.specs.ReportLines.{IsKnownName, may_follow, is_above, IsGoodAfter, AreGoodAfter, last_of}
+use Rattle.cut_report.specs.ReportLines.{IsModuleName, may_follow, is_above, IsGoodAfter, AreGoodAfter, last_of}
 use Rattle.cut_net.proofs.Places.{index_again}
-use Rattle.cut_report.specs.ReportLine.{removes, flows, said_lines, front_lines, entry_lines}
+use Rattle.cut_report.specs.ReportLine.{removes, flows, answer_lines, leading_lines, entry_lines}
 use Rattle.cut_report.proofs.NameOrder.{AreIn, apart, name_known}
 use Rattle.cut_report.proofs.ImportLines.{FitsWord, FitsFlow, IsRun, IsFirst, flow_lines, remove_lines, run_good, good_run, good_after, run_from, run_fits, run_between, run_ascends, named_in, name_is}
 
@@ -73,17 +73,17 @@ chain_named net [] w h = refl
 chain_named net (m ∷ chain) w h =
     and_from _ _ (name_is net m w (All-head (λ m. m < length net.names) m chain h)) (chain_named net chain w (All-tail (λ m. m < length net.names) m chain h))
 
-chain_known : (net : Network) (chain : List ℕ) → All (λ m. m < length net.names) chain → All (IsKnownName net) (map (name_of net) chain)
-chain_known net [] h = All-nil (IsKnownName net)
+chain_known : (net : Network) (chain : List ℕ) → All (λ m. m < length net.names) chain → All (IsModuleName net) (map (name_of net) chain)
+chain_known net [] h = All-nil (IsModuleName net)
 chain_known net (m ∷ chain) h =
-    All-cons (IsKnownName net) (name_of net m) (map (name_of net) chain) (name_known net m (All-head (λ m. m < length net.names) m chain h))
+    All-cons (IsModuleName net) (name_of net m) (map (name_of net) chain) (name_known net m (All-head (λ m. m < length net.names) m chain h))
     (chain_known net chain (All-tail (λ m. m < length net.names) m chain h))
 
 named_chain : (net : Network) (chain : List ℕ) → list_all is_name (map (name_of net) chain) ≡ true → All (λ m. m < length net.names) chain
 named_chain net [] e = All-nil (λ m. m < length net.names)
 named_chain net (m ∷ chain) e = let p = and_parts _ _ e in All-cons (λ m. m < length net.names) m chain (named_in net m p.0) (named_chain net chain p.1)
 
-said_good : (net : Network) (s : Said) (ends : ReportLine) → IsNetwork net → may_follow (Some ends) (Weighs 0) ≡ true → MaySay net s → AreGoodAfter net (Some ends) (said_lines net s ++ Last ∷ [])
+said_good : (net : Network) (s : AnswerClaim) (ends : ReportLine) → IsNetwork net → may_follow (Some ends) (Weighs 0) ≡ true → MaySay net s → AreGoodAfter net (Some ends) (answer_lines net s ++ Last ∷ [])
 said_good net (CutOf total printed flow) (Ends m n) w f s =
     let runs = both_fit total net printed flow s in
     let lines : List ReportLine = map (removes net) printed ++ map (flows net) flow in
@@ -108,10 +108,10 @@ said_good net s Last w f may = absurd cc
 pub report_good : (net : Network) (e : ReportClaim) → IsNetwork net → IsReport net e → AreGoodAfter net None (entry_lines net e)
 report_good net e w r = (
   record { form = (name_is net e.from w r.from, name_is net e.to w r.to); follows = refl; known = (name_known net e.from r.from, name_known net e.to r.to); above = refl },
-  said_good net e.said (Ends (name_of net e.from) (name_of net e.to)) w refl r.says,
+  said_good net e.claim (Ends (name_of net e.from) (name_of net e.to)) w refl r.says,
 )
 
-good_said : (net : Network) (s : Said) (last : Option ReportLine) → IsNetwork net → AreGoodAfter net last (said_lines net s) → MaySay net s
+good_said : (net : Network) (s : AnswerClaim) (last : Option ReportLine) → IsNetwork net → AreGoodAfter net last (answer_lines net s) → MaySay net s
 good_said net (CutOf total printed flow) last w g =
     let removed = good_run net FitsWord (removes net) (Some (Weighs total)) printed (map (flows net) flow) (remove_lines net w) g.1 in
     let more = good_after net (removes net) (Some (Weighs total)) printed (map (flows net) flow) g.1 in
@@ -132,20 +132,20 @@ good_said net (BlockedBy chain) last w g =
     let some = g.0.form.0 in
     (omega arith, named_chain net chain g.0.form.1)
 
-pub good_report : (net : Network) (e : ReportClaim) → IsNetwork net → AreGoodAfter net None (front_lines net e) → IsReport net e
+pub good_report : (net : Network) (e : ReportClaim) → IsNetwork net → AreGoodAfter net None (leading_lines net e) → IsReport net e
 good_report net e w g = record {
   from = named_in net e.from g.0.form.0;
   to = named_in net e.to g.0.form.1;
-  says = good_said net e.said (Some (Ends (name_of net e.from) (name_of net e.to))) w g.1;
+  says = good_said net e.claim (Some (Ends (name_of net e.from) (name_of net e.to))) w g.1;
 }
 
 -- ---- the report of the lines
 
-abbrev place : Network → List ℕ → ℕ
-place net name = unwrap_or (index_of net name) 0
+abbrev cursor : Network → List ℕ → ℕ
+cursor net name = unwrap_or (index_of net name) 0
 
 abbrev priced : Network → List ℕ → List ℕ → ℕ → Priced
-priced net m n k = record { from = place net m; to = place net n; amount = k }
+priced net m n k = record { from = cursor net m; to = cursor net n; amount = k }
 
 abbrev printed_in : Network → List ReportLine → List Priced
 printed_in net [] = []
@@ -166,13 +166,13 @@ flow_in net (Blocks names ∷ lines) = flow_in net lines
 flow_in net (Last ∷ lines) = flow_in net lines
 
 -- what the lines after the first say
-abbrev said_in : Network → List ReportLine → Said
+abbrev said_in : Network → List ReportLine → AnswerClaim
 said_in net [] = CutOf 0 [] []
 said_in net (Ends m n ∷ lines) = CutOf 0 [] []
 said_in net (Weighs w ∷ lines) = CutOf w (printed_in net lines) (flow_in net lines)
 said_in net (Removes m n k ∷ lines) = CutOf 0 [] []
 said_in net (Flows m n k ∷ lines) = CutOf 0 [] []
-said_in net (Blocks names ∷ lines) = BlockedBy (map (place net) names)
+said_in net (Blocks names ∷ lines) = BlockedBy (map (cursor net) names)
 said_in net (Last ∷ lines) = CutOf 0 [] []
 
 abbrev behind_first : List ReportLine → List ReportLine
@@ -181,7 +181,7 @@ behind_first (_ ∷ lines) = lines
 
 abbrev first_in : Network → List ReportLine → ℕ × ℕ
 first_in net [] = (0, 0)
-first_in net (Ends m n ∷ lines) = (place net m, place net n)
+first_in net (Ends m n ∷ lines) = (cursor net m, cursor net n)
 first_in net (Weighs w ∷ lines) = (0, 0)
 first_in net (Removes m n k ∷ lines) = (0, 0)
 first_in net (Flows m n k ∷ lines) = (0, 0)
@@ -189,9 +189,9 @@ first_in net (Blocks names ∷ lines) = (0, 0)
 first_in net (Last ∷ lines) = (0, 0)
 
 abbrev pub entry_in : Network → List ReportLine → ReportClaim
-entry_in net lines = record { from = (first_in net lines).0; to = (first_in net lines).1; said = said_in net (behind_first lines) }
+entry_in net lines = record { from = (first_in net lines).0; to = (first_in net lines).1; claim = said_in net (behind_first lines) }
 
-place_again : (net : Network) (i : ℕ) → IsNetwork net → i < length net.names → place net (name_of net i) ≡ i
+place_again : (net : Network) (i : ℕ) → IsNetwork net → i < length net.names → cursor net (name_of net i) ≡ i
 place_again net i w lt = rw (index_again net i (apart net.names w.names_ascend) lt) refl
 
 priced_again : (net : Network) (p : Priced) → IsNetwork net → AreIn net p → priced net (name_of net p.from) (name_of net p.to) p.amount ≡ p
@@ -213,12 +213,12 @@ flow_removes : (net : Network) (ps : List Priced) (rest : List ReportLine) → f
 flow_removes net [] rest = refl
 flow_removes net (p ∷ ps) rest = flow_removes net ps rest
 
-chain_again : (net : Network) (chain : List ℕ) → IsNetwork net → All (λ m. m < length net.names) chain → map (place net) (map (name_of net) chain) ≡ chain
+chain_again : (net : Network) (chain : List ℕ) → IsNetwork net → All (λ m. m < length net.names) chain → map (cursor net) (map (name_of net) chain) ≡ chain
 chain_again net [] w h = refl
 chain_again net (m ∷ chain) w h =
     rw (place_again net m w (All-head (λ m. m < length net.names) m chain h), chain_again net chain w (All-tail (λ m. m < length net.names) m chain h)) refl
 
-said_again : (net : Network) (s : Said) → IsNetwork net → MaySay net s → said_in net (said_lines net s ++ Last ∷ []) ≡ s
+said_again : (net : Network) (s : AnswerClaim) → IsNetwork net → MaySay net s → said_in net (answer_lines net s ++ Last ∷ []) ≡ s
 said_again net (CutOf total printed flow) w s =
     let runs = both_fit total net printed flow s in
     rw (
@@ -233,4 +233,4 @@ said_again net (CutOf total printed flow) w s =
 said_again net (BlockedBy chain) w s = rw (chain_again net chain w s.1) refl
 
 pub entry_again : (net : Network) (e : ReportClaim) → IsNetwork net → IsReport net e → entry_in net (entry_lines net e) ≡ e
-entry_again net e w r = rw (place_again net e.from w r.from, place_again net e.to w r.to, said_again net e.said w r.says) refl
+entry_again net e w r = rw (place_again net e.from w r.from, place_again net e.to w r.to, said_again net e.claim w r.says) refl

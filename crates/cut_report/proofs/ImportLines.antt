@@ -12,7 +12,7 @@ use Rattle.cut_net.specs.Network.{Network, name_of}
 use Rattle.cut_net.specs.Lines.{comes_before, IsAscending}
 use Rattle.cut_net.specs.WellFormed.{AreBetween, IsNetwork}
 use Rattle.cut_report.specs.ReportLine.{ReportLine}
-use Rattle.cut_report.specs.ReportLines.{HasForm, HasKnownNames, may_follow, is_above, AreGoodAfter, last_of}
+use Rattle.cut_report.specs.ReportLines.{IsWellFormed, HasModuleNames, may_follow, is_above, AreGoodAfter, last_of}
 use Rattle.cut_report.specs.ReportLine.{removes, flows}
 use Rattle.cut_report.proofs.NameOrder.{AreIn, before_is, name_known}
 
@@ -29,12 +29,12 @@ name_is net i n lt = All-get_or (λ name. is_name name ≡ true) net.names i [] 
 
 -- what the lines of imports of one kind have in common
 pub record AreLines (net : Network) (Fit : Priced → Type 0) (line : Priced → ReportLine) : Type 0 where
-  pub form : (p : Priced) → AreIn net p → Fit p → HasForm (line p)
-  pub known : (p : Priced) → AreIn net p → HasKnownNames net (line p)
+  pub form : (p : Priced) → AreIn net p → Fit p → IsWellFormed (line p)
+  pub known : (p : Priced) → AreIn net p → HasModuleNames net (line p)
   pub follows : (p q : Priced) → may_follow (Some (line p)) (line q) ≡ true
   pub above : (p q : Priced) → AreIn net p → AreIn net q → is_above (Some (line p)) (line q) ≡ comes_before p q
-  pub within : (p : Priced) → HasForm (line p) → AreIn net p
-  pub fit : (p : Priced) → HasForm (line p) → Fit p
+  pub within : (p : Priced) → IsWellFormed (line p) → AreIn net p
+  pub fit : (p : Priced) → IsWellFormed (line p) → Fit p
 
 abbrev pub FitsWord : Priced → Type 0
 FitsWord p = p.amount < 2 ^ 64

@@ -2,7 +2,7 @@
 use Rattle.std.proofs.Common.{◌≡◌, ◌-◌, List, [], ◌∷◌, length, Some, None, refl, arith}
 use Rattle.std.specs.Prelude.{slice_get}
 use Rattle.cut_net.specs.declared.priced.Priced.{Priced}
-use Rattle.cut_report.specs.Drafts.{last_import}
+use Rattle.cut_report.specs.Builders.{last_import}
 
 at_end : (p : Priced) (ps : List Priced) → slice_get (p ∷ ps) (length ps) ≡ last_import (Some p) ps
 at_end p [] = refl

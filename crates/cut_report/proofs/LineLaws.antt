@@ -7,7 +7,7 @@ use Rattle.std.proofs.lemmas.Bool.{and_parts, ltb-true, lt-ltb}
 use Rattle.std.proofs.lemmas.Slice.Eq.{bytes_eq-Decides}
 use Rattle.texts.specs.Fields.{cut_at, named, number_of, is_name, line_of}
 use Rattle.cut_report.specs.ReportLine.{ReportLine, Ends, Weighs, Removes, Flows, Blocks, Last, report_line}
-use Rattle.cut_report.specs.ReportLines.{HasForm}
+use Rattle.cut_report.specs.ReportLines.{IsWellFormed}
 use Rattle.texts.proofs.FieldCuts.{cut_takes, cut_again, cut_none, without, some_is}
 use Rattle.texts.proofs.FieldNames.{named_takes, named_again, name_without, decimal_without, without-append}
 use Rattle.texts.proofs.FieldNumbers.{number_takes, number_again}
@@ -26,7 +26,7 @@ by_test false o p y h yes_case no_case = no_case refl h
 
 -- the text is the line, and has its form
 pub record IsSpelling (text : List ℕ) (line : ReportLine) : Type 0 where
-  pub form : HasForm line
+  pub form : IsWellFormed line
   pub spelled : report_line line ≡ text
 
 record AreEnds (fields : List ℕ) (x : List ℕ × List ℕ) : Type 0 where
@@ -138,7 +138,7 @@ parted word fields h = go (bytes_eq (word ++ 32 ∷ fields) (codes "end")) refl
         absurd (let bad : Some (word, fields) ≡ None = rw cuts at none in cc)
     go false e = rw cuts refl
 
-pub line_again : (line : ReportLine) → HasForm line → line_of_text (report_line line) ≡ Some line
+pub line_again : (line : ReportLine) → IsWellFormed line → line_of_text (report_line line) ≡ Some line
 unfolding line_of_text line_under blocks_of
 line_again (Ends m n) h = parted (codes "cut") (m ++ 32 ∷ n) refl ∙ rw (ends_again m n h.0 h.1) refl
 line_again (Weighs w) h = parted (codes "weight") (decimal w) refl ∙ rw (number_again w h) refl
@@ -149,7 +149,7 @@ line_again (Blocks names) h =
 line_again Last h = refl
 
 -- a line has no LF
-pub line_without : (line : ReportLine) → HasForm line → without 10 (report_line line) ≡ true
+pub line_without : (line : ReportLine) → IsWellFormed line → without 10 (report_line line) ≡ true
 line_without (Ends m n) h =
     without-append 10 (codes "cut") (32 ∷ (m ++ 32 ∷ n)) refl (without-append 10 m (32 ∷ n) (name_without 10 m refl h.0) (name_without 10 n refl h.1))
 line_without (Weighs w) h = without-append 10 (codes "weight") (32 ∷ decimal w) refl (decimal_without 10 w refl h)
@@ -164,12 +164,12 @@ line_without (Blocks names) h =
 line_without Last h = refl
 
 -- one text, one line
-pub line_once : (line other : ReportLine) → HasForm line → HasForm other → report_line line ≡ report_line other → line ≡ other
+pub line_once : (line other : ReportLine) → IsWellFormed line → IsWellFormed other → report_line line ≡ report_line other → line ≡ other
 line_once line other h k e =
     let first = line_again line h in
     let second : line_of_text (report_line line) ≡ Some other = rw e (line_again other k) in
     some_is line other (sym first ∙ second)
 
 -- a text that begins with a line is cut behind it, and it is read
-pub line_there : (text rest : List ℕ) (line : ReportLine) → HasForm line → text ≡ report_line line ++ 10 ∷ rest → IsFirstLine text (Some line) rest
+pub line_there : (text rest : List ℕ) (line : ReportLine) → IsWellFormed line → text ≡ report_line line ++ 10 ∷ rest → IsFirstLine text (Some line) rest
 line_there text rest line form e = (report_line line, rw e (cut_again 10 (report_line line) rest (line_without line form)), line_again line form)

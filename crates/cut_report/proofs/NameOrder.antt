@@ -13,7 +13,7 @@ use Rattle.cut_net.specs.declared.priced.Priced.{Priced}
 use Rattle.cut_net.specs.Network.{Network, name_of, index_of}
 use Rattle.cut_net.specs.Lines.{comes_before}
 use Rattle.cut_net.specs.WellFormed.{AreNamesInOrder}
-use Rattle.cut_report.specs.ReportLines.{IsKnownName, pair_is_before}
+use Rattle.cut_report.specs.ReportLines.{IsModuleName, pair_is_before}
 use Rattle.cut_net.proofs.Search.{AreApart}
 use Rattle.cut_net.proofs.Places.{index_takes, index_again}
 
@@ -65,15 +65,15 @@ before_is net p q h a b =
     rw (less_is net p.from q.from h a.from b.from, same_is net p.from q.from h a.from b.from, less_is net p.to q.to h a.to b.to) refl
 
 -- the network has a name that it has a number for
-pub known_from_index : (net : Network) (name : List ℕ) (i : ℕ) → index_of net name ≡ Some i → IsKnownName net name
+pub known_from_index : (net : Network) (name : List ℕ) (i : ℕ) → index_of net name ≡ Some i → IsModuleName net name
 known_from_index net name i e =
     let p = index_takes net name i e in
     (i, p.0, get_or_default net.names i name [] p.0 ∙ p.1)
 
-pub name_known : (net : Network) (i : ℕ) → i < length net.names → IsKnownName net (name_of net i)
+pub name_known : (net : Network) (i : ℕ) → i < length net.names → IsModuleName net (name_of net i)
 name_known net i lt = (i, lt, get_or_default net.names i (name_of net i) [] lt)
 
-pub index_from_known : (net : Network) (name : List ℕ) → AreNamesInOrder net.names → IsKnownName net name → (i : ℕ) × (index_of net name ≡ Some i)
+pub index_from_known : (net : Network) (name : List ℕ) → AreNamesInOrder net.names → IsModuleName net name → (i : ℕ) × (index_of net name ≡ Some i)
 index_from_known net name h k =
     let same : name_of net k.0 ≡ name = sym (get_or_default net.names k.0 name [] k.1) ∙ k.2 in
     (k.0, subst (λ (n : List ℕ). index_of net n ≡ Some k.0) same (index_again net k.0 (apart net.names h) k.1))

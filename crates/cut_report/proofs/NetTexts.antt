@@ -44,7 +44,7 @@ rows_spell (line ∷ lines) forms =
     let cut : pieces_of (ended (net_line line) ++ rest) ≡ net_line line ∷ pieces_of rest =
     ap pieces_of (append_assoc (net_line line) (10 ∷ []) rest) ∙ slice_split_at (λ b. eqb b 10) (net_line line) 10 rest none refl in
     ap (filter is_nonempty) cut ∙ kept_line line (pieces_of rest)
-    ∙ ap (λ (t : List (List ℕ)). net_line line ∷ t) (rows_spell lines (λ other there. forms other (later_member line lines other there)))
+    ∙ ap (λ (t : List (List ℕ)). net_line line ∷ t) (rows_spell lines (λ other present. forms other (later_member line lines other present)))
 
 -- ---- the lines are those of the network
 
@@ -66,7 +66,7 @@ module _ (net : Network) (is : IsNetwork net) where
       omega arith
 
   form : (line : NetLine) → Contains (net_lines net) line → IsNetLine line
-  form line there = elim (Contains-append_cases (map Module net.names) (map (import_line net.names) net.imports) line there) [
+  form line present = elim (Contains-append_cases (map Module net.names) (map (import_line net.names) net.imports) line present) [
     | inl of_module ↦
         let (name, known, same) = from_map Module net.names line of_module in
         subst IsNetLine same (All-contains (λ n. is_name n ≡ true) net.names name is.named known)
@@ -84,7 +84,7 @@ module _ (net : Network) (is : IsNetwork net) where
   named_by m name lt same = subst (λ (n : List ℕ). Contains net.names n) same (name_known net m lt)
 
   known : (name : List ℕ) → AreMentioning (net_lines net) name → Contains net.names name
-  known name (line, there, has) = elim (Contains-append_cases (map Module net.names) (map (import_line net.names) net.imports) line there) [
+  known name (line, present, has) = elim (Contains-append_cases (map Module net.names) (map (import_line net.names) net.imports) line present) [
     | inl of_module ↦
         let (other, is_known, same) = from_map Module net.names line of_module in
         let own : Mentions name (Module other) = subst (λ (l : NetLine). Mentions name l) (sym same) has in

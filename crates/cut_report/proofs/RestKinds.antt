@@ -9,7 +9,7 @@ use Rattle.texts.specs.Fields.{cut_at, ended}
 use Rattle.cut_net.specs.Network.{Network, index_of}
 use Rattle.cut_net.specs.WellFormed.{AreNamesInOrder}
 use Rattle.cut_report.specs.ReportLine.{ReportLine, Ends, Weighs, Removes, Flows, Blocks, Last, report_line, written}
-use Rattle.cut_report.specs.ReportLines.{may_follow, is_above, HasKnownNames, IsKnownName, IsGoodAfter, AreGoodAfter, IsNextLine, IsWrongLine, BeginsWith, has_line_end, last_of}
+use Rattle.cut_report.specs.ReportLines.{may_follow, is_above, HasModuleNames, IsModuleName, IsGoodAfter, AreGoodAfter, IsAllowedLine, IsWrongLine, BeginsWith, has_line_end, last_of}
 use Rattle.texts.proofs.FieldCuts.{cut_none}
 use Rattle.cut_report.specs.Lines.{line_of_text}
 use Rattle.cut_report.proofs.LineLaws.{line_again, line_takes, line_once, line_without}
@@ -37,31 +37,31 @@ knows net (Flows m n f) = has net m && has net n
 knows net (Blocks names) = list_all (has net) names
 knows net Last = true
 
-has_known : (net : Network) (name : List ℕ) → AreNamesInOrder net.names → IsKnownName net name → has net name ≡ true
+has_known : (net : Network) (name : List ℕ) → AreNamesInOrder net.names → IsModuleName net name → has net name ≡ true
 has_known net name h k = rw (index_from_known net name h k).1 refl
 
 some_of : {A : Type 0} (o : Option A) → is_some o ≡ true → (x : A) × (o ≡ Some x)
 some_of None e = absurd cc
 some_of (Some x) e = (x, refl)
 
-known_has : (net : Network) (name : List ℕ) → has net name ≡ true → IsKnownName net name
+known_has : (net : Network) (name : List ℕ) → has net name ≡ true → IsModuleName net name
 known_has net name e = let p = some_of (index_of net name) e in known_from_index net name p.0 p.1
 
-both_known : (net : Network) (m n : List ℕ) → AreNamesInOrder net.names → IsKnownName net m → IsKnownName net n → (has net m && has net n) ≡ true
+both_known : (net : Network) (m n : List ℕ) → AreNamesInOrder net.names → IsModuleName net m → IsModuleName net n → (has net m && has net n) ≡ true
 both_known net m n h p q = rw (has_known net m h p, has_known net n h q) refl
 
-both_has : (net : Network) (m n : List ℕ) → (has net m && has net n) ≡ true → IsKnownName net m × IsKnownName net n
+both_has : (net : Network) (m n : List ℕ) → (has net m && has net n) ≡ true → IsModuleName net m × IsModuleName net n
 both_has net m n e = let p = and_parts (has net m) (has net n) e in (known_has net m p.0, known_has net n p.1)
 
-all_known : (net : Network) (names : List (List ℕ)) → AreNamesInOrder net.names → All (IsKnownName net) names → list_all (has net) names ≡ true
+all_known : (net : Network) (names : List (List ℕ)) → AreNamesInOrder net.names → All (IsModuleName net) names → list_all (has net) names ≡ true
 all_known net [] h k = refl
-all_known net (n ∷ names) h k = and_from _ _ (has_known net n h (All-head (IsKnownName net) n names k)) (all_known net names h (All-tail (IsKnownName net) n names k))
+all_known net (n ∷ names) h k = and_from _ _ (has_known net n h (All-head (IsModuleName net) n names k)) (all_known net names h (All-tail (IsModuleName net) n names k))
 
-all_has : (net : Network) (names : List (List ℕ)) → list_all (has net) names ≡ true → All (IsKnownName net) names
-all_has net [] e = All-nil (IsKnownName net)
-all_has net (n ∷ names) e = let p = and_parts _ _ e in All-cons (IsKnownName net) n names (known_has net n p.0) (all_has net names p.1)
+all_has : (net : Network) (names : List (List ℕ)) → list_all (has net) names ≡ true → All (IsModuleName net) names
+all_has net [] e = All-nil (IsModuleName net)
+all_has net (n ∷ names) e = let p = and_parts _ _ e in All-cons (IsModuleName net) n names (known_has net n p.0) (all_has net names p.1)
 
-knows_known : (net : Network) (line : ReportLine) → AreNamesInOrder net.names → HasKnownNames net line → knows net line ≡ true
+knows_known : (net : Network) (line : ReportLine) → AreNamesInOrder net.names → HasModuleNames net line → knows net line ≡ true
 knows_known net (Ends m n) h k = both_known net m n h k.0 k.1
 knows_known net (Weighs w) h k = refl
 knows_known net (Removes m n w) h k = both_known net m n h k.0 k.1
@@ -69,7 +69,7 @@ knows_known net (Flows m n f) h k = both_known net m n h k.0 k.1
 knows_known net (Blocks names) h k = all_known net names h k
 knows_known net Last h k = refl
 
-known_knows : (net : Network) (line : ReportLine) → knows net line ≡ true → HasKnownNames net line
+known_knows : (net : Network) (line : ReportLine) → knows net line ≡ true → HasModuleNames net line
 known_knows net (Ends m n) e = both_has net m n e
 known_knows net (Weighs w) e = tt
 known_knows net (Removes m n w) e = both_has net m n e
@@ -128,7 +128,7 @@ rest_at net last rest text more h f e =
     let first : cut_at 10 rest ≡ Some (text, more) = rw e (ended_cut text more (without_end text f)) in
     rw (h, first) refl
 
-line_at : (net : Network) (last : Option ReportLine) (rest : List ℕ) (line : ReportLine) → IsNextLine last line → BeginsWith rest (report_line line) → rest_kind net last rest ≡ line_kind net last line
+line_at : (net : Network) (last : Option ReportLine) (rest : List ℕ) (line : ReportLine) → IsAllowedLine last line → BeginsWith rest (report_line line) → rest_kind net last rest ≡ line_kind net last line
 line_at net last rest line h b =
     rest_at net last rest (report_line line) b.more (followed last line h.follows) b.one_line b.whole ∙ rw (line_again line h.form) refl
 
@@ -137,12 +137,12 @@ kind_good net last line more h g =
     let first : cut_at 10 (ended (report_line line) ++ more) ≡ Some (report_line line, more) = ended_cut (report_line line) more (line_without line g.form) in
     rw (followed last line g.follows, first, line_again line g.form, g.follows, knows_known net line h g.known, g.above) refl
 
-pub kind_unknown : (net : Network) (last : Option ReportLine) (rest : List ℕ) (line : ReportLine) → IsNextLine last line → BeginsWith rest (report_line line) → (HasKnownNames net line → ⊥) → rest_kind net last rest ≡ Unknown
+pub kind_unknown : (net : Network) (last : Option ReportLine) (rest : List ℕ) (line : ReportLine) → IsAllowedLine last line → BeginsWith rest (report_line line) → (HasModuleNames net line → ⊥) → rest_kind net last rest ≡ Unknown
 kind_unknown net last rest line h b u =
     let lacks : knows net line ≡ false = false_from_ne_true _ (λ e. u (known_knows net line e)) in
     line_at net last rest line h b ∙ rw (h.follows, lacks) refl
 
-pub kind_below : (net : Network) (last : Option ReportLine) (rest : List ℕ) (line : ReportLine) → AreNamesInOrder net.names → IsNextLine last line → BeginsWith rest (report_line line) → HasKnownNames net line → is_above last line ≡ false
+pub kind_below : (net : Network) (last : Option ReportLine) (rest : List ℕ) (line : ReportLine) → AreNamesInOrder net.names → IsAllowedLine last line → BeginsWith rest (report_line line) → HasModuleNames net line → is_above last line ≡ false
     → rest_kind net last rest ≡ Below
 kind_below net last rest line o h b k low =
     line_at net last rest line h b ∙ rw (h.follows, knows_known net line o k, low) refl
@@ -157,7 +157,7 @@ over_bad : (rest : List ℕ) → rest ≢ [] → over_kind rest ≡ Bad
 over_bad [] h = absurd (h refl)
 over_bad (b ∷ rest) h = refl
 
-text_bad : (net : Network) (last : Option ReportLine) (text : List ℕ) → ((line : ReportLine) → IsNextLine last line → report_line line ≢ text) → text_kind net last text ≡ Bad
+text_bad : (net : Network) (last : Option ReportLine) (text : List ℕ) → ((line : ReportLine) → IsAllowedLine last line → report_line line ≢ text) → text_kind net last text ≡ Bad
 text_bad net last text h = go (line_of_text text) refl
   where
     go : (o : Option ReportLine) → line_of_text text ≡ o → option_map_or (line_kind net last) o Bad ≡ Bad

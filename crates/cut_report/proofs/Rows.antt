@@ -6,7 +6,7 @@ use Rattle.std.proofs.lemmas.Fmt.{decimal_digit}
 use Rattle.cut_net.specs.declared.priced.Priced.{Priced}
 use Rattle.texts.specs.Fields.{ended}
 use Rattle.cut_net.specs.Network.{Network}
-use Rattle.cut_net.specs.Said.{CutOf, BlockedBy}
+use Rattle.cut_net.specs.AnswerClaim.{CutOf, BlockedBy}
 use Rattle.cut_report.specs.ReportClaim.{ReportClaim}
 use Rattle.cut_report.specs.ReportText.{report_text}
 
@@ -27,7 +27,7 @@ row_net : Network
 row_net = record { names = codes "A" ∷ codes "B" ∷ codes "M" ∷ []; imports = a_to_m ∷ m_to_b ∷ []; pins = [] }
 
 row_entry : ReportClaim
-row_entry = record { from = 0; to = 1; said = CutOf 2 (a_to_m ∷ []) (a_to_m ∷ m_to_b ∷ []) }
+row_entry = record { from = 0; to = 1; claim = CutOf 2 (a_to_m ∷ []) (a_to_m ∷ m_to_b ∷ []) }
 
 row : report_text row_net row_entry ≡
     ended (codes "cut A B") ++ ended (codes "weight 2") ++ ended (codes "remove A M 2") ++ ended (codes "flow A M 2") ++ ended (codes "flow M B 2") ++ ended (codes "end")
@@ -36,14 +36,14 @@ row = simp two
 
 -- a chain of pins, and one of a single module
 blocked_entry : ReportClaim
-blocked_entry = record { from = 0; to = 1; said = BlockedBy (0 ∷ 2 ∷ 1 ∷ []) }
+blocked_entry = record { from = 0; to = 1; claim = BlockedBy (0 ∷ 2 ∷ 1 ∷ []) }
 
 blocked_row : report_text row_net blocked_entry ≡ ended (codes "cut A B") ++ ended (codes "blocked A M B") ++ ended (codes "end")
 unfolding row_net blocked_entry
 blocked_row = refl
 
 itself_entry : ReportClaim
-itself_entry = record { from = 0; to = 0; said = BlockedBy (0 ∷ []) }
+itself_entry = record { from = 0; to = 0; claim = BlockedBy (0 ∷ []) }
 
 itself_row : report_text row_net itself_entry ≡ ended (codes "cut A A") ++ ended (codes "blocked A") ++ ended (codes "end")
 unfolding row_net itself_entry
@@ -69,7 +69,7 @@ two_ways_entry : ReportClaim
 two_ways_entry = record {
   from = 0;
   to = 1;
-  said = CutOf 1 (u_to_d ∷ []) (record { from = 0; to = 2; amount = 1 } ∷ u_to_d ∷ []);
+  claim = CutOf 1 (u_to_d ∷ []) (record { from = 0; to = 2; amount = 1 } ∷ u_to_d ∷ []);
 }
 
 two_ways_report : report_text two_ways two_ways_entry ≡

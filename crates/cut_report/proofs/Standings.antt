@@ -10,33 +10,33 @@ use Rattle.std.specs.Prelude.{All}
 use Rattle.std.proofs.lemmas.List.Elements.{All-cons, All-head, All-nil, All-tail}
 use Rattle.cut_report.specs.ReportClaim.{ReportClaim}
 use Rattle.cut_report.specs.ReportLine.{ReportLine, Ends, Weighs, Removes, Flows, Blocks, Last}
-use Rattle.cut_report.specs.ReportLines.{HasForm, may_follow, is_above, HasKnownNames, IsKnownName, IsGoodAfter, AreGoodAfter, IsNextLine, last_of}
+use Rattle.cut_report.specs.ReportLines.{IsWellFormed, may_follow, is_above, HasModuleNames, IsModuleName, IsGoodAfter, AreGoodAfter, IsAllowedLine, last_of}
 use Rattle.cut_net.proofs.Places.{index_takes}
 use Rattle.cut_report.specs.declared.fault.ReportLineFault.{ReportLineFault}
 use Rattle.cut_report.specs.declared.fault.ReportLineFault.TheVariants as faults
-use Rattle.cut_report.specs.ReportLine.{removes, flows, front_lines, entry_lines}
-use Rattle.cut_report.specs.Drafts.{◌>>=◌, ReadSoFar, Start, Named, Open, Shut, Ended, ClaimedPart, blocked_entry, chain_of, entry_of_part, going_on, import_of, is_after, last_import, numbered_by, opened_by, shut_by, step, with_removed}
+use Rattle.cut_report.specs.ReportLine.{removes, flows, leading_lines, entry_lines}
+use Rattle.cut_report.specs.Builders.{◌>>=◌, BuilderState, Start, Named, Open, Shut, Ended, ClaimedPart, blocked_entry, chain_of, entry_of_part, going_on, import_of, is_after, last_import, numbered_by, opened_by, shut_by, step, with_removed}
 use Rattle.cut_report.proofs.NameOrder.{AreIn, index_from_known, known_from_index}
 use Rattle.cut_report.proofs.ImportLines.{AreLines, FitsWord, FitsFlow, IsRun, flow_lines, remove_lines, good_run, good_after}
 use Rattle.cut_report.proofs.EntryLines.{last_of-append, last_follows}
 use Rattle.cut_report.proofs.RestKinds.{ended_follows}
 
-abbrev pub standing_lines : Network → ReadSoFar → List ReportLine
+abbrev pub standing_lines : Network → BuilderState → List ReportLine
 standing_lines net Start = []
 standing_lines net (Named a b) = Ends (name_of net a) (name_of net b) ∷ []
-standing_lines net (Open p) = front_lines net (entry_of_part p)
-standing_lines net (Shut a b chain) = front_lines net (blocked_entry a b chain)
+standing_lines net (Open p) = leading_lines net (entry_of_part p)
+standing_lines net (Shut a b chain) = leading_lines net (blocked_entry a b chain)
 standing_lines net (Ended e) = entry_lines net e
 
-abbrev pub last_line : Network → ReadSoFar → Option ReportLine
+abbrev pub last_line : Network → BuilderState → Option ReportLine
 last_line net s = last_of None (standing_lines net s)
 
 -- what a step is, by what it gives
-abbrev pub StepIs : Network → ReadSoFar → ReportLine → Result ReadSoFar ReportLineFault → Type 0
+abbrev pub StepIs : Network → BuilderState → ReportLine → Result BuilderState ReportLineFault → Type 0
 StepIs net s line (Ok t) = IsGoodAfter net (last_line net s) line × (standing_lines net t ≡ standing_lines net s ++ line ∷ [])
 StepIs net s line (Err faults.BadLine) = may_follow (last_line net s) line ≡ false
-StepIs net s line (Err faults.UnknownName) = IsNextLine (last_line net s) line × (HasKnownNames net line → ⊥)
-StepIs net s line (Err faults.Order) = IsNextLine (last_line net s) line × HasKnownNames net line × (is_above (last_line net s) line ≡ false)
+StepIs net s line (Err faults.UnknownName) = IsAllowedLine (last_line net s) line × (HasModuleNames net line → ⊥)
+StepIs net s line (Err faults.Order) = IsAllowedLine (last_line net s) line × HasModuleNames net line × (is_above (last_line net s) line ≡ false)
 StepIs net s line (Err faults.Memory) = Unit {0}
 
 -- ---- the line before
@@ -64,8 +64,8 @@ above_last net Fit line start before (p ∷ ps) q laws r a e = above_last net Fi
 
 -- ---- names that are looked up
 
-by_index : {T : Type 0} (P : Result T ReportLineFault → Type 0) (net : Network) (name : List ℕ) (f : ℕ → Result T ReportLineFault) → IsNetwork net → ((IsKnownName net name → ⊥) → P (Err faults.UnknownName))
-    → ((i : ℕ) → IsKnownName net name → i < length net.names → name_of net i ≡ name → P (f i)) → P (ok_or (index_of net name) faults.UnknownName >>= f)
+by_index : {T : Type 0} (P : Result T ReportLineFault → Type 0) (net : Network) (name : List ℕ) (f : ℕ → Result T ReportLineFault) → IsNetwork net → ((IsModuleName net name → ⊥) → P (Err faults.UnknownName))
+    → ((i : ℕ) → IsModuleName net name → i < length net.names → name_of net i ≡ name → P (f i)) → P (ok_or (index_of net name) faults.UnknownName >>= f)
 by_index P net name f w lacks has = go (index_of net name) refl
   where
     go : (o : Option ℕ) → index_of net name ≡ o → P (ok_or o faults.UnknownName >>= f)
@@ -78,10 +78,10 @@ pub record IsFound (net : Network) (m n : List ℕ) (amount : ℕ) (q : Priced) 
   pub to : name_of net q.to ≡ n
   pub amount_is : q.amount ≡ amount
 
-by_import : (P : Result ReadSoFar ReportLineFault → Type 0) (net : Network) (last : Option Priced) (m n : List ℕ) (amount : ℕ) (f : Priced → Result ReadSoFar ReportLineFault) → IsNetwork net
-    → ((IsKnownName net m × IsKnownName net n → ⊥) → P (Err faults.UnknownName))
-    → ((q : Priced) → IsKnownName net m × IsKnownName net n → IsFound net m n amount q → is_after last q ≡ false → P (Err faults.Order))
-    → ((q : Priced) → IsKnownName net m × IsKnownName net n → IsFound net m n amount q → is_after last q ≡ true → P (f q))
+by_import : (P : Result BuilderState ReportLineFault → Type 0) (net : Network) (last : Option Priced) (m n : List ℕ) (amount : ℕ) (f : Priced → Result BuilderState ReportLineFault) → IsNetwork net
+    → ((IsModuleName net m × IsModuleName net n → ⊥) → P (Err faults.UnknownName))
+    → ((q : Priced) → IsModuleName net m × IsModuleName net n → IsFound net m n amount q → is_after last q ≡ false → P (Err faults.Order))
+    → ((q : Priced) → IsModuleName net m × IsModuleName net n → IsFound net m n amount q → is_after last q ≡ true → P (f q))
     → P (import_of net last m n amount >>= f)
 unfolding import_of
 by_import P net last m n amount f w lacks low good =
@@ -94,25 +94,25 @@ by_import P net last m n amount f w lacks low good =
       | inr e ↦ rw e (low q (km, kn) found e)
     ]))
 
-by_chain : (P : Result ReadSoFar ReportLineFault → Type 0) (net : Network) (names : List (List ℕ)) (f : List ℕ → Result ReadSoFar ReportLineFault) → IsNetwork net
-    → ((All (IsKnownName net) names → ⊥) → P (Err faults.UnknownName))
-    → ((chain : List ℕ) → All (IsKnownName net) names → map (name_of net) chain ≡ names → P (f chain))
+by_chain : (P : Result BuilderState ReportLineFault → Type 0) (net : Network) (names : List (List ℕ)) (f : List ℕ → Result BuilderState ReportLineFault) → IsNetwork net
+    → ((All (IsModuleName net) names → ⊥) → P (Err faults.UnknownName))
+    → ((chain : List ℕ) → All (IsModuleName net) names → map (name_of net) chain ≡ names → P (f chain))
     → P (chain_of net names >>= f)
-by_chain P net names f w lacks has = go {T = ReadSoFar} P names f lacks has
+by_chain P net names f w lacks has = go {T = BuilderState} P names f lacks has
   where
     go : {T : Type 0} (P : Result T ReportLineFault → Type 0) (names : List (List ℕ)) (f : List ℕ → Result T ReportLineFault)
-        → ((All (IsKnownName net) names → ⊥) → P (Err faults.UnknownName))
-        → ((chain : List ℕ) → All (IsKnownName net) names → map (name_of net) chain ≡ names → P (f chain))
+        → ((All (IsModuleName net) names → ⊥) → P (Err faults.UnknownName))
+        → ((chain : List ℕ) → All (IsModuleName net) names → map (name_of net) chain ≡ names → P (f chain))
         → P (chain_of net names >>= f)
-    go P [] f lacks has = has [] (All-nil (IsKnownName net)) refl
+    go P [] f lacks has = has [] (All-nil (IsModuleName net)) refl
     go P (name ∷ names) f lacks has =
-        by_index (λ r. P (r >>= f)) net name _ w (λ k. lacks (λ h. k (All-head (IsKnownName net) name names h))) (λ i known lt name_is.
-        go (λ r. P (r >>= f)) names (λ more. Ok (i ∷ more)) (λ k. lacks (λ h. k (All-tail (IsKnownName net) name names h))) (λ chain all are.
-        has (i ∷ chain) (All-cons (IsKnownName net) name names known all) (rw (name_is, are) refl)))
+        by_index (λ r. P (r >>= f)) net name _ w (λ k. lacks (λ h. k (All-head (IsModuleName net) name names h))) (λ i known lt name_is.
+        go (λ r. P (r >>= f)) names (λ more. Ok (i ∷ more)) (λ k. lacks (λ h. k (All-tail (IsModuleName net) name names h))) (λ chain all are.
+        has (i ∷ chain) (All-cons (IsModuleName net) name names known all) (rw (name_is, are) refl)))
 
 -- ---- each step
 
-name_is_step : (net : Network) (line : ReportLine) → IsNetwork net → HasForm line → StepIs net Start line (numbered_by net line)
+name_is_step : (net : Network) (line : ReportLine) → IsNetwork net → IsWellFormed line → StepIs net Start line (numbered_by net line)
 unfolding numbered_by
 name_is_step net (Ends m n) w h =
     by_index (StepIs net Start (Ends m n)) net m _ w (λ k. (record { form = h; follows = refl }, λ known. k known.0)) (λ x km ltm em.
@@ -124,7 +124,7 @@ name_is_step net (Flows m n k) w h = refl
 name_is_step net (Blocks names) w h = refl
 name_is_step net Last w h = refl
 
-open_is_step : (net : Network) (a b : ℕ) (line : ReportLine) → IsNetwork net → HasForm line → StepIs net (Named a b) line (opened_by net a b line)
+open_is_step : (net : Network) (a b : ℕ) (line : ReportLine) → IsNetwork net → IsWellFormed line → StepIs net (Named a b) line (opened_by net a b line)
 unfolding opened_by
 open_is_step net a b (Ends m n) w h = refl
 open_is_step net a b (Weighs k) w h = (record { form = h; follows = refl; known = tt; above = refl }, refl)
@@ -151,7 +151,7 @@ found_removes net m n k q f = rw (f.from, f.to, f.amount_is) refl
 found_flows : (net : Network) (m n : List ℕ) (k : ℕ) (q : Priced) → IsFound net m n k q → flows net q ≡ Flows m n k
 found_flows net m n k q f = rw (f.from, f.to, f.amount_is) refl
 
-remove_is_step : (net : Network) (p : ClaimedPart) (m n : List ℕ) (k : ℕ) (flow : List Priced) → p.flow ≡ flow → IsNetwork net → AreGoodAfter net None (standing_lines net (Open p)) → HasForm (Removes m n k)
+remove_is_step : (net : Network) (p : ClaimedPart) (m n : List ℕ) (k : ℕ) (flow : List Priced) → p.flow ≡ flow → IsNetwork net → AreGoodAfter net None (standing_lines net (Open p)) → IsWellFormed (Removes m n k)
     → StepIs net (Open p) (Removes m n k) (with_removed net p flow m n k)
 remove_is_step net p m n k [] e w g h =
     let start : Option ReportLine = Some (Weighs p.weight) in
@@ -173,7 +173,7 @@ remove_is_step net p m n k (f ∷ fs) e w g h =
     let last_is : last_line net (Open p) ≡ last_of (Some (flows net f)) (map (flows net) fs) = rw (e, last_of-append start (map (removes net) p.printed) (map (flows net) (f ∷ fs))) refl in
     rw last_is (flow_inner net (λ x. may_follow x (Removes m n k) ≡ false) (Some (flows net f)) fs refl (λ q. refl))
 
-flow_is_step : (net : Network) (p : ClaimedPart) (m n : List ℕ) (k : ℕ) → IsNetwork net → AreGoodAfter net None (standing_lines net (Open p)) → HasForm (Flows m n k)
+flow_is_step : (net : Network) (p : ClaimedPart) (m n : List ℕ) (k : ℕ) → IsNetwork net → AreGoodAfter net None (standing_lines net (Open p)) → IsWellFormed (Flows m n k)
     → StepIs net (Open p) (Flows m n k) (import_of net (last_import None p.flow) m n k >>= λ next. Ok (Open (record p { flow = p.flow ++ next ∷ [] })))
 flow_is_step net p m n k w g h =
     let start : Option ReportLine = Some (Weighs p.weight) in
@@ -194,7 +194,7 @@ flow_is_step net p m n k w g h =
       rw (map_push (flows net) p.flow q, found_flows net m n k q f, append_assoc (map (removes net) p.printed) (map (flows net) p.flow) (Flows m n k ∷ [])) refl,
     ))
 
-go_on_is_step : (net : Network) (p : ClaimedPart) (line : ReportLine) → IsNetwork net → AreGoodAfter net None (standing_lines net (Open p)) → HasForm line → StepIs net (Open p) line (going_on net p line)
+go_on_is_step : (net : Network) (p : ClaimedPart) (line : ReportLine) → IsNetwork net → AreGoodAfter net None (standing_lines net (Open p)) → IsWellFormed line → StepIs net (Open p) line (going_on net p line)
 unfolding going_on
 go_on_is_step net p (Ends m n) w g h = inner net (λ x. may_follow x (Ends m n) ≡ false) (Some (Weighs p.weight)) p.printed p.flow refl (λ q. refl) (λ q. refl)
 go_on_is_step net p (Weighs k) w g h = inner net (λ x. may_follow x (Weighs k) ≡ false) (Some (Weighs p.weight)) p.printed p.flow refl (λ q. refl) (λ q. refl)
@@ -205,9 +205,9 @@ go_on_is_step net p Last w g h = (record { form = tt; follows = last_follows net
 
 -- the last of all lines
 pub last_is_end : (net : Network) (e : ReportClaim) → last_line net (Ended e) ≡ Some Last
-last_is_end net e = last_of-append None (front_lines net e) (Last ∷ [])
+last_is_end net e = last_of-append None (leading_lines net e) (Last ∷ [])
 
-pub step_is : (net : Network) (s : ReadSoFar) (line : ReportLine) → IsNetwork net → AreGoodAfter net None (standing_lines net s) → HasForm line → StepIs net s line (step net s line)
+pub step_is : (net : Network) (s : BuilderState) (line : ReportLine) → IsNetwork net → AreGoodAfter net None (standing_lines net s) → IsWellFormed line → StepIs net s line (step net s line)
 unfolding step
 step_is net Start line w g h = name_is_step net line w h
 step_is net (Named a b) line w g h = open_is_step net a b line w h

@@ -9,17 +9,17 @@ use Rattle.texts.specs.Fields.{cut_at, ended, with_first}
 use Rattle.cut_net.specs.Network.{Network}
 use Rattle.cut_net.specs.WellFormed.{IsNetwork}
 use Rattle.cut_report.specs.ReportLine.{ReportLine, Last, report_line, written}
-use Rattle.cut_report.specs.ReportLines.{HasForm, IsGoodAfter, IsNextLine, IsFront, BeginsWith, IsWrongLine, IsBadLine, IsUnknownName, IsOutOfOrder, has_line_end, last_of, IsReportOutcome}
+use Rattle.cut_report.specs.ReportLines.{IsWellFormed, IsGoodAfter, IsAllowedLine, IsPrefix, BeginsWith, IsWrongLine, IsBadLine, IsUnknownName, IsOutOfOrder, has_line_end, last_of, IsReportOutcome}
 use Rattle.texts.proofs.FieldCuts.{cut_takes, without, some, some_is, with_some}
 use Rattle.cut_report.specs.declared.fault.ReportLineFault.{ReportLineFault}
 use Rattle.cut_report.specs.declared.fault.ReportLineFault.TheVariants as faults
-use Rattle.cut_report.specs.ReportLine.{front_lines, entry_lines}
+use Rattle.cut_report.specs.ReportLine.{leading_lines, entry_lines}
 use Rattle.cut_report.specs.Lines.{line_of_text}
 use Rattle.cut_report.specs.declared.fault.ReportFault.{ReportFault}
-use Rattle.cut_report.specs.declared.draft.ReportDraft.{ReportDraft}
+use Rattle.cut_report.specs.declared.builder.ReportBuilder.{ReportBuilder}
 use Rattle.cut_report.specs.declared.report.Report.{Report}
-use Rattle.cut_report.specs.Drafts.{◌>>=◌, IsLineFault, IsReadAtLine, ReadSoFar, Start, Named, Open, Shut, Ended, finish_of, read_so_far_of, report_fault_in_line, step, text_step}
-use Rattle.cut_report.specs.Faults.{Tells, UnlessMemory}
+use Rattle.cut_report.specs.Builders.{◌>>=◌, IsLineFault, IsReadAtLine, BuilderState, Start, Named, Open, Shut, Ended, finish_of, builder_state_of, report_fault_in_line, step, text_step}
+use Rattle.cut_report.specs.Faults.{HasOutcome, UnlessMemory}
 use Rattle.cut_report.specs.Reading.{entry_of}
 use Rattle.cut_report.proofs.FaultLaws.{UnlessMemory-from}
 use Rattle.cut_report.proofs.LineLaws.{line_again, line_once, line_takes}
@@ -38,8 +38,8 @@ cut_front stop (b ∷ bytes) x e =
           rw (← pair) refl
       | inr goes ↦ let at : option_map (with_first b) (cut_at stop bytes) ≡ Some x = rw goes at e in
           let p = with_some b (cut_at stop bytes) x at in
-          let front : without stop (b ∷ p.0.0) ≡ true = rw (goes, cut_front stop bytes p.0 p.1) refl in
-          subst (λ (y : List ℕ × List ℕ). without stop y.0 ≡ true) p.2 front
+          let prefix : without stop (b ∷ p.0.0) ≡ true = rw (goes, cut_front stop bytes p.0 p.1) refl in
+          subst (λ (y : List ℕ × List ℕ). without stop y.0 ≡ true) p.2 prefix
     ]
 
 pub cut_none_without : (stop : ℕ) (bytes : List ℕ) → cut_at stop bytes ≡ None → without stop bytes ≡ true
@@ -65,8 +65,8 @@ begins rest text after e = record {
 }
 
 -- what a step over a line is, by what it gives
-abbrev pub TextIs : Network → List ℕ → ReadSoFar → List ℕ → Result ReadSoFar ReportLineFault → Type 0
-TextIs net bytes s after (Ok t) = IsFront net bytes (standing_lines net t) after × (length (standing_lines net t) ≡ length (standing_lines net s) + 1)
+abbrev pub TextIs : Network → List ℕ → BuilderState → List ℕ → Result BuilderState ReportLineFault → Type 0
+TextIs net bytes s after (Ok t) = IsPrefix net bytes (standing_lines net t) after × (length (standing_lines net t) ≡ length (standing_lines net s) + 1)
 TextIs net bytes s after (Err faults.BadLine) = IsBadLine net bytes (length (standing_lines net s))
 TextIs net bytes s after (Err faults.UnknownName) = IsUnknownName net bytes (length (standing_lines net s))
 TextIs net bytes s after (Err faults.Order) = IsOutOfOrder net bytes (length (standing_lines net s))
@@ -79,15 +79,15 @@ nonempty rest text b e =
     absurd (omega (arith, length-append (ended text) b.more, length_push text 10, n))
 
 -- no line that may follow is spelled so
-wrong : (net : Network) (s : ReadSoFar) (rest text : List ℕ) → BeginsWith rest text → ((line : ReportLine) → IsNextLine (last_line net s) line → report_line line ≢ text) → IsWrongLine (last_line net s) rest
+wrong : (net : Network) (s : BuilderState) (rest text : List ℕ) → BeginsWith rest text → ((line : ReportLine) → IsAllowedLine (last_line net s) line → report_line line ≢ text) → IsWrongLine (last_line net s) rest
 wrong net Start rest text b h = inr (λ e. absurd cc, (text, b, h))
 wrong net (Named x y) rest text b h = inr (λ e. absurd cc, (text, b, h))
 wrong net (Open p) rest text b h = inr (not_ended net p, (text, b, h))
 wrong net (Shut x y chain) rest text b h = inr (λ e. absurd cc, (text, b, h))
 wrong net (Ended e) rest text b h = inl (last_is_end net e, nonempty rest text b)
 
-next_front : (net : Network) (bytes : List ℕ) (lines : List ReportLine) (line : ReportLine) (rest after : List ℕ) → rest ≡ ended (report_line line) ++ after → IsFront net bytes lines rest → IsGoodAfter net (last_of None lines) line
-    → IsFront net bytes (lines ++ line ∷ []) after
+next_front : (net : Network) (bytes : List ℕ) (lines : List ReportLine) (line : ReportLine) (rest after : List ℕ) → rest ≡ ended (report_line line) ++ after → IsPrefix net bytes lines rest → IsGoodAfter net (last_of None lines) line
+    → IsPrefix net bytes (lines ++ line ∷ []) after
 next_front net bytes lines line rest after e f g =
     let more : written (lines ++ line ∷ []) ≡ written lines ++ ended (report_line line) = flat_map-append (λ x. ended (report_line x)) lines (line ∷ []) ∙ ap (λ (t : List ℕ). written lines ++ t) (append-nil (ended (report_line line))) in
     record {
@@ -95,59 +95,59 @@ next_front net bytes lines line rest after e f g =
       whole = f.whole ∙ ap (λ (t : List ℕ). written lines ++ t) e ∙ sym (append_assoc (written lines) (ended (report_line line)) after) ∙ ap (λ (t : List ℕ). t ++ after) (sym more);
     }
 
-by_line : (net : Network) (bytes : List ℕ) (s : ReadSoFar) (rest after : List ℕ) (line : ReportLine) (r : Result ReadSoFar ReportLineFault) → IsFront net bytes (standing_lines net s) rest → HasForm line
+by_line : (net : Network) (bytes : List ℕ) (s : BuilderState) (rest after : List ℕ) (line : ReportLine) (r : Result BuilderState ReportLineFault) → IsPrefix net bytes (standing_lines net s) rest → IsWellFormed line
     → rest ≡ ended (report_line line) ++ after → has_line_end (report_line line) ≡ false → StepIs net s line r → TextIs net bytes s after r
 by_line net bytes s rest after line (Ok t) f h e one is = (
   rw is.1 (next_front net bytes (standing_lines net s) line rest after e f is.0),
   rw is.1 (length_push (standing_lines net s) line),
 )
 by_line net bytes s rest after line (Err faults.BadLine) f h e one is =
-    let there : BeginsWith rest (report_line line) = record { more = after; whole = e; one_line = one } in
+    let present : BeginsWith rest (report_line line) = record { more = after; whole = e; one_line = one } in
     record {
       before = standing_lines net s;
       rest = rest;
-      front = f;
+      prefix = f;
       count = refl;
-      wrong = wrong net s rest (report_line line) there
+      wrong = wrong net s rest (report_line line) present
           (λ other next same. let bad : true ≡ false = sym next.follows ∙ rw (line_once other line next.form h same) is in absurd cc);
     }
 by_line net bytes s rest after line (Err faults.UnknownName) f h e one is = record {
   before = standing_lines net s;
   rest = rest;
-  front = f;
+  prefix = f;
   count = refl;
   line = line;
-  there = record { more = after; whole = e; one_line = one };
+  present = record { more = after; whole = e; one_line = one };
   next = is.0;
   unknown = is.1;
 }
 by_line net bytes s rest after line (Err faults.Order) f h e one is = record {
   before = standing_lines net s;
   rest = rest;
-  front = f;
+  prefix = f;
   count = refl;
   line = line;
-  there = record { more = after; whole = e; one_line = one };
+  present = record { more = after; whole = e; one_line = one };
   next = is.0;
   known = is.1;
   below = is.2;
 }
 by_line net bytes s rest after line (Err faults.Memory) f h e one is = tt
 
-pub text_is : (net : Network) (bytes : List ℕ) (s : ReadSoFar) (rest text after : List ℕ) → IsNetwork net → IsFront net bytes (standing_lines net s) rest → cut_at 10 rest ≡ Some (text, after) → TextIs net bytes s after (text_step net s text)
+pub text_is : (net : Network) (bytes : List ℕ) (s : BuilderState) (rest text after : List ℕ) → IsNetwork net → IsPrefix net bytes (standing_lines net s) rest → cut_at 10 rest ≡ Some (text, after) → TextIs net bytes s after (text_step net s text)
 unfolding text_step
 text_is net bytes s rest text after w f e = go (line_of_text text) refl
   where
-    there : BeginsWith rest text
-    there = begins rest text after e
+    present : BeginsWith rest text
+    present = begins rest text after e
 
     go : (o : Option ReportLine) → line_of_text text ≡ o → TextIs net bytes s after (ok_or o faults.BadLine >>= λ line. step net s line)
     go None h = record {
       before = standing_lines net s;
       rest = rest;
-      front = f;
+      prefix = f;
       count = refl;
-      wrong = wrong net s rest text there (λ line next same. let bad : None ≡ Some line = sym h ∙ (rw same at (line_again line next.form)) in absurd cc);
+      wrong = wrong net s rest text present (λ line next same. let bad : None ≡ Some line = sym h ∙ (rw same at (line_again line next.form)) in absurd cc);
     }
     go (Some line) h =
         let is = line_takes text line h in
@@ -156,33 +156,33 @@ text_is net bytes s rest text after w f e = go (line_of_text text) refl
         by_line net bytes s rest after line (step net s line) f is.form whole one (step_is net s line w f.good is.form)
 
 -- what a text is that has no whole line more
-pub rest_is : (net : Network) (bytes : List ℕ) (s : ReadSoFar) (rest : List ℕ) → IsNetwork net → IsFront net bytes (standing_lines net s) rest → cut_at 10 rest ≡ None
+pub rest_is : (net : Network) (bytes : List ℕ) (s : BuilderState) (rest : List ℕ) → IsNetwork net → IsPrefix net bytes (standing_lines net s) rest → cut_at 10 rest ≡ None
     → IsReportOutcome net bytes (finish_of s (length (standing_lines net s)) rest)
-rest_is net bytes Start rest w f e = record { before = []; rest = rest; front = f; unended = end_without rest (cut_none_without 10 rest e); not_last = λ same. absurd cc }
-rest_is net bytes (Named a b) rest w f e = record { before = standing_lines net (Named a b); rest = rest; front = f; unended = end_without rest (cut_none_without 10 rest e); not_last = λ same. absurd cc }
-rest_is net bytes (Open p) rest w f e = record { before = standing_lines net (Open p); rest = rest; front = f; unended = end_without rest (cut_none_without 10 rest e); not_last = not_ended net p }
-rest_is net bytes (Shut a b chain) rest w f e = record { before = standing_lines net (Shut a b chain); rest = rest; front = f; unended = end_without rest (cut_none_without 10 rest e); not_last = λ same. absurd cc }
+rest_is net bytes Start rest w f e = record { before = []; rest = rest; prefix = f; unended = end_without rest (cut_none_without 10 rest e); not_last = λ same. absurd cc }
+rest_is net bytes (Named a b) rest w f e = record { before = standing_lines net (Named a b); rest = rest; prefix = f; unended = end_without rest (cut_none_without 10 rest e); not_last = λ same. absurd cc }
+rest_is net bytes (Open p) rest w f e = record { before = standing_lines net (Open p); rest = rest; prefix = f; unended = end_without rest (cut_none_without 10 rest e); not_last = not_ended net p }
+rest_is net bytes (Shut a b chain) rest w f e = record { before = standing_lines net (Shut a b chain); rest = rest; prefix = f; unended = end_without rest (cut_none_without 10 rest e); not_last = λ same. absurd cc }
 rest_is net bytes (Ended entry) [] w f e = record {
-  report = good_report net entry w (good_front net None (front_lines net entry) (Last ∷ []) f.good);
+  report = good_report net entry w (good_front net None (leading_lines net entry) (Last ∷ []) f.good);
   spelled = f.whole ∙ append-nil (written (entry_lines net entry));
 }
 rest_is net bytes (Ended entry) (b ∷ rest) w f e =
-    (length (standing_lines net (Ended entry)), refl, record { before = standing_lines net (Ended entry); rest = b ∷ rest; front = f; count = refl; wrong = inl (last_is_end net entry, λ same. absurd cc) })
+    (length (standing_lines net (Ended entry)), refl, record { before = standing_lines net (Ended entry); rest = b ∷ rest; prefix = f; count = refl; wrong = inl (last_is_end net entry, λ same. absurd cc) })
 
 -- what is answered where no whole line follows
-pub told_at_end : (net : Network) (bytes : List ℕ) (s : ReadSoFar) (before : ℕ) (rest : List ℕ) (result : Result Report ReportFault) → IsNetwork net → IsFront net bytes (standing_lines net s) rest → cut_at 10 rest ≡ None
-    → before ≡ length (standing_lines net s) → IfOk result (λ report. finish_of s before rest ≡ Ok (entry_of report)) → IfErr result (λ fault. finish_of s before rest ≡ Err fault) → Tells entry_of result (IsReportOutcome net bytes)
+pub told_at_end : (net : Network) (bytes : List ℕ) (s : BuilderState) (before : ℕ) (rest : List ℕ) (result : Result Report ReportFault) → IsNetwork net → IsPrefix net bytes (standing_lines net s) rest → cut_at 10 rest ≡ None
+    → before ≡ length (standing_lines net s) → IfOk result (λ report. finish_of s before rest ≡ Ok (entry_of report)) → IfErr result (λ fault. finish_of s before rest ≡ Err fault) → HasOutcome entry_of result (IsReportOutcome net bytes)
 told_at_end net bytes s before rest (Ok report) w f e n ok err = subst (IsReportOutcome net bytes) ok (rw n (rest_is net bytes s rest w f e))
 told_at_end net bytes s before rest (Err fault) w f e n ok err = UnlessMemory-from fault (subst (IsReportOutcome net bytes) err (rw n (rest_is net bytes s rest w f e)))
 
 -- a good line, and the lines go on after it
-pub goes_on : (net : Network) (bytes : List ℕ) (s t : ReadSoFar) (rest text after : List ℕ) → IsNetwork net → IsFront net bytes (standing_lines net s) rest → cut_at 10 rest ≡ Some (text, after) → text_step net s text ≡ Ok t
-    → IsFront net bytes (standing_lines net t) after × (length (standing_lines net t) ≡ length (standing_lines net s) + 1)
+pub goes_on : (net : Network) (bytes : List ℕ) (s t : BuilderState) (rest text after : List ℕ) → IsNetwork net → IsPrefix net bytes (standing_lines net s) rest → cut_at 10 rest ≡ Some (text, after) → text_step net s text ≡ Ok t
+    → IsPrefix net bytes (standing_lines net t) after × (length (standing_lines net t) ≡ length (standing_lines net s) + 1)
 goes_on net bytes s t rest text after w f e is = rw is at (text_is net bytes s rest text after w f e)
 
 -- the fault of a line is that of the text
-pub fails : (net : Network) (bytes : List ℕ) (s : ReadSoFar) (rest text after : List ℕ) (line : ℕ) (fault : ReportFault) → IsNetwork net → IsFront net bytes (standing_lines net s) rest → cut_at 10 rest ≡ Some (text, after)
-    → line ≡ length (standing_lines net s) + 1 → IsReadAtLine {X = ReportDraft} line read_so_far_of (Err fault) (text_step net s text) → UnlessMemory fault (IsReportOutcome net bytes (Err fault))
+pub fails : (net : Network) (bytes : List ℕ) (s : BuilderState) (rest text after : List ℕ) (line : ℕ) (fault : ReportFault) → IsNetwork net → IsPrefix net bytes (standing_lines net s) rest → cut_at 10 rest ≡ Some (text, after)
+    → line ≡ length (standing_lines net s) + 1 → IsReadAtLine {X = ReportBuilder} line builder_state_of (Err fault) (text_step net s text) → UnlessMemory fault (IsReportOutcome net bytes (Err fault))
 fails net bytes s rest text after line fault w f e n given = rw given.1 (by_fault given.0 given.2)
   where
     by_fault : (x : ReportLineFault) → IsLineFault x (text_step net s text) → UnlessMemory (report_fault_in_line line x) (IsReportOutcome net bytes (Err (report_fault_in_line line x)))

@@ -13,7 +13,7 @@ use Rattle.std.proofs.lemmas.Str.Ascii.{IsAscii-cons, IsAscii-nil}
 use Rattle.texts.specs.Fields.{is_name, line_of}
 use Rattle.texts.proofs.FieldCuts.{without}
 use Rattle.texts.proofs.FieldNames.{name_is_text, name_without, without-append}
-use Rattle.cut_report.specs.Lines.{with_next, words_of}
+use Rattle.cut_report.specs.Lines.{joined_with, words_of}
 
 -- the words of a text with a blank between each two are the text
 pub joined : (bytes : List ℕ) → line_of (words_of bytes) ≡ bytes
@@ -73,14 +73,14 @@ pub words_are_text : (bytes : List ℕ) → list_all is_name (words_of bytes) �
 words_are_text bytes e = subst IsUtf8 (joined bytes) (names_are_text (words_of bytes) e)
 
 -- the words of one more module
-pub words_next : (name : ℕ → List ℕ) (modules : List ℕ) (k d : ℕ) → k < length modules → line_of (map name (take (k + 1) modules)) ≡ with_next (line_of (map name (take k modules))) k (name (get_or modules k d))
+pub words_next : (name : ℕ → List ℕ) (modules : List ℕ) (k d : ℕ) → k < length modules → line_of (map name (take (k + 1) modules)) ≡ joined_with (line_of (map name (take k modules))) k (name (get_or modules k d))
 words_next name modules k d lt =
     let more : map name (take (k + 1) modules) ≡ map name (take k modules) ++ name (get_or modules k d) ∷ [] = ap (map name) (take_more modules k d lt) ∙ map_push name (take k modules) (get_or modules k d) in
     elim (cases_eq k 0) [
       | inl e ↦ rw (more, e) refl
       | inr ne ↦
           let long = length-map (take k modules) name in
-          let front = length-take-le k modules (omega arith) in
+          let prefix = length-take-le k modules (omega arith) in
           rw (more, word_more (map name (take k modules)) (name (get_or modules k d)) (omega arith), ne_eqb k 0 ne) refl
     ]
 

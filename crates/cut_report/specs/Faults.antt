@@ -15,9 +15,9 @@ UnlessMemory faults.Device P = P
 UnlessMemory faults.Memory P = Unit {0}
 
 -- the result, seen by the view, has the property, unless an allocation failed
-abbrev pub Tells : {X Y : Type 0} → (X → Y) → Result X ReportFault → (Result Y ReportFault → Type 0) → Type 0
-Tells view (Ok x) IsOutcome = IsOutcome (Ok (view x))
-Tells view (Err fault) IsOutcome = UnlessMemory fault (IsOutcome (Err fault))
+abbrev pub HasOutcome : {X Y : Type 0} → (X → Y) → Result X ReportFault → (Result Y ReportFault → Type 0) → Type 0
+HasOutcome view (Ok x) IsOutcome = IsOutcome (Ok (view x))
+HasOutcome view (Err fault) IsOutcome = UnlessMemory fault (IsOutcome (Err fault))
 
 -- the error of a sink as one of a report
 abbrev pub fault_of_sink : SinkFault → ReportFault

@@ -4,7 +4,7 @@ pub mod ReportText
 pub mod ReportLines
 pub mod Faults
 pub mod Lines
-pub mod Drafts
+pub mod Builders
 pub mod Reach
 pub mod Reading
 pub mod NetLines

@@ -12,17 +12,17 @@ abbrev pub words_of : List ℕ → List (List ℕ)
 words_of bytes = slice_split (λ b. b == 32) bytes
 
 -- the text of this number of words with one more word
-abbrev pub with_next : List ℕ → ℕ → List ℕ → List ℕ
-with_next text count word = if count == 0 then text ++ word else text ++ 32 ∷ word
+abbrev pub joined_with : List ℕ → ℕ → List ℕ → List ℕ
+joined_with text count word = if count == 0 then text ++ word else text ++ 32 ∷ word
 
 -- the content of a line, with names as byte lists
-abbrev pub line_seen : Line → ReportLine
-line_seen (lines.Ends m n) = Ends m.now n.now
-line_seen (lines.Weighs w) = Weighs w
-line_seen (lines.Removes m n w) = Removes m.now n.now w
-line_seen (lines.Flows m n f) = Flows m.now n.now f
-line_seen (lines.Blocks names) = Blocks (words_of names.now)
-line_seen lines.Last = Last
+abbrev pub line_content : Line → ReportLine
+line_content (lines.Ends m n) = Ends m.now n.now
+line_content (lines.Weighs w) = Weighs w
+line_content (lines.Removes m n w) = Removes m.now n.now w
+line_content (lines.Flows m n f) = Flows m.now n.now f
+line_content (lines.Blocks names) = Blocks (words_of names.now)
+line_content lines.Last = Last
 
 infixl 10 ◌>>=◌
 abbrev pub ◌>>=◌ : {A B : Type 0} → Option A → (A → Option B) → Option B
@@ -71,4 +71,4 @@ line_of_text text = if bytes_eq text (codes "end") then Some Last else (cut_at 3
 
 -- the bytes begin with a line, which has this content if any, and the rest follows its LF
 abbrev pub IsFirstLine : List ℕ → Option ReportLine → List ℕ → Type 0
-IsFirstLine text said rest = (line : List ℕ) × (cut_at 10 text ≡ Some (line, rest)) × (line_of_text line ≡ said)
+IsFirstLine text claim rest = (line : List ℕ) × (cut_at 10 text ≡ Some (line, rest)) × (line_of_text line ≡ claim)

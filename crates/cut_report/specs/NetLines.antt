@@ -4,7 +4,7 @@ use Rattle.std.specs.List.{flat_map, zip}
 use Rattle.digraph.specs.ShortestPaths.{AreChain}
 use Rattle.texts.specs.Fields.{ended}
 use Rattle.cut_net.specs.declared.priced.Priced.{Priced}
-use Rattle.cut_net.specs.Cuts.{same_ends, Any, Imports}
+use Rattle.cut_net.specs.Cuts.{have_equal_ends, Any, Imports}
 use Rattle.cut_net.specs.NetReading.{import_line}
 use Rattle.cut_net.specs.NetText.{NetLine, Module, Import, net_line}
 use Rattle.cut_net.specs.Network.{Network}
@@ -12,9 +12,9 @@ use Rattle.cut_report.specs.declared.net_writer.NetLine as declared
 use Rattle.cut_report.specs.declared.net_writer.NetLine.TheVariants as lines
 
 -- the content of a line, with names as byte lists
-abbrev pub net_line_seen : declared.NetLine → NetLine
-net_line_seen (lines.Module m) = Module m.now
-net_line_seen (lines.Import m n w) = Import m.now n.now w
+abbrev pub net_line_content : declared.NetLine → NetLine
+net_line_content (lines.Module m) = Module m.now
+net_line_content (lines.Import m n w) = Import m.now n.now w
 
 -- a line with its LF
 abbrev pub ended_line : NetLine → List ℕ
@@ -38,7 +38,7 @@ free_import m n = record { from = m; to = n; amount = 0 }
 
 -- the import of the network between two modules, or one of weight 0 if there is none
 abbrev pub import_between : Network → ℕ → ℕ → Priced
-import_between net m n = unwrap_or (find (same_ends (free_import m n)) net.imports) (free_import m n)
+import_between net m n = unwrap_or (find (have_equal_ends (free_import m n)) net.imports) (free_import m n)
 
 -- the imports between each two consecutive modules of a list
 abbrev pub imports_along : Network → List ℕ → List Priced

@@ -1,13 +1,13 @@
 -- The content of an answer and of a report, as a specification.
 use Rattle.std.specs.Prelude.{ℕ}
 use Rattle.cut_net.specs.declared.answer.Answer.{Answer}
-use Rattle.cut_net.specs.Answers.{said_by}
+use Rattle.cut_net.specs.Answers.{answer_claim}
 use Rattle.cut_report.specs.ReportClaim.{ReportClaim}
 use Rattle.cut_report.specs.declared.report.Report.{Report}
 
 -- the content of an answer for two modules
 abbrev pub claim_of : ℕ → ℕ → Answer → ReportClaim
-claim_of from to answer = record { from = from; to = to; said = said_by answer }
+claim_of from to answer = record { from = from; to = to; claim = answer_claim answer }
 
 -- the content of a report
 abbrev pub entry_of : Report → ReportClaim

@@ -5,7 +5,7 @@ use Rattle.std.specs.Fmt.{decimal}
 use Rattle.cut_net.specs.declared.priced.Priced.{Priced}
 use Rattle.texts.specs.Fields.{ended, line_of}
 use Rattle.cut_net.specs.Network.{Network, name_of}
-use Rattle.cut_net.specs.Said.{Said, CutOf, BlockedBy}
+use Rattle.cut_net.specs.AnswerClaim.{AnswerClaim, CutOf, BlockedBy}
 use Rattle.cut_report.specs.ReportClaim.{ReportClaim}
 
 -- the content of a line: the two modules, the weight, an import to remove with its weight, an import with its flow, the names of a path of
@@ -40,14 +40,14 @@ abbrev pub flows : Network → Priced → ReportLine
 flows net line = Flows (name_of net line.from) (name_of net line.to) line.amount
 
 -- the lines between the first and the last
-abbrev pub said_lines : Network → Said → List ReportLine
-said_lines net (CutOf total printed flow) = Weighs total ∷ (map (removes net) printed ++ map (flows net) flow)
-said_lines net (BlockedBy chain) = Blocks (map (name_of net) chain) ∷ []
+abbrev pub answer_lines : Network → AnswerClaim → List ReportLine
+answer_lines net (CutOf total printed flow) = Weighs total ∷ (map (removes net) printed ++ map (flows net) flow)
+answer_lines net (BlockedBy chain) = Blocks (map (name_of net) chain) ∷ []
 
 -- all lines but the last
-abbrev pub front_lines : Network → ReportClaim → List ReportLine
-front_lines net entry = Ends (name_of net entry.from) (name_of net entry.to) ∷ said_lines net entry.said
+abbrev pub leading_lines : Network → ReportClaim → List ReportLine
+leading_lines net entry = Ends (name_of net entry.from) (name_of net entry.to) ∷ answer_lines net entry.claim
 
 -- all lines
 abbrev pub entry_lines : Network → ReportClaim → List ReportLine
-entry_lines net entry = front_lines net entry ++ Last ∷ []
+entry_lines net entry = leading_lines net entry ++ Last ∷ []

@@ -13,13 +13,13 @@ use Rattle.cut_report.specs.declared.fault.ReportFault.{ReportFault}
 use Rattle.cut_report.specs.declared.fault.ReportFault.TheVariants as faults
 
 -- names are identifiers, numbers fit 64 bits, no flow is 0, and no path is empty
-abbrev pub HasForm : ReportLine → Type 0
-HasForm (Ends m n) = (is_name m ≡ true) × (is_name n ≡ true)
-HasForm (Weighs w) = w < 2 ^ 64
-HasForm (Removes m n w) = (is_name m ≡ true) × (is_name n ≡ true) × (w < 2 ^ 64)
-HasForm (Flows m n f) = (is_name m ≡ true) × (is_name n ≡ true) × (f < 2 ^ 64) × (0 < f)
-HasForm (Blocks names) = (0 < length names) × (list_all is_name names ≡ true)
-HasForm Last = Unit {0}
+abbrev pub IsWellFormed : ReportLine → Type 0
+IsWellFormed (Ends m n) = (is_name m ≡ true) × (is_name n ≡ true)
+IsWellFormed (Weighs w) = w < 2 ^ 64
+IsWellFormed (Removes m n w) = (is_name m ≡ true) × (is_name n ≡ true) × (w < 2 ^ 64)
+IsWellFormed (Flows m n f) = (is_name m ≡ true) × (is_name n ≡ true) × (f < 2 ^ 64) × (0 < f)
+IsWellFormed (Blocks names) = (0 < length names) × (list_all is_name names ≡ true)
+IsWellFormed Last = Unit {0}
 
 -- which kinds of line may follow which: the two modules, the weight, `remove` lines, `flow` lines, the end;
 -- or the two modules, a path of pinned imports, the end
@@ -68,17 +68,17 @@ may_follow (Some Last) (Blocks _) = false
 may_follow (Some Last) Last = false
 
 -- a module of the network has the name
-abbrev pub IsKnownName : Network → List ℕ → Type 0
-IsKnownName net name = Contains net.names name
+abbrev pub IsModuleName : Network → List ℕ → Type 0
+IsModuleName net name = Contains net.names name
 
 -- the network has the line's names
-abbrev pub HasKnownNames : Network → ReportLine → Type 0
-HasKnownNames net (Ends m n) = IsKnownName net m × IsKnownName net n
-HasKnownNames net (Weighs w) = Unit {0}
-HasKnownNames net (Removes m n w) = IsKnownName net m × IsKnownName net n
-HasKnownNames net (Flows m n f) = IsKnownName net m × IsKnownName net n
-HasKnownNames net (Blocks names) = All (IsKnownName net) names
-HasKnownNames net Last = Unit {0}
+abbrev pub HasModuleNames : Network → ReportLine → Type 0
+HasModuleNames net (Ends m n) = IsModuleName net m × IsModuleName net n
+HasModuleNames net (Weighs w) = Unit {0}
+HasModuleNames net (Removes m n w) = IsModuleName net m × IsModuleName net n
+HasModuleNames net (Flows m n f) = IsModuleName net m × IsModuleName net n
+HasModuleNames net (Blocks names) = All (IsModuleName net) names
+HasModuleNames net Last = Unit {0}
 
 -- the one pair of names comes before the other, by their bytes
 abbrev pub pair_is_before : List ℕ → List ℕ → List ℕ → List ℕ → Bool
@@ -115,9 +115,9 @@ is_above last Last = true
 
 -- the line may follow the previous one: its form, its kind, its names and their order are right
 pub record IsGoodAfter (net : Network) (last : Option ReportLine) (line : ReportLine) : Type 0 where
-  pub form : HasForm line
+  pub form : IsWellFormed line
   pub follows : may_follow last line ≡ true
-  pub known : HasKnownNames net line
+  pub known : HasModuleNames net line
   pub above : is_above last line ≡ true
 
 -- the last of the lines, or the given one if there are none
@@ -131,7 +131,7 @@ AreGoodAfter net last [] = Unit {0}
 AreGoodAfter net last (line ∷ lines) = IsGoodAfter net last line × AreGoodAfter net (Some line) lines
 
 -- the bytes begin with these good lines, and the rest follows
-pub record IsFront (net : Network) (bytes : List ℕ) (lines : List ReportLine) (rest : List ℕ) : Type 0 where
+pub record IsPrefix (net : Network) (bytes : List ℕ) (lines : List ReportLine) (rest : List ℕ) : Type 0 where
   pub good : AreGoodAfter net None lines
   pub whole : bytes ≡ written lines ++ rest
 
@@ -146,21 +146,21 @@ pub record BeginsWith (rest line : List ℕ) : Type 0 where
   pub one_line : has_line_end line ≡ false
 
 -- the line may follow, by its form and kind
-pub record IsNextLine (last : Option ReportLine) (line : ReportLine) : Type 0 where
-  pub form : HasForm line
+pub record IsAllowedLine (last : Option ReportLine) (line : ReportLine) : Type 0 where
+  pub form : IsWellFormed line
   pub follows : may_follow last line ≡ true
 
 -- a line that may not follow, by its form or kind, or a byte after the last line
 abbrev pub IsWrongLine : Option ReportLine → List ℕ → Type 0
 IsWrongLine last rest =
     ((last ≡ Some Last) × (rest ≢ []))
-    ⊎ ((last ≢ Some Last) × ((text : List ℕ) × BeginsWith rest text × ((line : ReportLine) → IsNextLine last line → report_line line ≢ text)))
+    ⊎ ((last ≢ Some Last) × ((text : List ℕ) × BeginsWith rest text × ((line : ReportLine) → IsAllowedLine last line → report_line line ≢ text)))
 
 -- good lines, and then this error
 pub record IsBadLine (net : Network) (bytes : List ℕ) (k : ℕ) : Type 0 where
   pub before : List ReportLine
   pub rest : List ℕ
-  pub front : IsFront net bytes before rest
+  pub prefix : IsPrefix net bytes before rest
   pub count : length before ≡ k
   pub wrong : IsWrongLine (last_of None before) rest
 
@@ -168,30 +168,30 @@ pub record IsBadLine (net : Network) (bytes : List ℕ) (k : ℕ) : Type 0 where
 pub record IsUnknownName (net : Network) (bytes : List ℕ) (k : ℕ) : Type 0 where
   pub before : List ReportLine
   pub rest : List ℕ
-  pub front : IsFront net bytes before rest
+  pub prefix : IsPrefix net bytes before rest
   pub count : length before ≡ k
   pub line : ReportLine
-  pub there : BeginsWith rest (report_line line)
-  pub next : IsNextLine (last_of None before) line
-  pub unknown : HasKnownNames net line → ⊥
+  pub present : BeginsWith rest (report_line line)
+  pub next : IsAllowedLine (last_of None before) line
+  pub unknown : HasModuleNames net line → ⊥
 
 -- good lines, and then a line of known names that may follow by its form and kind, but doesn't come after its predecessor
 pub record IsOutOfOrder (net : Network) (bytes : List ℕ) (k : ℕ) : Type 0 where
   pub before : List ReportLine
   pub rest : List ℕ
-  pub front : IsFront net bytes before rest
+  pub prefix : IsPrefix net bytes before rest
   pub count : length before ≡ k
   pub line : ReportLine
-  pub there : BeginsWith rest (report_line line)
-  pub next : IsNextLine (last_of None before) line
-  pub known : HasKnownNames net line
+  pub present : BeginsWith rest (report_line line)
+  pub next : IsAllowedLine (last_of None before) line
+  pub known : HasModuleNames net line
   pub below : is_above (last_of None before) line ≡ false
 
 -- good lines without the last, and then no whole line
 pub record HasNoEnd (net : Network) (bytes : List ℕ) : Type 0 where
   pub before : List ReportLine
   pub rest : List ℕ
-  pub front : IsFront net bytes before rest
+  pub prefix : IsPrefix net bytes before rest
   pub unended : has_line_end rest ≡ false
   pub not_last : last_of None before ≢ Some Last
 

@@ -4,7 +4,7 @@ use Rattle.cut_net.specs.declared.priced.Priced.{Priced}
 use Rattle.cut_net.specs.Network.{Network}
 use Rattle.cut_net.specs.Lines.{IsAscending}
 use Rattle.cut_net.specs.WellFormed.{AreBetween}
-use Rattle.cut_net.specs.Said.{Said, CutOf, BlockedBy}
+use Rattle.cut_net.specs.AnswerClaim.{AnswerClaim, CutOf, BlockedBy}
 use Rattle.cut_report.specs.ReportClaim.{ReportClaim}
 use Rattle.cut_report.specs.ReportLine.{entry_lines, written}
 
@@ -24,7 +24,7 @@ pub record IsSayable (net : Network) (total : ℕ) (printed flow : List Priced) 
   pub flow_above_zero : All (λ line. 0 < line.amount) flow
 
 -- a well-formed answer: such a cut, or one or more modules of the network
-abbrev pub MaySay : Network → Said → Type 0
+abbrev pub MaySay : Network → AnswerClaim → Type 0
 MaySay net (CutOf total printed flow) = IsSayable net total printed flow
 MaySay net (BlockedBy chain) = (0 < length chain) × All (λ m. m < length net.names) chain
 
@@ -32,7 +32,7 @@ MaySay net (BlockedBy chain) = (0 < length chain) × All (λ m. m < length net.n
 pub record IsReport (net : Network) (entry : ReportClaim) : Type 0 where
   pub from : entry.from < length net.names
   pub to : entry.to < length net.names
-  pub says : MaySay net entry.said
+  pub says : MaySay net entry.claim
 
 -- the bytes are the text of this report
 pub record ReportText (net : Network) (bytes : List ℕ) (entry : ReportClaim) : Type 0 where

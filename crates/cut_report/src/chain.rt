@@ -39,7 +39,7 @@ pub fn least_chain_of(
     // Without a result no path leads from the one module to the other.
     ensures none { IfOk result (λ answer. IfNone answer (Chain (Imports net.now.imports Any) from to → ⊥)) }
 {
-    net.keeps();
+    net.invariants();
     let edges = edges_of(alloc, net.imports())?;
     least_chain(alloc, edges.as_slice(), net.nodes() as usize, from, to)
 }

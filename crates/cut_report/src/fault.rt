@@ -74,7 +74,7 @@ pub(crate) enum ReportLineFault {
 
 impl ReportLineFault {
     ghost use Rattle.std.specs.Prelude.{◌≡◌};
-    ghost use Rattle.cut_report.specs.Drafts.{report_fault_in_line};
+    ghost use Rattle.cut_report.specs.Builders.{report_fault_in_line};
 
     pub(crate) fn at(self, line: u64) -> ReportFault
         ensures { result ≡ report_fault_in_line line self }

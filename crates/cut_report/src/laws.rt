@@ -30,7 +30,7 @@ pub fn what_is_written_is_read()
 
 /// `Net::read` inverts `write_net` for networks without pins: the text that `write_net` writes has the network as an outcome.
 /// By `one_reading` of `cut_net` it has no other. So `Net::read` returns the network, unless an allocation fails.
-pub fn what_net_puts_is_the_network()
+pub fn written_net_is_read()
     // The text that `write_net` writes is a text of the network.
     ensures text { (net : Network) → IsNetwork net → net.pins ≡ [] → NetText (net_text net) net }
     // It has the network as an outcome.

@@ -1,22 +1,22 @@
 //! Reports of cuts and of paths of pinned imports: their reader and writer; the writers of a network and of a path of imports.
 //! Also the shortest path between two modules, and the modules that a module reaches or that reach it (`digraph`, breadth-first search).
-//! Depends on `cut_net` for networks, `texts` for fields of lines, and `byte_sink` and `text_pieces` for output; it reexports `byte_sink`.
+//! Depends on `cut_net` for networks, `texts` for fields of lines, and `byte_sink` for output; it reexports `byte_sink`.
 //! The main calls are `read` and `write`. A report has exactly one text; `read` returns the report of a text or its first error.
 #![tactic(auto)]
 
+mod builder;
 mod chain;
-mod draft;
 mod fault;
+mod import_guess;
 pub mod laws;
 mod line;
-mod near;
 mod net_writer;
 mod reach;
 mod reader;
 mod report;
 mod writer;
 
-pub use byte_sink::{Sink, SinkFault, ToWrite, put_all};
+pub use byte_sink::{Sink, SinkFault, ToWrite, write_fully};
 pub use chain::least_chain_of;
 pub use fault::ReportFault;
 pub use net_writer::{write_chain, write_net};

@@ -3,12 +3,12 @@ ghost use Rattle.std.specs.Prelude.{◌≡◌, ◌++◌, ◌∷◌, IfNone, IfSo
 ghost use Rattle.std.specs.List.{list_all};
 ghost use Rattle.texts.specs.Fields.{cut_at, is_name};
 ghost use Rattle.cut_report.specs.ReportLine.{report_line};
-ghost use Rattle.cut_report.specs.ReportLines.{HasForm};
-ghost use Rattle.cut_report.specs.Lines.{amount_of, blocks_of, ends_of, line_of_text, line_seen, line_under, words_of, IsFirstLine};
+ghost use Rattle.cut_report.specs.ReportLines.{IsWellFormed};
+ghost use Rattle.cut_report.specs.Lines.{amount_of, blocks_of, ends_of, line_of_text, line_content, line_under, words_of, IsFirstLine};
 
 use std::fmt;
-use texts::ahead::amount_ahead;
-use texts::fields::{cut_at_byte, is_identifier, name_in, number_in};
+use texts::fields::{cut_at_byte, field_name, field_number, is_identifier};
+use texts::prefixes::parse_amount;
 
 /// The content of a line.
 #[derive(Clone, Copy, Drop)]
@@ -31,9 +31,9 @@ pub(crate) enum Line<'a> {
 impl fmt::Display for Line<'_> {
     ghost use Rattle.std.specs.Prelude.{Some};
     ghost use Rattle.cut_report.specs.ReportLine.{report_line};
-    ghost use Rattle.cut_report.specs.Lines.{line_seen};
+    ghost use Rattle.cut_report.specs.Lines.{line_content};
 
-    ghost output = { λ line. Some (report_line (line_seen line)) };
+    ghost output = { λ line. Some (report_line (line_content line)) };
 
     fn fmt<W: fmt::Write>(&self, f: &mut fmt::Formatter<W>) -> fmt::Result {
         match self {
@@ -53,8 +53,8 @@ fn ends_in(fields: &[u8]) -> Option<(&str, &str)>
     ensures { option_map (λ x. (x.0.now, x.1.now)) result ≡ ends_of fields.now }
 {
     let (from, to) = cut_at_byte(fields, b' ')?;
-    let from = name_in(from)?;
-    let to = name_in(to)?;
+    let from = field_name(from)?;
+    let to = field_name(to)?;
     Some((from, to))
 }
 
@@ -65,9 +65,9 @@ fn amount_in(fields: &[u8]) -> Option<(&str, &str, u64)>
 {
     let (from, rest) = cut_at_byte(fields, b' ')?;
     let (to, amount) = cut_at_byte(rest, b' ')?;
-    let from = name_in(from)?;
-    let to = name_in(to)?;
-    let amount = number_in(amount)?;
+    let from = field_name(from)?;
+    let to = field_name(to)?;
+    let amount = field_number(amount)?;
     Some((from, to, amount))
 }
 
@@ -81,7 +81,7 @@ fn are_names(text: &str) -> bool
 /// One or more names, separated by spaces.
 #[tactic(auto, unfolding(crate::specs::Lines::blocks_of))]
 fn chain_in(fields: &[u8]) -> Option<Line<'_>>
-    ensures { option_map line_seen result ≡ blocks_of fields.now }
+    ensures { option_map line_content result ≡ blocks_of fields.now }
 {
     match std::str::from_utf8(fields) {
         Err(_) => None,
@@ -92,14 +92,14 @@ fn chain_in(fields: &[u8]) -> Option<Line<'_>>
 /// The line of a keyword and the fields after it.
 #[tactic(auto, unfolding(crate::specs::Lines::line_under))]
 fn fields_in<'a>(word: &[u8], fields: &'a [u8]) -> Option<Line<'a>>
-    ensures { option_map line_seen result ≡ line_under word.now fields.now }
+    ensures { option_map line_content result ≡ line_under word.now fields.now }
 {
     if word == b"cut".as_slice() {
         let (from, to) = ends_in(fields)?;
         return Some(Line::Ends(from, to));
     }
     if word == b"weight".as_slice() {
-        let weight = number_in(fields)?;
+        let weight = field_number(fields)?;
         return Some(Line::Weighs(weight));
     }
     if word == b"blocked".as_slice() {
@@ -117,8 +117,8 @@ fn fields_in<'a>(word: &[u8], fields: &'a [u8]) -> Option<Line<'a>>
 
 /// The line of these bytes, which have no LF.
 #[tactic(auto, unfolding(crate::specs::Lines::line_of_text))]
-pub(crate) fn line_in(text: &[u8]) -> Option<Line<'_>>
-    ensures { option_map line_seen result ≡ line_of_text text.now }
+pub(crate) fn parse_line(text: &[u8]) -> Option<Line<'_>>
+    ensures { option_map line_content result ≡ line_of_text text.now }
 {
     if text == b"end".as_slice() {
         return Some(Line::Last);
@@ -127,14 +127,14 @@ pub(crate) fn line_in(text: &[u8]) -> Option<Line<'_>>
     fields_in(word, fields)
 }
 
-/// The `flow` line with which the bytes begin, and the bytes after its LF. It is parsed without searching for the LF first, since most lines of a
-/// report are `flow` lines. None for another line, and for one that can't be parsed this way.
-fn flow_ahead(text: &[u8]) -> Option<(Line<'_>, &[u8])>
-    ensures form { IfSome result (λ x. HasForm (line_seen x.0)) }
-    ensures text { IfSome result (λ x. text.now ≡ report_line (line_seen x.0) ++ 10 ∷ x.1.now) }
+/// The `flow` line with which the bytes begin, and the bytes after its LF. It is parsed without searching for the LF first, since most
+/// lines of a report are `flow` lines. None for another line, and for one that can't be parsed this way.
+fn parse_flow_line(text: &[u8]) -> Option<(Line<'_>, &[u8])>
+    ensures form { IfSome result (λ x. IsWellFormed (line_content x.0)) }
+    ensures text { IfSome result (λ x. text.now ≡ report_line (line_content x.0) ++ 10 ∷ x.1.now) }
 {
     let fields = text.strip_prefix(b"flow ")?;
-    let ((from, to, flow), rest) = amount_ahead(fields)?;
+    let ((from, to, flow), rest) = parse_amount(fields)?;
     if flow == 0 {
         return None;
     }
@@ -143,12 +143,12 @@ fn flow_ahead(text: &[u8]) -> Option<(Line<'_>, &[u8])>
 
 /// The first line of the bytes, if it is one of a report, and the bytes after its LF. None if there is no LF.
 pub(crate) fn first_line(text: &[u8]) -> Option<(Option<Line<'_>>, &[u8])>
-    ensures line { IfSome result (λ x. IsFirstLine text.now (option_map line_seen x.0) x.1.now) }
+    ensures line { IfSome result (λ x. IsFirstLine text.now (option_map line_content x.0) x.1.now) }
     ensures none { IfNone result (cut_at 10 text.now ≡ None) }
 {
-    if let Some((line, rest)) = flow_ahead(text) {
+    if let Some((line, rest)) = parse_flow_line(text) {
         return Some((Some(line), rest));
     }
     let (text, rest) = cut_at_byte(text, b'\n')?;
-    Some((line_in(text), rest))
+    Some((parse_line(text), rest))
 }

@@ -1,18 +1,18 @@
 //! Writing a network, and a path of its imports.
 ghost use Rattle.std.specs.Prelude.{◌≡◌, ◌++◌, [], ◌<◌, length, map, IfErr, IfOk, OnOk};
 ghost use Rattle.std.specs.String.{string_bytes};
-ghost use Rattle.byte_sink.specs.Sinks.{failures_after, AppendsFront, Puts};
-ghost use Rattle.text_pieces.specs.Pieces.{PutsAllBut};
+ghost use Rattle.byte_sink.specs.Sinks.{failures_after, AppendsPrefix, Writes};
+ghost use Rattle.byte_sink.specs.Pieces.{WritesAllBut};
 ghost use Rattle.cut_net.specs.NetReading.{import_line};
 ghost use Rattle.cut_net.specs.NetText.{Module};
 ghost use Rattle.cut_net.specs.WellFormed.{AreBetween};
-ghost use Rattle.cut_report.specs.NetLines.{chain_text, import_between, imports_along, net_line_seen, ended_line, ended_lines, net_text, AreImportChain};
+ghost use Rattle.cut_report.specs.NetLines.{chain_text, import_between, imports_along, net_line_content, ended_line, ended_lines, net_text, AreImportChain};
 
-use crate::{Sink, SinkFault, put_all};
+use crate::{Sink, SinkFault, write_fully};
+use byte_sink::flush_if_full;
 use cut_net::{Net, Priced, line_of};
 use std::alloc::{AllocError, Global};
 use std::fmt;
-use text_pieces::put_enough;
 
 /// The content of a line of a network.
 #[derive(Clone, Copy, Drop)]
@@ -27,9 +27,9 @@ enum NetLine<'a> {
 impl fmt::Display for NetLine<'_> {
     ghost use Rattle.std.specs.Prelude.{Some};
     ghost use Rattle.cut_net.specs.NetText.{net_line};
-    ghost use Rattle.cut_report.specs.NetLines.{net_line_seen};
+    ghost use Rattle.cut_report.specs.NetLines.{net_line_content};
 
-    ghost output = { λ line. Some (net_line (net_line_seen line)) };
+    ghost output = { λ line. Some (net_line (net_line_content line)) };
 
     fn fmt<W: fmt::Write>(&self, f: &mut fmt::Formatter<W>) -> fmt::Result {
         match self {
@@ -41,21 +41,21 @@ impl fmt::Display for NetLine<'_> {
 
 /// Appends a line with its LF to the text, and writes the text if it is long.
 fn push_line<S: Sink>(text: &mut String, line: NetLine, sink: &mut S) -> Result<(), SinkFault>
-    ensures gathered { OnOk result (PutsAllBut (S.taken sink.old) (S.taken sink.new)
-        (string_bytes text.old ++ ended_line (net_line_seen line.entry)) (string_bytes text.new)) }
-    ensures broken { IfErr result (λ _. AppendsFront (S.taken sink.old) (S.taken sink.new)
-        (string_bytes text.old ++ ended_line (net_line_seen line.entry))) }
+    ensures gathered { OnOk result (WritesAllBut (S.taken sink.old) (S.taken sink.new)
+        (string_bytes text.old ++ ended_line (net_line_content line.entry)) (string_bytes text.new)) }
+    ensures error_prefix { IfErr result (λ _. AppendsPrefix (S.taken sink.old) (S.taken sink.new)
+        (string_bytes text.old ++ ended_line (net_line_content line.entry))) }
     ensures failures { S.failures sink.new ≡ failures_after result (S.failures sink.old) }
 {
     writeln!(text, "{line}").map_err(|_| SinkFault::Memory)?;
-    put_enough(text, sink)
+    flush_if_full(text, sink)
 }
 
 /// Appends a line for each module.
 fn push_modules<S: Sink>(text: &mut String, net: &Net, sink: &mut S) -> Result<(), SinkFault>
-    ensures gathered { OnOk result (PutsAllBut (S.taken sink.old) (S.taken sink.new)
+    ensures gathered { OnOk result (WritesAllBut (S.taken sink.old) (S.taken sink.new)
         (string_bytes text.old ++ ended_lines (map Module net.now.names)) (string_bytes text.new)) }
-    ensures broken { IfErr result (λ _. AppendsFront (S.taken sink.old) (S.taken sink.new)
+    ensures error_prefix { IfErr result (λ _. AppendsPrefix (S.taken sink.old) (S.taken sink.new)
         (string_bytes text.old ++ ended_lines (map Module net.now.names))) }
     ensures failures { S.failures sink.new ≡ failures_after result (S.failures sink.old) }
 {
@@ -73,9 +73,9 @@ fn push_imports<S: Sink>(
     sink: &mut S,
 ) -> Result<(), SinkFault>
     requires { AreBetween imports.now (length net.now.names) }
-    ensures gathered { OnOk result (PutsAllBut (S.taken sink.old) (S.taken sink.new)
+    ensures gathered { OnOk result (WritesAllBut (S.taken sink.old) (S.taken sink.new)
         (string_bytes text.old ++ ended_lines (map (import_line net.now.names) imports.now)) (string_bytes text.new)) }
-    ensures broken { IfErr result (λ _. AppendsFront (S.taken sink.old) (S.taken sink.new)
+    ensures error_prefix { IfErr result (λ _. AppendsPrefix (S.taken sink.old) (S.taken sink.new)
         (string_bytes text.old ++ ended_lines (map (import_line net.now.names) imports.now))) }
     ensures failures { S.failures sink.new ≡ failures_after result (S.failures sink.old) }
 {
@@ -93,22 +93,22 @@ pub fn write_net<S: Sink>(alloc: Global, net: &Net, sink: &mut S) -> Result<(), 
     // Nothing is pinned, since a network's text can't express a pin.
     requires { net.now.pins ≡ [] }
     // With `Ok` the sink took the whole text, otherwise a prefix of it.
-    ensures puts { Puts (S.taken sink.old) (S.taken sink.new) result (net_text net.now) }
+    ensures writes { Writes (S.taken sink.old) (S.taken sink.new) result (net_text net.now) }
     // The sink counts a failure if and only if the result is `Device`.
     ensures failures { S.failures sink.new ≡ failures_after result (S.failures sink.old) }
 {
-    net.keeps();
+    net.invariants();
     let mut text = String::new(alloc);
     push_modules(&mut text, net, sink)?;
     push_imports(&mut text, net, net.imports(), sink)?;
-    put_all(sink, text.as_bytes())
+    write_fully(sink, text.as_bytes())
 }
 
 /// The import between two modules, or one of weight 0 if there is none.
 fn import_between(net: &Net, from: u32, to: u32) -> Priced
     ensures { result ≡ import_between net.now from to }
 {
-    net.keeps();
+    net.invariants();
     let none = Priced {
         from,
         to,
@@ -141,15 +141,15 @@ pub fn write_chain<S: Sink>(
     // Nothing is pinned, since a pinned import has no weight.
     requires unpinned { net.now.pins ≡ [] }
     // With `Ok` the sink took all of the lines, otherwise a prefix of them.
-    ensures puts { Puts (S.taken sink.old) (S.taken sink.new) result (chain_text net.now chain.now) }
+    ensures writes { Writes (S.taken sink.old) (S.taken sink.new) result (chain_text net.now chain.now) }
     // The sink counts a failure if and only if the result is `Device`.
     ensures failures { S.failures sink.new ≡ failures_after result (S.failures sink.old) }
 {
-    net.keeps();
+    net.invariants();
     let Ok(imports) = imports_along(alloc, net, chain) else {
         return Err(SinkFault::Memory);
     };
     let mut text = String::new(alloc);
     push_imports(&mut text, net, imports.as_slice(), sink)?;
-    put_all(sink, text.as_bytes())
+    write_fully(sink, text.as_bytes())
 }

@@ -7,7 +7,7 @@ ghost use Rattle.cut_report.specs.Reach.{Reaches};
 
 use crate::chain::edges_of;
 use cut_net::Net;
-use digraph::{Edge, flipped, graph_of, put_in_order};
+use digraph::{Edge, graph_of, sort_all, transposed};
 use std::alloc::{AllocError, Global};
 
 /// The nodes to which a path of one or more edges leads from the start, in ascending order.
@@ -50,7 +50,7 @@ pub fn reached_modules(alloc: Global, net: &Net, from: u32) -> Result<Vec<u32>, 
     // They are modules of the network.
     ensures within { IfOk result (λ reached. All (λ n. n < length net.now.names) reached.items) }
 {
-    net.keeps();
+    net.invariants();
     let edges = edges_of(alloc, net.imports())?;
     nodes_after(alloc, edges.as_slice(), net.nodes() as usize, from)
 }
@@ -66,9 +66,9 @@ pub fn reaching_modules(alloc: Global, net: &Net, to: u32) -> Result<Vec<u32>, A
     // They are modules of the network.
     ensures within { IfOk result (λ reaching. All (λ n. n < length net.now.names) reaching.items) }
 {
-    net.keeps();
+    net.invariants();
     let edges = edges_of(alloc, net.imports())?;
-    let mut reversed = flipped(alloc, edges.as_slice())?;
-    put_in_order(&mut reversed);
+    let mut reversed = transposed(alloc, edges.as_slice())?;
+    sort_all(&mut reversed);
     nodes_after(alloc, reversed.as_slice(), net.nodes() as usize, to)
 }

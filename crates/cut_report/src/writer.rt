@@ -2,34 +2,34 @@
 ghost use Rattle.std.specs.Prelude.{◌≡◌, ◌++◌, ◌<◌, true, length, map, All, IfErr, IfOk, OnOk};
 ghost use Rattle.std.specs.String.{string_bytes};
 ghost use Rattle.texts.specs.Fields.{ended, line_of};
-ghost use Rattle.cut_net.specs.Answers.{said_by, said_by_cut};
+ghost use Rattle.cut_net.specs.Answers.{answer_claim, cut_claim};
 ghost use Rattle.cut_net.specs.Network.{name_of};
-ghost use Rattle.cut_net.specs.Said.{BlockedBy};
-ghost use Rattle.cut_report.specs.ReportLine.{flows, removes, report_line, said_lines, written};
+ghost use Rattle.cut_net.specs.AnswerClaim.{BlockedBy};
+ghost use Rattle.cut_report.specs.ReportLine.{flows, removes, report_line, answer_lines, written};
 ghost use Rattle.cut_report.specs.ReportText.{report_text, IsReport, MaySay};
 ghost use Rattle.cut_net.specs.WellFormed.{AreBetween};
 ghost use Rattle.cut_report.specs.Faults.{is_failure, is_of_sink};
-ghost use Rattle.cut_report.specs.Lines.{line_seen, with_next};
+ghost use Rattle.cut_report.specs.Lines.{line_content, joined_with};
 ghost use Rattle.cut_report.specs.Reading.{claim_of};
-ghost use Rattle.byte_sink.specs.Sinks.{failures_after, failures_by, AppendsFront, Puts, PutsBy};
-ghost use Rattle.text_pieces.specs.Pieces.{PutsAllBut};
+ghost use Rattle.byte_sink.specs.Sinks.{failures_after, failures_by, AppendsPrefix, Writes, WritesBy};
+ghost use Rattle.byte_sink.specs.Pieces.{WritesAllBut};
 
 use crate::line::Line;
-use crate::{ReportFault, Sink, SinkFault, put_all};
+use crate::{ReportFault, Sink, SinkFault, write_fully};
+use byte_sink::flush_if_full;
 use cut_net::{Answer, Cut, Net, Priced};
 use std::alloc::{AllocError, Global};
-use text_pieces::put_enough;
 
 /// Appends a line with its LF to the text, and writes the text if it is long.
 fn push_line<S: Sink>(text: &mut String, line: Line, sink: &mut S) -> Result<(), SinkFault>
-    ensures gathered { OnOk result (PutsAllBut (S.taken sink.old) (S.taken sink.new)
-        (string_bytes text.old ++ ended (report_line (line_seen line.entry))) (string_bytes text.new)) }
-    ensures broken { IfErr result (λ _. AppendsFront (S.taken sink.old) (S.taken sink.new)
-        (string_bytes text.old ++ ended (report_line (line_seen line.entry)))) }
+    ensures gathered { OnOk result (WritesAllBut (S.taken sink.old) (S.taken sink.new)
+        (string_bytes text.old ++ ended (report_line (line_content line.entry))) (string_bytes text.new)) }
+    ensures error_prefix { IfErr result (λ _. AppendsPrefix (S.taken sink.old) (S.taken sink.new)
+        (string_bytes text.old ++ ended (report_line (line_content line.entry)))) }
     ensures failures { S.failures sink.new ≡ failures_after result (S.failures sink.old) }
 {
     writeln!(text, "{line}").map_err(|_| SinkFault::Memory)?;
-    put_enough(text, sink)
+    flush_if_full(text, sink)
 }
 
 /// Appends a line for each import to remove.
@@ -40,9 +40,9 @@ fn push_removes<S: Sink>(
     sink: &mut S,
 ) -> Result<(), SinkFault>
     requires { AreBetween imports.now (length net.now.names) }
-    ensures gathered { OnOk result (PutsAllBut (S.taken sink.old) (S.taken sink.new)
+    ensures gathered { OnOk result (WritesAllBut (S.taken sink.old) (S.taken sink.new)
         (string_bytes text.old ++ written (map (removes net.now) imports.now)) (string_bytes text.new)) }
-    ensures broken { IfErr result (λ _. AppendsFront (S.taken sink.old) (S.taken sink.new)
+    ensures error_prefix { IfErr result (λ _. AppendsPrefix (S.taken sink.old) (S.taken sink.new)
         (string_bytes text.old ++ written (map (removes net.now) imports.now))) }
     ensures failures { S.failures sink.new ≡ failures_after result (S.failures sink.old) }
 {
@@ -62,9 +62,9 @@ fn push_flows<S: Sink>(
     sink: &mut S,
 ) -> Result<(), SinkFault>
     requires { AreBetween imports.now (length net.now.names) }
-    ensures gathered { OnOk result (PutsAllBut (S.taken sink.old) (S.taken sink.new)
+    ensures gathered { OnOk result (WritesAllBut (S.taken sink.old) (S.taken sink.new)
         (string_bytes text.old ++ written (map (flows net.now) imports.now)) (string_bytes text.new)) }
-    ensures broken { IfErr result (λ _. AppendsFront (S.taken sink.old) (S.taken sink.new)
+    ensures error_prefix { IfErr result (λ _. AppendsPrefix (S.taken sink.old) (S.taken sink.new)
         (string_bytes text.old ++ written (map (flows net.now) imports.now))) }
     ensures failures { S.failures sink.new ≡ failures_after result (S.failures sink.old) }
 {
@@ -78,11 +78,11 @@ fn push_flows<S: Sink>(
 
 /// Appends the lines of a cut.
 fn push_cut<S: Sink>(text: &mut String, net: &Net, cut: &Cut, sink: &mut S) -> Result<(), SinkFault>
-    requires { MaySay net.now (said_by_cut cut.now) }
-    ensures gathered { OnOk result (PutsAllBut (S.taken sink.old) (S.taken sink.new)
-        (string_bytes text.old ++ written (said_lines net.now (said_by_cut cut.now))) (string_bytes text.new)) }
-    ensures broken { IfErr result (λ _. AppendsFront (S.taken sink.old) (S.taken sink.new)
-        (string_bytes text.old ++ written (said_lines net.now (said_by_cut cut.now)))) }
+    requires { MaySay net.now (cut_claim cut.now) }
+    ensures gathered { OnOk result (WritesAllBut (S.taken sink.old) (S.taken sink.new)
+        (string_bytes text.old ++ written (answer_lines net.now (cut_claim cut.now))) (string_bytes text.new)) }
+    ensures error_prefix { IfErr result (λ _. AppendsPrefix (S.taken sink.old) (S.taken sink.new)
+        (string_bytes text.old ++ written (answer_lines net.now (cut_claim cut.now)))) }
     ensures failures { S.failures sink.new ≡ failures_after result (S.failures sink.old) }
 {
     push_line(text, Line::Weighs(cut.weight), sink)?;
@@ -92,7 +92,7 @@ fn push_cut<S: Sink>(text: &mut String, net: &Net, cut: &Cut, sink: &mut S) -> R
 
 /// Appends a word to the text, after a space if the text isn't empty.
 fn push_word(text: &mut String, count: usize, word: &str) -> Result<(), AllocError>
-    ensures { OnOk result (string_bytes text.new ≡ with_next (string_bytes text.old) count word.now) }
+    ensures { OnOk result (string_bytes text.new ≡ joined_with (string_bytes text.old) count word.now) }
 {
     if count > 0 {
         text.push_str(" ")?;
@@ -101,7 +101,7 @@ fn push_word(text: &mut String, count: usize, word: &str) -> Result<(), AllocErr
 }
 
 /// The names of the modules, separated by spaces.
-fn names_of(alloc: Global, net: &Net, modules: &[u32]) -> Result<String, AllocError>
+fn joined_names(alloc: Global, net: &Net, modules: &[u32]) -> Result<String, AllocError>
     requires { All (λ m. m < length net.now.names) modules.now }
     ensures { IfOk result (λ t. string_bytes t ≡ line_of (map (name_of net.now) modules.now)) }
 {
@@ -121,13 +121,13 @@ fn push_chain<S: Sink>(
     sink: &mut S,
 ) -> Result<(), SinkFault>
     requires { MaySay net.now (BlockedBy chain.now) }
-    ensures gathered { OnOk result (PutsAllBut (S.taken sink.old) (S.taken sink.new)
-        (string_bytes text.old ++ written (said_lines net.now (BlockedBy chain.now))) (string_bytes text.new)) }
-    ensures broken { IfErr result (λ _. AppendsFront (S.taken sink.old) (S.taken sink.new)
-        (string_bytes text.old ++ written (said_lines net.now (BlockedBy chain.now)))) }
+    ensures gathered { OnOk result (WritesAllBut (S.taken sink.old) (S.taken sink.new)
+        (string_bytes text.old ++ written (answer_lines net.now (BlockedBy chain.now))) (string_bytes text.new)) }
+    ensures error_prefix { IfErr result (λ _. AppendsPrefix (S.taken sink.old) (S.taken sink.new)
+        (string_bytes text.old ++ written (answer_lines net.now (BlockedBy chain.now)))) }
     ensures failures { S.failures sink.new ≡ failures_after result (S.failures sink.old) }
 {
-    let Ok(names) = names_of(alloc, net, chain) else {
+    let Ok(names) = joined_names(alloc, net, chain) else {
         return Err(SinkFault::Memory);
     };
     push_line(text, Line::Blocks(names.as_str()), sink)
@@ -141,11 +141,11 @@ fn push_answer<S: Sink>(
     answer: &Answer,
     sink: &mut S,
 ) -> Result<(), SinkFault>
-    requires { MaySay net.now (said_by answer.now) }
-    ensures gathered { OnOk result (PutsAllBut (S.taken sink.old) (S.taken sink.new)
-        (string_bytes text.old ++ written (said_lines net.now (said_by answer.now))) (string_bytes text.new)) }
-    ensures broken { IfErr result (λ _. AppendsFront (S.taken sink.old) (S.taken sink.new)
-        (string_bytes text.old ++ written (said_lines net.now (said_by answer.now)))) }
+    requires { MaySay net.now (answer_claim answer.now) }
+    ensures gathered { OnOk result (WritesAllBut (S.taken sink.old) (S.taken sink.new)
+        (string_bytes text.old ++ written (answer_lines net.now (answer_claim answer.now))) (string_bytes text.new)) }
+    ensures error_prefix { IfErr result (λ _. AppendsPrefix (S.taken sink.old) (S.taken sink.new)
+        (string_bytes text.old ++ written (answer_lines net.now (answer_claim answer.now)))) }
     ensures failures { S.failures sink.new ≡ failures_after result (S.failures sink.old) }
 {
     match answer {
@@ -155,7 +155,7 @@ fn push_answer<S: Sink>(
 }
 
 /// Writes the text of the report in pieces.
-fn put_text<S: Sink>(
+fn write_text<S: Sink>(
     alloc: Global,
     net: &Net,
     from: u32,
@@ -164,14 +164,14 @@ fn put_text<S: Sink>(
     sink: &mut S,
 ) -> Result<(), SinkFault>
     requires { IsReport net.now (claim_of from to answer.now) }
-    ensures puts { Puts (S.taken sink.old) (S.taken sink.new) result (report_text net.now (claim_of from to answer.now)) }
+    ensures writes { Writes (S.taken sink.old) (S.taken sink.new) result (report_text net.now (claim_of from to answer.now)) }
     ensures failures { S.failures sink.new ≡ failures_after result (S.failures sink.old) }
 {
     let mut text = String::new(alloc);
     push_line(&mut text, Line::Ends(net.name(from), net.name(to)), sink)?;
     push_answer(alloc, &mut text, net, answer, sink)?;
     push_line(&mut text, Line::Last, sink)?;
-    put_all(sink, text.as_bytes())
+    write_fully(sink, text.as_bytes())
 }
 
 /// Writes the report of an answer for two modules of the network, which are given by their numbers.
@@ -184,15 +184,16 @@ pub fn write<S: Sink>(
     answer: &Answer,
     sink: &mut S,
 ) -> Result<(), ReportFault>
-    // The lists of a cut are strictly sorted imports between modules of the network, and no flow is 0; a path has one or more modules of the network.
+    // The lists of a cut are strictly sorted imports between modules of the network, and no flow is 0; a path has one or more modules of
+    // the network.
     requires { IsReport net.now (claim_of from to answer.now) }
     // With `Ok` the sink took the whole text, otherwise a prefix of it.
-    ensures puts { PutsBy is_of_sink (S.taken sink.old) (S.taken sink.new) result (report_text net.now (claim_of from to answer.now)) }
+    ensures writes { WritesBy is_of_sink (S.taken sink.old) (S.taken sink.new) result (report_text net.now (claim_of from to answer.now)) }
     // The sink counts a failure if and only if the result is `Device`.
     ensures failures { S.failures sink.new ≡ failures_by is_failure result (S.failures sink.old) }
     // No error of a text is returned.
     ensures of_sink { IfErr result (λ fault. is_of_sink fault ≡ true) }
 {
-    put_text(alloc, net, from, to, answer, sink)?;
+    write_text(alloc, net, from, to, answer, sink)?;
     Ok(())
 }

@@ -4,8 +4,8 @@ use Rattle.cut_net.specs.Network.{Network}
 use Rattle.cut_rules.specs.declared.file.File.{File}
 use Rattle.cut_rules.specs.declared.table.SetTable.{SetTable}
 use Rattle.cut_rules.specs.RuleLines.{Selector, Module, Folder, Named, Tree, Adds}
-use Rattle.cut_rules.specs.Rules.{LineFault, TooMany, empty_fault, rank, AreManyBefore, HasPattern, IsModule, IsWrong}
-use Rattle.cut_rules.specs.Drafts.{pattern_count, IsAddition, IsTable, SelectsAny}
+use Rattle.cut_rules.specs.Rules.{LineFault, TooMany, empty_fault, rank, IsOverLimit, HasPattern, IsModule, IsWrong}
+use Rattle.cut_rules.specs.Builders.{pattern_count, IsAddition, IsTable, SelectsAny}
 use Rattle.cut_rules.proofs.FaultLaws.{adds_right, empty_wrong, many_first}
 use Rattle.cut_rules.proofs.LineLists.{few_before, many_before}
 use Rattle.cut_rules.proofs.Numbers.{has_number, is_name_of}
@@ -16,7 +16,7 @@ module _ (net : Network) (files : List File) (sets pieces : List (List ℕ)) (co
   pub right : (place : Option ℕ) (selector : Selector) (any : Bool) → IsAddition net files old place selector any new → any ≡ true → new.patterns ≤ 4096 → (fault : LineFault) → IsWrong net files pieces line fault (Adds s selector) → ⊥
   right place selector any is some few = adds_right net files pieces line s selector (λ x m own. is_name_of net x m own.0 own.1) (is.any_is.0 some) (λ pattern e. not_many pattern (subst (λ (t : Selector). new.patterns ≡ old.patterns + pattern_count t) e is.patterns)) apart
     where
-      not_many : (pattern : List ℕ) → new.patterns ≡ old.patterns + 1 → AreManyBefore (HasPattern pieces) line → ⊥
+      not_many : (pattern : List ℕ) → new.patterns ≡ old.patterns + 1 → IsOverLimit (HasPattern pieces) line → ⊥
       not_many pattern sum = let (lines, of, long) = table.patterns in few_before (HasPattern pieces) count lines of line number (omega arith)
 
   -- one that adds none

@@ -6,11 +6,11 @@ use Rattle.cut_rules.specs.declared.fault.RulesFault.{RulesFault}
 use Rattle.cut_rules.specs.declared.fault.RulesFault.TheVariants as faults
 use Rattle.cut_rules.specs.declared.file.File.{File}
 use Rattle.cut_rules.specs.declared.rule.RuleKind.{RuleKind}
-use Rattle.cut_rules.specs.RuleLines.{RuleLine, Selector, Module, Folder, Named, Tree, Adds, Restricts, Allow, IsIdle, IsPieceAt, Says, Spells}
+use Rattle.cut_rules.specs.RuleLines.{RuleLine, Selector, Module, Folder, Named, Tree, Adds, Restricts, Allow, IsIdle, IsPieceAt, States, Spells}
 use Rattle.cut_rules.specs.LineReading.{is_idle, rule_line_of}
-use Rattle.cut_rules.specs.Rules.{LineFault, BadLine, SetIsModule, NoSuchModule, TwiceAllowed, EmptySet, TooMany, empty_fault, rank, AreManyBefore, HasFault, HasPattern, IsFirstUnknown, IsModule, IsNoLine, IsRule, IsUnknown, IsWrong, Selects}
-use Rattle.cut_rules.specs.Names.{IsKnown}
-use Rattle.cut_rules.specs.Drafts.{SelectsAny}
+use Rattle.cut_rules.specs.Rules.{LineFault, BadLine, SetIsModule, NoSuchModule, TwiceAllowed, EmptySet, TooMany, empty_fault, rank, IsOverLimit, HasFault, HasPattern, IsFirstUnknown, IsModule, IsNoLine, IsRule, IsUnknown, IsWrong, Selects}
+use Rattle.cut_rules.specs.Names.{IsDeclaredName}
+use Rattle.cut_rules.specs.Builders.{SelectsAny}
 use Rattle.cut_rules.specs.Faults.{cause_of, IsFirstFault, IsRefusal, UnlessMemory}
 use Rattle.cut_rules.proofs.LineLaws.{idle_is, idle_says, idle_takes, no_line, one_piece, says_one}
 
@@ -32,7 +32,7 @@ module _ (net : Network) (files : List File) (pieces : List (List ℕ)) where
   wrong_once line content TooMany TooMany a b e = refl
   wrong_once line content f g a b e = absurd (first_of (assumption, omega arith))
 
-  no_bad : (line : ℕ) → IsNoLine net files pieces line → (content : RuleLine) → Says pieces line content → ⊥
+  no_bad : (line : ℕ) → IsNoLine net files pieces line → (content : RuleLine) → States pieces line content → ⊥
   no_bad line (piece, at, written, none) content s = none content (subst (λ (p : List ℕ). Spells p content) (one_piece pieces line s.piece piece s.at at) s.spelled)
 
   fault_once : (line : ℕ) (f g : LineFault) → HasFault net files pieces line f → HasFault net files pieces line g → rank f ≡ rank g → f ≡ g
@@ -46,9 +46,9 @@ module _ (net : Network) (files : List File) (pieces : List (List ℕ)) where
   one_refusal a b (l, f, first, a_is) (m, g, second, b_is) = elim (cases_order l m) [
     | inl e ↦
         let here : HasFault net files pieces l g = subst (λ (n : ℕ). HasFault net files pieces n g) (sym e) second.has in
-        let there : HasFault net files pieces m f = subst (λ (n : ℕ). HasFault net files pieces n f) e first.has in
+        let present : HasFault net files pieces m f = subst (λ (n : ℕ). HasFault net files pieces n f) e first.has in
         let low = first.first g here in
-        let high = second.first f there in
+        let high = second.first f present in
         let same = fault_once l f g first.has here (omega arith) in
         a_is ∙ ap₂ (λ (n : ℕ) (h : LineFault). Some (n, h)) e same ∙ sym b_is
     | inr differs ↦ elim differs [
@@ -67,7 +67,7 @@ module _ (net : Network) (files : List File) (pieces : List (List ℕ)) where
     bad_line piece at written none = first_fault BadLine (inl ((piece, at, (λ idle. false≢true (sym written ∙ idle_is piece idle)), no_line piece none), refl)) (λ other has. omega arith)
 
     -- a line with this content has no other faults than those that are wrong with it
-    pub wrong_line : (content : RuleLine) (fault : LineFault) → Says pieces line content → IsWrong net files pieces line fault content → ((other : LineFault) → IsWrong net files pieces line other content → rank fault ≤ rank other)
+    pub wrong_line : (content : RuleLine) (fault : LineFault) → States pieces line content → IsWrong net files pieces line fault content → ((other : LineFault) → IsWrong net files pieces line other content → rank fault ≤ rank other)
         → IsFirstFault net files pieces line fault
     wrong_line content fault says wrong low = first_fault fault (inr (content, says, wrong)) first
       where
@@ -81,7 +81,7 @@ module _ (net : Network) (files : List File) (pieces : List (List ℕ)) where
       | inr ne ↦ sound l fault (omega (arith, ne)) has
     ]
 
-    pub right_line : (content : RuleLine) → Says pieces line content → ((fault : LineFault) → IsWrong net files pieces line fault content → ⊥) → (l : ℕ) (fault : LineFault) → l ≤ line → HasFault net files pieces l fault → ⊥
+    pub right_line : (content : RuleLine) → States pieces line content → ((fault : LineFault) → IsWrong net files pieces line fault content → ⊥) → (l : ℕ) (fault : LineFault) → l ≤ line → HasFault net files pieces l fault → ⊥
     right_line content says right = sound_with here
       where
         here : (fault : LineFault) → HasFault net files pieces line fault → ⊥
@@ -92,13 +92,13 @@ module _ (net : Network) (files : List File) (pieces : List (List ℕ)) where
     idle_line piece at idle = sound_with here
       where
         here : (fault : LineFault) → HasFault net files pieces line fault → ⊥
-        here fault (inl ((other, there, written, none), is)) = written (subst (λ (p : List ℕ). IsIdle p) (one_piece pieces line piece other at there) (idle_takes piece idle))
+        here fault (inl ((other, present, written, none), is)) = written (subst (λ (p : List ℕ). IsIdle p) (one_piece pieces line piece other at present) (idle_takes piece idle))
         here fault (inr (content, says, wrong)) = idle_says pieces line piece content at idle says
 
   -- ---- a line that adds modules to a set
 
   pub adds_right : (line : ℕ) (s : List ℕ) (selector : Selector) → ((name : List ℕ) (m : ℕ) → Selects net files (Module name) m → IsModule net files pieces name) → SelectsAny net files selector
-      → ((pattern : List ℕ) → selector ≡ Named pattern → AreManyBefore (HasPattern pieces) line → ⊥) → (IsModule net files pieces s → ⊥) → (fault : LineFault) → IsWrong net files pieces line fault (Adds s selector) → ⊥
+      → ((pattern : List ℕ) → selector ≡ Named pattern → IsOverLimit (HasPattern pieces) line → ⊥) → (IsModule net files pieces s → ⊥) → (fault : LineFault) → IsWrong net files pieces line fault (Adds s selector) → ⊥
   adds_right line s selector named (m, any) few apart (SetIsModule x) wrong = apart wrong.1
   adds_right line s (Module name) named (m, any) few apart (NoSuchModule x) wrong = wrong.1 (named name m any)
   adds_right line s selector named (m, any) few apart (EmptySet x) wrong = wrong.1 m any
@@ -147,16 +147,16 @@ module _ (net : Network) (files : List File) (pieces : List (List ℕ)) where
   rule_many line kind x y first second TooMany wrong = omega arith
   rule_many line kind x y first second other wrong = absurd wrong
 
-  pub rule_right : (line : ℕ) (kind : RuleKind) (x y : List ℕ) → (IsUnknown net files pieces x → ⊥) → (IsUnknown net files pieces y → ⊥) → (AreManyBefore (IsRule pieces) line → ⊥) → (fault : LineFault) → IsWrong net files pieces line fault (Restricts kind x y) → ⊥
+  pub rule_right : (line : ℕ) (kind : RuleKind) (x y : List ℕ) → (IsUnknown net files pieces x → ⊥) → (IsUnknown net files pieces y → ⊥) → (IsOverLimit (IsRule pieces) line → ⊥) → (fault : LineFault) → IsWrong net files pieces line fault (Restricts kind x y) → ⊥
   rule_right line kind x y first second few (NoSuchModule name) (inl (e, un)) = first un
   rule_right line kind x y first second few (NoSuchModule name) (inr (e, un, known)) = second un
   rule_right line kind x y first second few TooMany wrong = few wrong
   rule_right line kind x y first second few other wrong = wrong
 
-  pub unknown_name : (x : List ℕ) → (IsKnown net pieces x → ⊥) → IsUnknown net files pieces x
+  pub unknown_name : (x : List ℕ) → (IsDeclaredName net pieces x → ⊥) → IsUnknown net files pieces x
   unknown_name x none = ((λ own. none (inl own)), (λ set. none (inr set)))
 
-  pub known_name : (x : List ℕ) → IsKnown net pieces x → IsUnknown net files pieces x → ⊥
+  pub known_name : (x : List ℕ) → IsDeclaredName net pieces x → IsUnknown net files pieces x → ⊥
   known_name x (inl own) unknown = unknown.0 own
   known_name x (inr set) unknown = unknown.1 set
 
@@ -166,7 +166,7 @@ module _ (net : Network) (files : List File) (pieces : List (List ℕ)) where
   twice_first line m n (TwiceAllowed k l) wrong = omega arith
   twice_first line m n other wrong = absurd wrong
 
-  pub allow_right : (line : ℕ) (m n : List ℕ) → ((before : ℕ) → before < line → Says pieces before (Allow m n) → ⊥) → (fault : LineFault) → IsWrong net files pieces line fault (Allow m n) → ⊥
+  pub allow_right : (line : ℕ) (m n : List ℕ) → ((before : ℕ) → before < line → States pieces before (Allow m n) → ⊥) → (fault : LineFault) → IsWrong net files pieces line fault (Allow m n) → ⊥
   allow_right line m n none (TwiceAllowed k l) (e, f, before, less, says) = none before less says
   allow_right line m n none other wrong = wrong
 

@@ -15,7 +15,7 @@ use Rattle.std.proofs.lemmas.List.Sorted.{searchable_from_sorted}
 use Rattle.std.proofs.lemmas.Option.{get_or_from_slice_get}
 use Rattle.std.proofs.lemmas.Slice.Eq.{starts_is}
 use Rattle.cut_rules.specs.declared.file.File.{File}
-use Rattle.cut_rules.specs.Folders.{is_before, is_not_behind, path_cmp}
+use Rattle.cut_rules.specs.Folders.{is_before, is_before_end, path_cmp}
 use Rattle.cut_rules.specs.Rules.{folder_prefix, IsBelow}
 use Rattle.cut_rules.proofs.Pieces.{get_low}
 
@@ -78,7 +78,7 @@ module _ (files : List File) (sorted : IsSorted path_cmp files) (text : List ℕ
       lowest Greater l = absurd (omega (arith, l))
 
   -- and so do those that come before it or begin with it
-  pub not_behind_first : IsPartitionedBy (is_not_behind text) files
+  pub not_behind_first : IsPartitionedBy (is_before_end text) files
   not_behind_first i j d le lt e = elim (or_cases _ _ e) [
     | inl before ↦ or_left _ _ (before_first i j d le lt before)
     | inr starts ↦
@@ -99,12 +99,12 @@ module _ (files : List File) (sorted : IsSorted path_cmp files) (text : List ℕ
 
 module _ (files : List File) (path text : List ℕ) (is_text : text ≡ folder_prefix path) (from to : ℕ)
     (first : IsPartitionPoint (λ f. is_before text f ≡ true) (λ f. is_before text f ≡ false) files from)
-    (last : IsPartitionPoint (λ f. is_not_behind text f ≡ true) (λ f. is_not_behind text f ≡ false) files to) where
+    (last : IsPartitionPoint (λ f. is_before_end text f ≡ true) (λ f. is_before_end text f ≡ false) files to) where
   pub places_are : (k : ℕ) (f : File) → slice_get files k ≡ Some f → ((from ≤ k) × (k < to)) ↔ IsBelow path f.path.now
   places_are k f at =
       let lt : k < length files = get_low files k f at in
       let here : get_or files k f ≡ f = get_or_from_slice_get files k f f at in (
-        λ (low, high). elim (or_cases _ _ (subst (λ (g : File). is_not_behind text g ≡ true) here (last.0 k f (omega arith) high))) [
+        λ (low, high). elim (or_cases _ _ (subst (λ (g : File). is_before_end text g ≡ true) here (last.0 k f (omega arith) high))) [
           | inl before ↦ absurd (let e : true ≡ false = sym before ∙ subst (λ (g : File). is_before text g ≡ false) here (first.1 k f low lt) in cc)
           | inr starts ↦ (drop (length text) f.path.now, (begins text f).0 starts ∙ ap (λ (t : List ℕ). t ++ drop (length text) f.path.now) is_text)
         ],
@@ -119,7 +119,7 @@ module _ (files : List File) (path text : List ℕ) (is_text : text ≡ folder_p
               elim (cases_lt k to) [
                 | inl below ↦ below
                 | inr above ↦
-                    let no : is_not_behind text f ≡ false = subst (λ (g : File). is_not_behind text g ≡ false) here (last.1 k f above lt) in
+                    let no : is_before_end text f ≡ false = subst (λ (g : File). is_before_end text g ≡ false) here (last.1 k f above lt) in
                     absurd (let e : true ≡ false = sym (or_right (is_before text f) _ ((begins text f).1 rest whole)) ∙ no in cc)
               ],
             ),

@@ -36,14 +36,14 @@ module _ {X : Type 0} (R : X → X → Type 0) (apart : (x y : X) → R x y → 
       let same : x ≡ y = heads x xs y ys up high (among x (first_member x xs x refl)) (closed x y (first_member x xs x refl) (first_member y ys y refl)) in
       let (rest, whole) = front_of xs ys (tail_pairs x xs up) (tail_pairs y ys high)
       (λ z has. behind_head y ys z (among z (later_member x xs z has)) (subst (λ (w : X). R w z) same (head_before x xs up z has)))
-      (λ z w has there less. behind_head x xs w (closed z w (later_member x xs z has) (later_member y ys w there) less) (subst (λ (v : X). R v w) (sym same) (head_before y ys high w there))) in
+      (λ z w has present less. behind_head x xs w (closed z w (later_member x xs z has) (later_member y ys w present) less) (subst (λ (v : X). R v w) (sym same) (head_before y ys high w present))) in
       (rest, ap₂ (λ (z : X) (zs : List X). z ∷ zs) (sym same) whole)
 
   -- with the same members they are one
   pub one_list : (xs ys : List X) → AllPairs R xs → AllPairs R ys → ((x : X) → Contains xs x → Contains ys x) → ((y : X) → Contains ys y → Contains xs y) → xs ≡ ys
   one_list xs ys up high among back =
-      let (rest, whole) = front_of xs ys up high among (λ x y has there less. back y there) in
-      let (more, other) = front_of ys xs high up back (λ y x has there less. among x there) in
+      let (rest, whole) = front_of xs ys up high among (λ x y has present less. back y present) in
+      let (more, other) = front_of ys xs high up back (λ y x has present less. among x present) in
       let long = ap length whole ∙ length-append xs rest in
       let again = ap length other ∙ length-append ys more in
       sym (whole ∙ ap (λ (l : List X). xs ++ l) (none rest (omega arith)) ∙ append-nil xs)

@@ -13,7 +13,7 @@ use Rattle.digraph.proofs.Members.{first_member, first_or_later, no_member}
 use Rattle.texts.proofs.FieldCuts.{some_is}
 use Rattle.cut_net.specs.declared.priced.Priced.{Priced}
 use Rattle.cut_net.specs.Lines.{edge_of}
-use Rattle.cut_net.specs.Network.{Network, index_of, name_of, none_there, unpinned}
+use Rattle.cut_net.specs.Network.{Network, index_of, name_of, missing_item, unpinned}
 use Rattle.cut_net.specs.WellFormed.{IsNetwork}
 use Rattle.cut_net.proofs.Places.{index_takes}
 use Rattle.cut_rules.specs.declared.file.File.{File}
@@ -22,9 +22,9 @@ use Rattle.cut_rules.specs.declared.rule.Rule.{Rule}
 use Rattle.cut_rules.specs.declared.rule.RuleKind.{RuleKind}
 use Rattle.cut_rules.specs.declared.rule.RuleKind.TheVariants as kinds
 use Rattle.cut_rules.specs.declared.rule_search.RuleSearch.{RuleSearch}
-use Rattle.cut_rules.specs.RuleLines.{Allow, May, Restricts, Says}
+use Rattle.cut_rules.specs.RuleLines.{Allow, May, Restricts, States}
 use Rattle.cut_rules.specs.Rules.{Counts, IsIn}
-use Rattle.cut_rules.specs.Drafts.{number_by, number_of}
+use Rattle.cut_rules.specs.Builders.{number_by, number_of}
 use Rattle.cut_rules.specs.Judged.{IsBarredBy, IsCountedGraph, IsFirstRule, IsNamed, IsOutsider, IsRepeated, IsRuleSearch, IsSearchFor, IsTargetBy}
 use Rattle.cut_rules.specs.Names.{names_in}
 use Rattle.cut_rules.specs.Outcomes.{AreRulesOf}
@@ -46,7 +46,7 @@ low_chain G count low m (n ∷ more) b (step, rest) v has = elim (first_or_later
   | inr later ↦ low_chain G count low n more b rest v later
 ]
 
-module _ (net : Network) (network : IsNetwork net) (files : List File) (pieces : List (List ℕ)) (rules : Rules) (are : AreRulesOf net files pieces rules) where
+module _ (net : Network) (network : IsNetwork net) (files : List File) (pieces : List (List ℕ)) (rules : Rules) (elements : AreRulesOf net files pieces rules) where
   abbrev nodes : ℕ
   nodes = length net.names
 
@@ -59,26 +59,26 @@ module _ (net : Network) (network : IsNetwork net) (files : List File) (pieces :
     pub counts : (m n : ℕ) → Leads graph.edges.now m n → Counts net pieces m n
     counts m n leads =
         let (k, lt, free, is) = (of.counted (record { from = m; to = n })).0 leads in
-        let i = get_or net.imports k none_there in (
+        let i = get_or net.imports k missing_item in (
           i,
-          Contains-get_or net.imports k none_there lt,
+          Contains-get_or net.imports k missing_item lt,
           ap (λ (p : Edge). p.from) is,
           ap (λ (p : Edge). p.to) is,
           λ (line, says).
-              let there = (are.allowed.are k lt).1 (line, (says_low pieces line _ says).1, says) in
-              let e : true ≡ false = sym there ∙ free in cc,
+              let present = (elements.allowed.elements k lt).1 (line, (says_low pieces line _ says).1, says) in
+              let e : true ≡ false = sym present ∙ free in cc,
         )
 
     pub counted_back : (m n : ℕ) → Counts net pieces m n → Leads graph.edges.now m n
     counted_back m n (i, (k, lt, is), from, to, free) =
-        let here : get_or net.imports k none_there ≡ i = get_or_default net.imports k none_there i lt ∙ is in
+        let here : get_or net.imports k missing_item ≡ i = get_or_default net.imports k missing_item i lt ∙ is in
         (of.counted (record { from = m; to = n })).1 (
           k,
           lt,
           elim (cases_Bool (marked rules.allowed.items k)) [
             | inl taken ↦
-                let (line, le, says) = (are.allowed.are k lt).0 taken in
-                absurd (free (line, subst (λ (j : Priced). Says pieces line (Allow (name_of net j.from) (name_of net j.to))) here says))
+                let (line, le, says) = (elements.allowed.elements k lt).0 taken in
+                absurd (free (line, subst (λ (j : Priced). States pieces line (Allow (name_of net j.from) (name_of net j.to))) here says))
             | inr no_mark ↦ no_mark
           ],
           ap edge_of here ∙ (λ k. record { from = from k; to = to k }),
@@ -119,29 +119,29 @@ module _ (net : Network) (network : IsNetwork net) (files : List File) (pieces :
   ]
 
   pub is_in : (x : List ℕ) (number m : ℕ) → m < nodes → number_of net sets x ≡ Some number → IsNamed rules number m ↔ IsIn net files pieces x m
-  is_in x number m low is = members_are net network files pieces rules are x number m is low
+  is_in x number m low is = members_are net network files pieces rules elements x number m is low
 
   -- ---- rules
 
   -- a line that restricts is that of a rule
-  rule_of : (line : ℕ) (kind : RuleKind) (x y : List ℕ) → Says pieces line (Restricts kind x y) → (r : Rule) × Contains rules.rules.items r × (r.line ≡ line) × (r.kind ≡ kind) × (number_of net sets x ≡ Some r.first) × (number_of net sets y ≡ Some r.second)
+  rule_of : (line : ℕ) (kind : RuleKind) (x y : List ℕ) → States pieces line (Restricts kind x y) → (r : Rule) × Contains rules.rules.items r × (r.line ≡ line) × (r.kind ≡ kind) × (number_of net sets x ≡ Some r.first) × (number_of net sets y ≡ Some r.second)
   rule_of line kind x y says =
-      let (r, has, at) = are.rules.all line kind x y (says_low pieces line _ says).1 says in
-      let (le, (u, v, own, first, second)) = are.rules.each r has in
-      let one : Restricts r.kind u v ≡ Restricts kind x y = says_one pieces line (Restricts r.kind u v) (Restricts kind x y) (subst (λ (n : ℕ). Says pieces n (Restricts r.kind u v)) at own) says in
+      let (r, has, at) = elements.rules.all line kind x y (says_low pieces line _ says).1 says in
+      let (le, (u, v, own, first, second)) = elements.rules.each r has in
+      let one : Restricts r.kind u v ≡ Restricts kind x y = says_one pieces line (Restricts r.kind u v) (Restricts kind x y) (subst (λ (n : ℕ). States pieces n (Restricts r.kind u v)) at own) says in
       let kind_is : r.kind ≡ kind = cc in
       let x_is : u ≡ x = cc in
       let y_is : v ≡ y = cc in
       (r, has, at, kind_is, subst (λ (n : List ℕ). number_of net sets n ≡ Some r.first) x_is first, subst (λ (n : List ℕ). number_of net sets n ≡ Some r.second) y_is second)
 
-  module _ (r : Rule) (x y : List ℕ) (says : Says pieces r.line (Restricts r.kind x y)) (first : number_of net sets x ≡ Some r.first) (second : number_of net sets y ≡ Some r.second) where
+  module _ (r : Rule) (x y : List ℕ) (says : States pieces r.line (Restricts r.kind x y)) (first : number_of net sets x ≡ Some r.first) (second : number_of net sets y ≡ Some r.second) where
     -- another line of the rule's number says the same
-    same_line : (kind : RuleKind) (u v : List ℕ) → Says pieces r.line (Restricts kind u v) → (r.kind ≡ kind) × (x ≡ u) × (y ≡ v)
+    same_line : (kind : RuleKind) (u v : List ℕ) → States pieces r.line (Restricts kind u v) → (r.kind ≡ kind) × (x ≡ u) × (y ≡ v)
     same_line kind u v other =
         let one : Restricts r.kind x y ≡ Restricts kind u v = says_one pieces r.line (Restricts r.kind x y) (Restricts kind u v) says other in
         (cc, cc, cc)
 
-    outsider : (n : ℕ) → n < nodes → IsOutsider rules r.first n → (IsIn net files pieces x n → ⊥) × ((other : ℕ) (v : List ℕ) → Says pieces other (May x v) → IsIn net files pieces v n → ⊥)
+    outsider : (n : ℕ) → n < nodes → IsOutsider rules r.first n → (IsIn net files pieces x n → ⊥) × ((other : ℕ) (v : List ℕ) → States pieces other (May x v) → IsIn net files pieces v n → ⊥)
     outsider n low (own, others) = (
       λ is. own ((is_in x r.first n low first).1 is),
       λ other v line is.
@@ -149,20 +149,20 @@ module _ (net : Network) (network : IsNetwork net) (files : List File) (pieces :
           others s has (kind, some_is s.first r.first (sym of_x ∙ first)) ((is_in v s.second n low of_v).1 is),
     )
 
-    outsider_back : (n : ℕ) → n < nodes → (IsIn net files pieces x n → ⊥) → ((other : ℕ) (v : List ℕ) → Says pieces other (May x v) → IsIn net files pieces v n → ⊥) → IsOutsider rules r.first n
+    outsider_back : (n : ℕ) → n < nodes → (IsIn net files pieces x n → ⊥) → ((other : ℕ) (v : List ℕ) → States pieces other (May x v) → IsIn net files pieces v n → ⊥) → IsOutsider rules r.first n
     outsider_back n low own others = (
       λ named. own ((is_in x r.first n low first).0 named),
       λ s has (kind, same) named.
-          let (le, (u, v, line, of_u, of_v)) = are.rules.each s has in
+          let (le, (u, v, line, of_u, of_v)) = elements.rules.each s has in
           let x_is : u ≡ x = one_name u x r.first (of_u ∙ ap Some same) first in
-          let may : Says pieces s.line (May x v) = subst (λ (k : RuleKind). Says pieces s.line (Restricts k x v)) kind (subst (λ (n : List ℕ). Says pieces s.line (Restricts s.kind n v)) x_is line) in
+          let may : States pieces s.line (May x v) = subst (λ (k : RuleKind). States pieces s.line (Restricts k x v)) kind (subst (λ (n : List ℕ). States pieces s.line (Restricts s.kind n v)) x_is line) in
           others s.line v may ((is_in v s.second n low of_v).0 named),
     )
 
     first_may : r.kind ≡ kinds.May → (IsRepeated rules.rules.items r → ⊥) → IsFirstMay pieces r.line x
     first_may kind not_repeated = record {
       target = y;
-      says = subst (λ (k : RuleKind). Says pieces r.line (Restricts k x y)) kind says;
+      says = subst (λ (k : RuleKind). States pieces r.line (Restricts k x y)) kind says;
       first = λ before v less line.
           let (s, has, at, own, of_x, of_v) = rule_of before kinds.May x v line in
           not_repeated (kind, s, has, omega arith, (own, some_is s.first r.first (sym of_x ∙ first)));
@@ -173,10 +173,10 @@ module _ (net : Network) (network : IsNetwork net) (files : List File) (pieces :
     repeated_none (kind, s, has, less, (own, same)) m n path (ByForbid u v line target free) = let e = same_line kinds.Forbid u v line in let f : kinds.May ≡ kinds.Forbid = sym kind ∙ e.0 in cc
     repeated_none (kind, s, has, less, (own, same)) m n path (ByForbidImport u v line source target is) = let e = same_line kinds.ForbidImport u v line in let f : kinds.May ≡ kinds.ForbidImport = sym kind ∙ e.0 in cc
     repeated_none (kind, s, has, less, (own, same)) m n path (ByMay u may source outside others is) =
-        let (le, (w, v, line, of_w, of_v)) = are.rules.each s has in
+        let (le, (w, v, line, of_w, of_v)) = elements.rules.each s has in
         let x_is : x ≡ u = (same_line kinds.May u may.target may.says).1 in
         let w_is : w ≡ u = one_name w x r.first (of_w ∙ ap Some same) first ∙ x_is in
-        may.first s.line v less (subst (λ (k : RuleKind). Says pieces s.line (Restricts k u v)) own (subst (λ (n : List ℕ). Says pieces s.line (Restricts s.kind n v)) w_is line))
+        may.first s.line v less (subst (λ (k : RuleKind). States pieces s.line (Restricts k u v)) own (subst (λ (n : List ℕ). States pieces s.line (Restricts s.kind n v)) w_is line))
 
     module _ (graph : Graph) (of : IsCountedGraph net rules graph) (found : RuleSearch) (is : IsRuleSearch rules nodes graph.edges.now r found) where
       abbrev Edges : ℕ → ℕ → Type 0
@@ -246,11 +246,11 @@ module _ (net : Network) (network : IsNetwork net) (files : List File) (pieces :
       forbidden_to : (IsRepeated rules.rules.items r → ⊥) → (kind : RuleKind) → r.kind ≡ kind → ((v : ℕ) → v < nodes → (marked is.barrier v ≡ true) ↔ IsBarredBy rules r kind v) → ((v : ℕ) → v < nodes → (marked found.targets.items v ≡ true) ↔ IsTargetBy rules r kind v)
           → (m n : ℕ) (path : List ℕ) → m < nodes → n < nodes → IsPathAround Edges is.starts is.barrier m path → marked found.targets.items n ≡ true → IsForbidden net files pieces r.line m n path
       forbidden_to new kinds.Forbid e bars targets m n path low high around target =
-          ByForbid x y (subst (λ (k : RuleKind). Says pieces r.line (Restricts k x y)) e says) ((is_in y r.second n high second).0 ((targets n high).0 target))
+          ByForbid x y (subst (λ (k : RuleKind). States pieces r.line (Restricts k x y)) e says) ((is_in y r.second n high second).0 ((targets n high).0 target))
           (entry_to (λ v low named. (bars v low).1 ((is_in y r.second v low second).1 named)) m path around)
       forbidden_to new kinds.ForbidImport e bars targets m n path low high around target =
           let (only, source) = alone (λ v low. (bars v low).1 tt) m path around in
-          ByForbidImport x y (subst (λ (k : RuleKind). Says pieces r.line (Restricts k x y)) e says) source ((is_in y r.second n high second).0 ((targets n high).0 target)) only
+          ByForbidImport x y (subst (λ (k : RuleKind). States pieces r.line (Restricts k x y)) e says) source ((is_in y r.second n high second).0 ((targets n high).0 target)) only
       forbidden_to new kinds.May e bars targets m n path low high around target =
           let (only, source) = alone (λ v low. (bars v low).1 tt) m path around in
           let (outside, others) = outsider n high ((targets n high).0 target) in
@@ -280,7 +280,7 @@ module _ (net : Network) (network : IsNetwork net) (files : List File) (pieces :
           let same_x = (same_line kinds.May u may.target may.says).1 in
           let source_of : IsIn net files pieces x m = subst (λ (w : List ℕ). IsIn net files pieces w m) (sym same_x) source in
           let outside_of : IsIn net files pieces x n → ⊥ = λ named. outside (subst (λ (w : List ℕ). IsIn net files pieces w n) same_x named) in
-          let others_of : (other : ℕ) (v : List ℕ) → Says pieces other (May x v) → IsIn net files pieces v n → ⊥ = λ other v line named. others other v (subst (λ (w : List ℕ). Says pieces other (May w v)) same_x line) named in
+          let others_of : (other : ℕ) (v : List ℕ) → States pieces other (May x v) → IsIn net files pieces v n → ⊥ = λ other v line named. others other v (subst (λ (w : List ℕ). States pieces other (May w v)) same_x line) named in
           (alone_back m path low only source_of, (targets n high).1 (outsider_back n high outside_of others_of))
 
       pub searched : (IsRepeated rules.rules.items r → ⊥) → IsSearchFor net files pieces r.line found
@@ -300,10 +300,10 @@ module _ (net : Network) (network : IsNetwork net) (files : List File) (pieces :
   -- of one of the rules
   pub searched_rule : (r : Rule) → IsFirstRule rules.rules.items r → (graph : Graph) (of : IsCountedGraph net rules graph) (found : RuleSearch) → IsRuleSearch rules nodes graph.edges.now r found → IsSearchFor net files pieces r.line found
   searched_rule r (has, new) graph of found is =
-      let (le, (x, y, says, first, second)) = are.rules.each r has in
+      let (le, (x, y, says, first, second)) = elements.rules.each r has in
       searched r x y says first second graph of found is new
 
   pub repeated_rule : (r : Rule) → Contains rules.rules.items r → IsRepeated rules.rules.items r → (m n : ℕ) (path : List ℕ) → IsForbidden net files pieces r.line m n path → ⊥
   repeated_rule r has repeated m n path forbidden =
-      let (le, (x, y, says, first, second)) = are.rules.each r has in
+      let (le, (x, y, says, first, second)) = elements.rules.each r has in
       repeated_none r x y says first second repeated m n path forbidden

@@ -18,7 +18,7 @@ use Rattle.texts.proofs.FieldNames.{named_takes, named_again, name_without}
 use Rattle.cut_net.proofs.NetLines.{map_some}
 use Rattle.cut_rules.specs.declared.rule.RuleKind.{RuleKind}
 use Rattle.cut_rules.specs.declared.rule.RuleKind.TheVariants as kinds
-use Rattle.cut_rules.specs.RuleLines.{RuleLine, Selector, Module, Folder, Named, Tree, Adds, Restricts, Allow, rule_line, is_blank, keyword, EndsRule, IsComment, IsIdle, IsPieceAt, IsRuleLine, MayFollow, Says, Spells}
+use Rattle.cut_rules.specs.RuleLines.{RuleLine, Selector, Module, Folder, Named, Tree, Adds, Restricts, Allow, rule_line, is_blank, keyword, EndsRule, IsComment, IsIdle, IsPieceAt, IsRuleLine, MayFollow, States, Spells}
 use Rattle.cut_rules.specs.LineReading.{is_comment, is_idle, kind_of, last_name_of, line_after, line_of_fields, line_of_names, names_of_rule, rule_line_of, rule_of, set_in, set_of, text_of}
 
 -- ---- comments
@@ -377,14 +377,14 @@ line_written (Allow m n) comment = refl
 pub one_piece : (pieces : List (List ℕ)) (line : ℕ) (p q : List ℕ) → IsPieceAt pieces line p → IsPieceAt pieces line q → p ≡ q
 one_piece pieces line p q a b =
     let e : a.place ≡ b.place = (let x = a.number in let y = b.number in omega arith) in
-    some_is p q (sym a.there ∙ ap (slice_get pieces) e ∙ b.there)
+    some_is p q (sym a.present ∙ ap (slice_get pieces) e ∙ b.present)
 
 -- a line states one thing
-pub says_one : (pieces : List (List ℕ)) (line : ℕ) (l k : RuleLine) → Says pieces line l → Says pieces line k → l ≡ k
+pub says_one : (pieces : List (List ℕ)) (line : ℕ) (l k : RuleLine) → States pieces line l → States pieces line k → l ≡ k
 says_one pieces line l k a b = line_once a.piece l k a.spelled (subst (λ (p : List ℕ). Spells p k) (one_piece pieces line b.piece a.piece b.at a.at) b.spelled)
 
 -- an idle line states nothing
-pub idle_says : (pieces : List (List ℕ)) (line : ℕ) (piece : List ℕ) (l : RuleLine) → IsPieceAt pieces line piece → is_idle piece ≡ true → Says pieces line l → ⊥
+pub idle_says : (pieces : List (List ℕ)) (line : ℕ) (piece : List ℕ) (l : RuleLine) → IsPieceAt pieces line piece → is_idle piece ≡ true → States pieces line l → ⊥
 idle_says pieces line piece l at idle s =
     let e : true ≡ false = sym idle ∙ ap is_idle (one_piece pieces line piece s.piece at s.at ∙ s.spelled.whole) ∙ line_written l s.spelled.comment in
     absurd (false≢true (sym e))

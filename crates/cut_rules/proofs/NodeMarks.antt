@@ -8,32 +8,32 @@ use Rattle.digraph.specs.declared.edge.Edge.{Edge}
 use Rattle.digraph.specs.Marks.{marked}
 use Rattle.digraph.proofs.Members.{one_member}
 use Rattle.cut_net.specs.Lines.{edge_of}
-use Rattle.cut_net.specs.Network.{Network, none_there}
+use Rattle.cut_net.specs.Network.{Network, missing_item}
 use Rattle.cut_rules.specs.declared.reading.Rules.{Rules}
 use Rattle.cut_rules.specs.declared.rule.Rule.{Rule}
 use Rattle.cut_rules.specs.Judged.{IsCountedBefore, IsMarkSet, IsMayOf, IsNamed, IsOutsiderOf}
 
 -- ---- imports that count
 
-module _ (net : Network) (allowed : List Bool) (count : ℕ) (edges : List Edge) (are : (p : Edge) → Contains edges p ↔ IsCountedBefore net allowed count p) where
-  pub counted_more : (edge : Edge) (new : List Edge) → marked allowed count ≡ false → edge ≡ edge_of (get_or net.imports count none_there) → new ≡ edges ++ edge ∷ [] → (p : Edge) → Contains new p ↔ IsCountedBefore net allowed (count + 1) p
+module _ (net : Network) (allowed : List Bool) (count : ℕ) (edges : List Edge) (elements : (p : Edge) → Contains edges p ↔ IsCountedBefore net allowed count p) where
+  pub counted_more : (edge : Edge) (new : List Edge) → marked allowed count ≡ false → edge ≡ edge_of (get_or net.imports count missing_item) → new ≡ edges ++ edge ∷ [] → (p : Edge) → Contains new p ↔ IsCountedBefore net allowed (count + 1) p
   counted_more edge new free is made p = rw made (
     λ has. elim (Contains-push_cases edges edge p has) [
-      | inl old ↦ let (k, lt, free_there, e) = (are p).0 old in (k, omega arith, free_there, e)
+      | inl old ↦ let (k, lt, free_there, e) = (elements p).0 old in (k, omega arith, free_there, e)
       | inr same ↦ (count, omega arith, free, sym is ∙ same)
     ],
     λ (k, lt, free_there, e). elim (cases_eq k count) [
-      | inl here ↦ subst (Contains (edges ++ edge ∷ [])) (is ∙ ap (λ (j : ℕ). edge_of (get_or net.imports j none_there)) (sym here) ∙ e) (Contains-push edges edge)
-      | inr ne ↦ Contains-append_left edges (edge ∷ []) p ((are p).1 (k, omega (arith, ne), free_there, e))
+      | inl here ↦ subst (Contains (edges ++ edge ∷ [])) (is ∙ ap (λ (j : ℕ). edge_of (get_or net.imports j missing_item)) (sym here) ∙ e) (Contains-push edges edge)
+      | inr ne ↦ Contains-append_left edges (edge ∷ []) p ((elements p).1 (k, omega (arith, ne), free_there, e))
     ],
   )
 
   pub counted_same : marked allowed count ≡ true → (p : Edge) → Contains edges p ↔ IsCountedBefore net allowed (count + 1) p
   counted_same taken p = (
-    λ has. let (k, lt, free_there, e) = (are p).0 has in (k, omega arith, free_there, e),
+    λ has. let (k, lt, free_there, e) = (elements p).0 has in (k, omega arith, free_there, e),
     λ (k, lt, free_there, e). elim (cases_eq k count) [
       | inl here ↦ absurd (let f : true ≡ false = sym taken ∙ ap (marked allowed) (sym here) ∙ free_there in cc)
-      | inr ne ↦ (are p).1 (k, omega (arith, ne), free_there, e)
+      | inr ne ↦ (elements p).1 (k, omega (arith, ne), free_there, e)
     ],
   )
 
@@ -59,10 +59,10 @@ mark_next nodes k d value old cur lt inside so_far v =
     elim (cases_eq v node) [
       | inl e ↦ inl (subst (Contains (take (k + 1) nodes)) (sym e) (last_member nodes k d lt), ap (marked (set cur node value)) e ∙ get_or-set_same cur node value false inside)
       | inr ne ↦
-          let kept : marked (set cur node value) v ≡ marked cur v = get_or-set_other cur node v value false ne in
+          let retained : marked (set cur node value) v ≡ marked cur v = get_or-set_other cur node v value false ne in
           elim (so_far v) [
-            | inl h ↦ inl (more_member nodes k d lt v h.0, kept ∙ h.1)
-            | inr h ↦ inr (λ has. elim (member_more nodes k d lt v has) [ inl was ↦ h.0 was | inr same ↦ ne (sym same) ], kept ∙ h.1)
+            | inl h ↦ inl (more_member nodes k d lt v h.0, retained ∙ h.1)
+            | inr h ↦ inr (λ has. elim (member_more nodes k d lt v has) [ inl was ↦ h.0 was | inr same ↦ ne (sym same) ], retained ∙ h.1)
           ]
     ]
 

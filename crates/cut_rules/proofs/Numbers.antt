@@ -14,8 +14,8 @@ use Rattle.cut_net.specs.WellFormed.{IsNetwork}
 use Rattle.cut_net.proofs.Noting.{names_apart}
 use Rattle.cut_net.proofs.Places.{index_again, index_takes}
 use Rattle.cut_rules.specs.declared.names.Names.{Names}
-use Rattle.cut_rules.specs.Names.{index_among, names_in, AreNames, IsKnown, IsNoted}
-use Rattle.cut_rules.specs.Drafts.{number_by, number_of}
+use Rattle.cut_rules.specs.Names.{index_among, names_in, AreNames, IsDeclaredName, IsNoted}
+use Rattle.cut_rules.specs.Builders.{number_by, number_of}
 
 -- ---- names
 
@@ -63,7 +63,7 @@ module _ (net : Network) (sets : List (List ℕ)) (name : List ℕ) where
   number_module i e = ap (λ (o : Option ℕ). number_by (length net.names) o place) e
 
   pub set_numbered : (k : ℕ) → index_of net name ≡ None → place ≡ Some k → number_of net sets name ≡ Some (length net.names + k)
-  set_numbered k none there = number_behind none ∙ ap (option_map (λ k. length net.names + k)) there
+  set_numbered k none present = number_behind none ∙ ap (option_map (λ k. length net.names + k)) present
 
   -- a set has a place
   pub set_placed : Contains sets name → place ≡ None → ⊥
@@ -84,26 +84,26 @@ not_there net name apart = by (index_of net name) refl
 
 -- ---- what rules name
 
-module _ (net : Network) (pieces : List (List ℕ)) (names : Names) (are : AreNames net pieces names) (name : List ℕ) where
+module _ (net : Network) (pieces : List (List ℕ)) (names : Names) (elements : AreNames net pieces names) (name : List ℕ) where
   -- a module's index among the names is its number
   pub module_index : (o : Option ℕ) → o ≡ index_among names.modules.keys name → index_of net name ≡ o
-  module_index o e = ap (λ (ns : List (List ℕ)). index_of (unpinned ns []) name) (sym are.modules) ∙ sym e
+  module_index o e = ap (λ (ns : List (List ℕ)). index_of (unpinned ns []) name) (sym elements.modules) ∙ sym e
 
   pub set_apart : (k : ℕ) → index_among names.sets.keys name ≡ Some k → index_of net name ≡ None
-  set_apart k e = not_there net name (are.sets.apart name (is_module (unpinned (names_in names.sets.keys) []) name k e))
+  set_apart k e = not_there net name (elements.sets.apart name (is_module (unpinned (names_in names.sets.keys) []) name k e))
 
   -- one with a mark is the name of a set
-  pub set_known : (k : ℕ) → index_among names.sets.keys name ≡ Some k → marked names.declared.items k ≡ true → IsKnown net pieces name
-  set_known k e is = inr ((are.declared.are name k e).0 is)
+  pub set_known : (k : ℕ) → index_among names.sets.keys name ≡ Some k → marked names.declared.items k ≡ true → IsDeclaredName net pieces name
+  set_known k e is = inr ((elements.declared.elements name k e).0 is)
 
   -- one without a mark isn't, if it was noted
-  pub unknown : index_of net name ≡ None → ((k : ℕ) → index_among names.sets.keys name ≡ Some k → marked names.declared.items k ≡ false) → IsNoted net names.sets.keys name → IsKnown net pieces name → ⊥
+  pub unknown : index_of net name ≡ None → ((k : ℕ) → index_among names.sets.keys name ≡ Some k → marked names.declared.items k ≡ false) → IsNoted net names.sets.keys name → IsDeclaredName net pieces name → ⊥
   unknown none missing (inl here) known = no_module net name none here
   unknown none missing (inr here) (inl own) = no_module net name none own
   unknown none missing (inr here) (inr set) = by (index_among names.sets.keys name) refl
     where
       by : (o : Option ℕ) → index_among names.sets.keys name ≡ o → ⊥
-      by (Some k) e = let bad : true ≡ false = sym ((are.declared.are name k e).1 set) ∙ missing k e in cc
+      by (Some k) e = let bad : true ≡ false = sym ((elements.declared.elements name k e).1 set) ∙ missing k e in cc
       by None e = set_placed net (names_in names.sets.keys) name here e
 
 -- a number is that of one name

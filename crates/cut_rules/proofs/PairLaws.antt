@@ -8,8 +8,8 @@ use Rattle.std.specs.declared.cmp.Ordering.TheVariants.{Less, Equal, Greater}
 use Rattle.std.proofs.lemmas.Bool.{cases_Bool, or_cases, or_left, or_right}
 use Rattle.std.proofs.lemmas.Cmp.{nat_list_cmp_total, tied_itself}
 use Rattle.std.proofs.lemmas.Map.Lookups.{exact_bytes}
-use Rattle.cut_rules.specs.RuleLines.{Allow, Says}
-use Rattle.cut_rules.specs.Drafts.{ArePairs}
+use Rattle.cut_rules.specs.RuleLines.{Allow, States}
+use Rattle.cut_rules.specs.Builders.{ArePairs}
 use Rattle.cut_rules.proofs.LineLaws.{says_one}
 use Rattle.cut_rules.proofs.Pieces.{within_next}
 
@@ -50,23 +50,23 @@ module _ {K : Type 0} (first second : K → List ℕ) where
   eq_of Greater e = absurd cc
 
   -- with one more key
-  pub pairs_added : (pieces : List (List ℕ)) (count : ℕ) (old new : BTreeSet K) (key : K) → new.keys ≡ insert_key key_cmp old.keys key → Says pieces (count + 1) (Allow (first key) (second key)) → ArePairs old first second pieces count
+  pub pairs_added : (pieces : List (List ℕ)) (count : ℕ) (old new : BTreeSet K) (key : K) → new.keys ≡ insert_key key_cmp old.keys key → States pieces (count + 1) (Allow (first key) (second key)) → ArePairs old first second pieces count
       → ArePairs new first second pieces (count + 1)
-  pairs_added pieces count old new key keys says are m n =
+  pairs_added pieces count old new key keys says elements m n =
       let test : K → Bool = λ x. is_eq (against m n x) in
       let alike : (x : K) → key_cmp key x ≡ Equal → test key ≡ test x = λ x e.
       let same = tied (first key) (second key) (first x) (second x) e in
       ap (λ (t : List ℕ). is_eq (ordering_then (slice_cmp nat_cmp m t) (slice_cmp nat_cmp n (second key)))) same.0 ∙ ap (λ (t : List ℕ). is_eq (ordering_then (slice_cmp nat_cmp m (first x)) (slice_cmp nat_cmp n t))) same.1 in
       let inserted : list_any test new.keys ≡ (test key || list_any test old.keys) = ap (list_any test) keys ∙ any_inserted test key alike old.keys in
-      let both = within_next (λ (l : ℕ). Says pieces l (Allow m n)) count in (
+      let both = within_next (λ (l : ℕ). States pieces l (Allow m n)) count in (
         λ e. both.1 (elim (or_cases (test key) (list_any test old.keys) (sym inserted ∙ e)) [
           | inl here ↦
               let same = tied m n (first key) (second key) (eq_of (against m n key) here) in
-              inr (subst (λ (t : List ℕ). Says pieces (count + 1) (Allow t n)) (sym same.0) (subst (λ (t : List ℕ). Says pieces (count + 1) (Allow (first key) t)) (sym same.1) says))
-          | inr was ↦ inl ((are m n).0 was)
+              inr (subst (λ (t : List ℕ). States pieces (count + 1) (Allow t n)) (sym same.0) (subst (λ (t : List ℕ). States pieces (count + 1) (Allow (first key) t)) (sym same.1) says))
+          | inr was ↦ inl ((elements m n).0 was)
         ]),
         λ within. inserted ∙ elim (both.0 within) [
-          | inl was ↦ or_right (test key) (list_any test old.keys) ((are m n).1 was)
+          | inl was ↦ or_right (test key) (list_any test old.keys) ((elements m n).1 was)
           | inr also ↦
               let e = says_one pieces (count + 1) (Allow m n) (Allow (first key) (second key)) also says in
               let importer : m ≡ first key = cc in

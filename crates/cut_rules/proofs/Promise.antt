@@ -6,11 +6,11 @@ use Rattle.std.proofs.lemmas.List.Elements.{Contains-append_cases, Contains-get_
 use Rattle.digraph.specs.Chains.{IsChain}
 use Rattle.digraph.proofs.Members.{first_member, later_member, no_member, one_member}
 use Rattle.cut_net.specs.declared.priced.Priced.{Priced}
-use Rattle.cut_net.specs.Network.{Network, none_there}
+use Rattle.cut_net.specs.Network.{Network, missing_item}
 use Rattle.cut_rules.specs.declared.file.File.{File}
 use Rattle.cut_rules.specs.declared.rule.RuleKind.{RuleKind}
 use Rattle.cut_rules.specs.declared.rule.RuleKind.TheVariants as kinds
-use Rattle.cut_rules.specs.RuleLines.{Forbid, Restricts, Says}
+use Rattle.cut_rules.specs.RuleLines.{Forbid, Restricts, States}
 use Rattle.cut_rules.specs.Rules.{Counts, IsAllowed, IsIn}
 use Rattle.cut_rules.specs.Verdicts.{import_at, Breaks, BreaksRule, ByForbid, ByForbidImport, ByMay, IsForbidden, IsForbiddenPath, IsOnPath, PathByForbid, PathByForbidImport, PathByMay}
 use Rattle.cut_rules.proofs.LineLaws.{says_one}
@@ -41,13 +41,13 @@ chain_last G (b ∷ before) f s [] m e whole = absurd (let long = ap length whol
 chain_last G (b ∷ before) f s (u ∷ more) m (step, rest) whole = chain_last G before f u more m rest cc
 
 module _ (net : Network) (files : List File) (pieces : List (List ℕ)) (line : ℕ) where
-  kind_at : (kind other : RuleKind) (x y u v : List ℕ) → Says pieces line (Restricts kind x y) → Says pieces line (Restricts other u v) → (kind ≡ other) × (x ≡ u) × (y ≡ v)
+  kind_at : (kind other : RuleKind) (x y u v : List ℕ) → States pieces line (Restricts kind x y) → States pieces line (Restricts other u v) → (kind ≡ other) × (x ≡ u) × (y ≡ v)
   kind_at kind other x y u v first second = let one : Restricts kind x y ≡ Restricts other u v = says_one pieces line (Restricts kind x y) (Restricts other u v) first second in (cc, cc, cc)
 
   -- an import that counts, by its number
   number_of : (m n : ℕ) → Counts net pieces m n → (k : ℕ) × (k < length net.imports) × (IsAllowed net pieces (import_at net k) → ⊥) × ((import_at net k).from ≡ m) × ((import_at net k).to ≡ n)
   number_of m n (i, (k, lt, is), from, to, free) =
-      let here : get_or net.imports k none_there ≡ i = get_or_default net.imports k none_there i lt ∙ is in (
+      let here : get_or net.imports k missing_item ≡ i = get_or_default net.imports k missing_item i lt ∙ is in (
         k,
         lt,
         λ allowed. free (subst (IsAllowed net pieces) here allowed),
@@ -66,7 +66,7 @@ module _ (net : Network) (files : List File) (pieces : List (List ℕ)) (line : 
         (path, record { within = lt; counted = free; forbidden = subst (λ (a : ℕ). IsForbidden net files pieces line a (import_at net k).to path) (sym from) (subst (λ (b : ℕ). IsForbidden net files pieces line m b path) (sym to) forbidden) })
 
     -- past the first modules, none of which after the start is of the second set
-    walk : (x y : List ℕ) → Says pieces line (Forbid x y) → (start : ℕ) → IsIn net files pieces x start → (front before : List ℕ) (m : ℕ) → IsChain (Counts net pieces) start front m → ((v : ℕ) → Contains front v → IsIn net files pieces y v → ⊥)
+    walk : (x y : List ℕ) → States pieces line (Forbid x y) → (start : ℕ) → IsIn net files pieces x start → (front before : List ℕ) (m : ℕ) → IsChain (Counts net pieces) start front m → ((v : ℕ) → Contains front v → IsIn net files pieces y v → ⊥)
         → start ∷ front ≡ before ++ m ∷ [] → (n : ℕ) (more : List ℕ) (end : ℕ) → whole ≡ before ++ m ∷ n ∷ more → IsChain (Counts net pieces) m (n ∷ more) end → IsIn net files pieces y end → ⊥
     walk x y says start source front before m chain free front_is n [] end split (step, e) target =
         stop before [] (start ∷ front) m n step split (ByForbid x y says (subst (IsIn net files pieces y) (sym e) target) (source, chain, free))
@@ -100,9 +100,9 @@ module _ (net : Network) (files : List File) (pieces : List (List ℕ)) (line : 
       × ((k : ℕ) → IsOnPath net path k → BreaksRule net files pieces line k → ((import_at net k).from ≡ (import_at net number).from) × ((import_at net k).to ≡ (import_at net number).to))
 
   counts_here : (number : ℕ) → number < length net.imports → (IsAllowed net pieces (import_at net number) → ⊥) → Counts net pieces (import_at net number).from (import_at net number).to
-  counts_here number lt free = (import_at net number, Contains-get_or net.imports number none_there lt, refl, refl, free)
+  counts_here number lt free = (import_at net number, Contains-get_or net.imports number missing_item lt, refl, refl, free)
 
-  target_of : (x y : List ℕ) → Says pieces line (Forbid x y) → (m n : ℕ) (path : List ℕ) → IsForbidden net files pieces line m n path → IsIn net files pieces y n
+  target_of : (x y : List ℕ) → States pieces line (Forbid x y) → (m n : ℕ) (path : List ℕ) → IsForbidden net files pieces line m n path → IsIn net files pieces y n
   target_of x y says m n path (ByForbid u v other target free) = subst (λ (w : List ℕ). IsIn net files pieces w n) (sym (kind_at kinds.Forbid kinds.Forbid x y u v says other).2) target
   target_of x y says m n path (ByForbidImport u v other source target only) = absurd (let e = (kind_at kinds.Forbid kinds.ForbidImport x y u v says other).0 in cc)
   target_of x y says m n path (ByMay u may source outside others only) = absurd (let e = (kind_at kinds.Forbid kinds.May x y u may.target says may.says).0 in cc)
@@ -117,7 +117,7 @@ module _ (net : Network) (files : List File) (pieces : List (List ℕ)) (line : 
       split [] start e = ([], ap (λ (v : ℕ). v ∷ []) e)
       split (u ∷ front) start (step, rest) = let (before, whole) = split front u rest in (start ∷ before, ap (λ (vs : List ℕ). start ∷ vs) whole)
 
-      made : (x y : List ℕ) → Says pieces line (Forbid x y) → (start : ℕ) → IsIn net files pieces x start → (front : List ℕ) → IsIn net files pieces y (import_at net number).to → IsChain (Counts net pieces) start front (import_at net number).from
+      made : (x y : List ℕ) → States pieces line (Forbid x y) → (start : ℕ) → IsIn net files pieces x start → (front : List ℕ) → IsIn net files pieces y (import_at net number).to → IsChain (Counts net pieces) start front (import_at net number).from
           → IsForbiddenPath net files pieces line ((start ∷ front) ++ (import_at net number).to ∷ [])
       made x y says start source [] target chain = PathByForbid x y start (import_at net number).to [] (import_at net number).to says source (chain_push (Counts net pieces) start [] (import_at net number).from (import_at net number).to chain counts) target
       made x y says start source (u ∷ front) target chain =

@@ -10,7 +10,7 @@ use Rattle.cut_rules.specs.declared.reading.Rules.{Rules}
 use Rattle.cut_rules.specs.declared.rule.Rule.{Rule}
 use Rattle.cut_rules.specs.declared.rule.RuleKind.{RuleKind}
 use Rattle.cut_rules.specs.declared.rule.RuleKind.TheVariants as kinds
-use Rattle.cut_rules.specs.RuleLines.{Restricts, Says}
+use Rattle.cut_rules.specs.RuleLines.{Restricts, States}
 use Rattle.cut_rules.specs.Judged.{AreOfRule, IsBound}
 use Rattle.cut_rules.specs.Outcomes.{AreRulesOf}
 use Rattle.cut_rules.specs.Verdicts.{Breaks, ByForbid, ByForbidImport, ByMay, IsForbidden}
@@ -22,7 +22,7 @@ abbrev pub no_rule : Rule
 no_rule = record { line = 0; kind = kinds.Forbid; first = 0; second = 0 }
 
 -- what forbids a path is a rule
-says_of : (net : Network) (files : List File) (pieces : List (List ℕ)) (line m n : ℕ) (path : List ℕ) → IsForbidden net files pieces line m n path → (kind : RuleKind) × (x y : List ℕ) × Says pieces line (Restricts kind x y)
+says_of : (net : Network) (files : List File) (pieces : List (List ℕ)) (line m n : ℕ) (path : List ℕ) → IsForbidden net files pieces line m n path → (kind : RuleKind) × (x y : List ℕ) × States pieces line (Restricts kind x y)
 says_of net files pieces line m n path (ByForbid x y says target free) = (kinds.Forbid, x, y, says)
 says_of net files pieces line m n path (ByForbidImport x y says source target only) = (kinds.ForbidImport, x, y, says)
 says_of net files pieces line m n path (ByMay x may source outside others only) = (kinds.May, x, may.target, may.says)
@@ -49,7 +49,7 @@ module _ (rules : List Rule) (up : AllPairs (λ (r s : Rule). r.line < s.line) r
     after = λ j s least at_s. let high = in_order k j r s (omega arith) at at_s in omega arith;
   }
 
-module _ (net : Network) (files : List File) (pieces : List (List ℕ)) (rules : Rules) (are : AreRulesOf net files pieces rules) where
+module _ (net : Network) (files : List File) (pieces : List (List ℕ)) (rules : Rules) (elements : AreRulesOf net files pieces rules) where
   abbrev list : List Rule
   list = rules.rules.items
 
@@ -57,7 +57,7 @@ module _ (net : Network) (files : List File) (pieces : List (List ℕ)) (rules :
   rule_at : (line k : ℕ) (path : List ℕ) → Breaks net files pieces line k path → (j : ℕ) × (r : Rule) × (slice_get list j ≡ Some r) × (r.line ≡ line)
   rule_at line k path breaks =
       let (kind, x, y, says) = says_of net files pieces line _ _ path breaks.forbidden in
-      let (r, (j, lt, is), same) = are.rules.all line kind x y (says_low pieces line _ says).1 says in
+      let (r, (j, lt, is), same) = elements.rules.all line kind x y (says_low pieces line _ says).1 says in
       (j, r, slice_get-get_or list j r lt ∙ ap (λ (s : Rule). Some s) is, same)
 
   pub gap : (k bound : ℕ) (r : Rule) → slice_get list k ≡ Some r → IsBound list k bound → IsGap net files pieces bound r.line
@@ -67,7 +67,7 @@ module _ (net : Network) (files : List File) (pieces : List (List ℕ)) (rules :
         | inl early ↦ let low = is.before j s early at_s in omega arith
         | inr late ↦ elim (cases_eq j k) [
           | inl e ↦ let equal = ap (λ (x : Rule). x.line) (same_Some r s (sym at ∙ ap (slice_get list) (sym e) ∙ at_s)) in omega arith
-          | inr ne ↦ let high = in_order list are.rules.ascending k j r s (omega (arith, late, ne)) at at_s in omega arith
+          | inr ne ↦ let high = in_order list elements.rules.ascending k j r s (omega (arith, late, ne)) at at_s in omega arith
         ]
       ]
 

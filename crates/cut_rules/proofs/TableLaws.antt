@@ -16,17 +16,17 @@ use Rattle.cut_rules.specs.declared.table.MarkedSet.{MarkedSet}
 use Rattle.cut_rules.specs.declared.table.SetTable.{SetTable}
 use Rattle.cut_rules.specs.RuleLines.{Selector, Module, Named}
 use Rattle.cut_rules.specs.Rules.{HasFile, Selects}
-use Rattle.cut_rules.specs.Drafts.{pattern_count, AreEmptySets, AreSized, HasPlace, InSet, IsAddition, SelectsAny}
+use Rattle.cut_rules.specs.Builders.{pattern_count, AreEmptySets, AreSized, HasIndex, InSet, IsAddition, SelectsAny}
 use Rattle.cut_rules.proofs.Numbers.{named_at}
 use Rattle.cut_rules.proofs.Pieces.{get_low}
 
 -- ---- sets without modules
 
-pub empty_more : (count places : ℕ) (sets : List MarkedSet) (set : MarkedSet) → length set.marks.items ≡ places → ((k : ℕ) → marked set.marks.items k ≡ false) → AreEmptySets count places sets → AreEmptySets (count + 1) places (sets ++ set ∷ [])
-empty_more count places sets set long clear are = record {
-  size = (let more = length_push sets set in let size = are.size in omega arith);
-  sized = λ s x at. elim (pushed s x at) [ inl old ↦ are.sized s x old | inr e ↦ subst (λ (y : MarkedSet). length y.marks.items ≡ places) e long ];
-  none = λ s k x at. elim (pushed s x at) [ inl old ↦ are.none s k x old | inr e ↦ subst (λ (y : MarkedSet). marked y.marks.items k ≡ false) e (clear k) ];
+pub empty_more : (count places : ℕ) (sets : List MarkedSet) (set : MarkedSet) → length set.flags.items ≡ places → ((k : ℕ) → marked set.flags.items k ≡ false) → AreEmptySets count places sets → AreEmptySets (count + 1) places (sets ++ set ∷ [])
+empty_more count places sets set long clear elements = record {
+  size = (let more = length_push sets set in let size = elements.size in omega arith);
+  sized = λ s x at. elim (pushed s x at) [ inl old ↦ elements.sized s x old | inr e ↦ subst (λ (y : MarkedSet). length y.flags.items ≡ places) e long ];
+  none = λ s k x at. elim (pushed s x at) [ inl old ↦ elements.none s k x old | inr e ↦ subst (λ (y : MarkedSet). marked y.flags.items k ≡ false) e (clear k) ];
 }
   where
     pushed : (s : ℕ) (x : MarkedSet) → slice_get (sets ++ set ∷ []) s ≡ Some x → (slice_get sets s ≡ Some x) ⊎ (set ≡ x)
@@ -41,10 +41,10 @@ empty_more count places sets set long clear are = record {
 
 -- ---- a set with more marks
 
-module _ (old : List MarkedSet) (s : ℕ) (set_was new : MarkedSet) (there : slice_get old s ≡ Some set_was) where
+module _ (old : List MarkedSet) (s : ℕ) (set_was new : MarkedSet) (present : slice_get old s ≡ Some set_was) where
   slice_get_same : slice_get (set old s new) s ≡ Some new
   slice_get_same =
-      let low = get_low old s set_was there in
+      let low = get_low old s set_was present in
       let size = length-set old s new in
       slice_get-get_or (set old s new) s new (omega arith) ∙ ap (λ (x : MarkedSet). Some x) (get_or-set_same old s new new low)
 
@@ -60,23 +60,23 @@ module _ (old : List MarkedSet) (s : ℕ) (set_was new : MarkedSet) (there : sli
       let size = length-set old s new in
       slice_get-get_or (set old s new) t x (omega arith) ∙ ap (λ (y : MarkedSet). Some y) (get_or-set_other old s t new x ne ∙ get_or_from_slice_get old t x x at)
 
-  pub set_sized : (places : ℕ) → length new.marks.items ≡ length set_was.marks.items → AreSized places old → AreSized places (set old s new)
+  pub set_sized : (places : ℕ) → length new.flags.items ≡ length set_was.flags.items → AreSized places old → AreSized places (set old s new)
   set_sized places long sized t x at = elim (cases_eq t s) [
     | inl e ↦
         let same : new ≡ x = some_is new x (sym slice_get_same ∙ ap (slice_get (set old s new)) (sym e) ∙ at) in
-        let was = sized s set_was there in
-        ap (λ (y : MarkedSet). length y.marks.items) (sym same) ∙ long ∙ was
+        let was = sized s set_was present in
+        ap (λ (y : MarkedSet). length y.flags.items) (sym same) ∙ long ∙ was
     | inr ne ↦ sized t x (get_back t x ne at)
   ]
 
-  pub set_marked : (from to : ℕ) → ((k : ℕ) → (marked new.marks.items k ≡ true) ↔ ((marked set_was.marks.items k ≡ true) ⊎ ((from ≤ k) × (k < to)))) → (files : List File) (t m : ℕ)
-      → InSet files (set old s new) t m ↔ (InSet files old t m ⊎ ((Some s ≡ Some t) × HasPlace files from to m))
+  pub set_marked : (from to : ℕ) → ((k : ℕ) → (marked new.flags.items k ≡ true) ↔ ((marked set_was.flags.items k ≡ true) ⊎ ((from ≤ k) × (k < to)))) → (files : List File) (t m : ℕ)
+      → InSet files (set old s new) t m ↔ (InSet files old t m ⊎ ((Some s ≡ Some t) × HasIndex files from to m))
   set_marked from to more files t m = (
     λ (x, at, (k, placed, is)). elim (cases_eq t s) [
       | inl e ↦
           let same : x ≡ new = some_is x new (sym at ∙ ap (slice_get (set old s new)) e ∙ slice_get_same) in
-          elim ((more k).0 (subst (λ (y : MarkedSet). marked y.marks.items k ≡ true) same is)) [
-            | inl was ↦ inl (set_was, ap (slice_get old) e ∙ there, (k, placed, was))
+          elim ((more k).0 (subst (λ (y : MarkedSet). marked y.flags.items k ≡ true) same is)) [
+            | inl was ↦ inl (set_was, ap (slice_get old) e ∙ present, (k, placed, was))
             | inr (low, high) ↦ inr (ap (λ (n : ℕ). Some n) (sym e), (k, low, high, placed))
           ]
       | inr ne ↦ inl (x, get_back t x ne at, (k, placed, is))
@@ -84,8 +84,8 @@ module _ (old : List MarkedSet) (s : ℕ) (set_was new : MarkedSet) (there : sli
     λ either. elim either [
       | inl (x, at, (k, placed, is)) ↦ elim (cases_eq t s) [
         | inl e ↦
-            let same : x ≡ set_was = some_is x set_was (sym at ∙ ap (slice_get old) e ∙ there) in
-            (new, ap (slice_get (set old s new)) e ∙ slice_get_same, (k, placed, (more k).1 (inl (subst (λ (y : MarkedSet). marked y.marks.items k ≡ true) same is))))
+            let same : x ≡ set_was = some_is x set_was (sym at ∙ ap (slice_get old) e ∙ present) in
+            (new, ap (slice_get (set old s new)) e ∙ slice_get_same, (k, placed, (more k).1 (inl (subst (λ (y : MarkedSet). marked y.flags.items k ≡ true) same is))))
         | inr ne ↦ (x, get_on t x ne at, (k, placed, is))
       ]
       | inr (e, (k, low, high, placed)) ↦ (new, ap (slice_get (set old s new)) (sym (some_is s t e)) ∙ slice_get_same, (k, placed, (more k).1 (inr (low, high))))
@@ -98,27 +98,27 @@ none_marked sets place P none files t m = ((λ has. inl has), λ either. elim ei
 -- ---- what a line selects
 
 -- the modules of some files
-pub files_placed : (files : List File) (P : List ℕ → Type 0) (from to : ℕ) → to ≤ length files → ((k : ℕ) (f : File) → slice_get files k ≡ Some f → ((from ≤ k) × (k < to)) ↔ P f.path.now) → (m : ℕ) → HasPlace files from to m ↔ HasFile files P m
-files_placed files P from to within are m = (
+pub files_placed : (files : List File) (P : List ℕ → Type 0) (from to : ℕ) → to ≤ length files → ((k : ℕ) (f : File) → slice_get files k ≡ Some f → ((from ≤ k) × (k < to)) ↔ P f.path.now) → (m : ℕ) → HasIndex files from to m ↔ HasFile files P m
+files_placed files P from to within elements m = (
   λ (k, low, high, at). elim at [
-    | inl (f, at_file, e) ↦ (f, (k, get_low files k f at_file, get_or_from_slice_get files k f f at_file), e, (are k f at_file).0 (low, high))
+    | inl (f, at_file, e) ↦ (f, (k, get_low files k f at_file, get_or_from_slice_get files k f f at_file), e, (elements k f at_file).0 (low, high))
     | inr e ↦ absurd (omega arith)
   ],
   λ (f, (k, lt, is), e, p).
       let at = slice_get-get_or files k f lt ∙ ap (λ (g : File). Some g) is in
-      let bounds = (are k f at).1 p in
+      let bounds = (elements k f at).1 p in
       (k, bounds.0, bounds.1, inl (f, at, e)),
 )
 
 -- a span of files that isn't empty has a module
-pub some_placed : (files : List File) (from to : ℕ) → to ≤ length files → from < to → (m : ℕ) × HasPlace files from to m
+pub some_placed : (files : List File) (from to : ℕ) → to ≤ length files → from < to → (m : ℕ) × HasIndex files from to m
 some_placed [] from to within some = absurd (omega arith)
 some_placed (g ∷ fs) from to within some =
     let f = get_or (g ∷ fs) from g in
     (f.module, (from, omega arith, some, inl (f, slice_get-get_or (g ∷ fs) from g (omega arith), refl)))
 
 -- the module of a number
-pub module_placed : (net : Network) (network : IsNetwork net) (files : List File) (name : List ℕ) (i : ℕ) → index_of net name ≡ Some i → (m : ℕ) → m < length net.names → HasPlace files (length files + i) (length files + i + 1) m ↔ Selects net files (Module name) m
+pub module_placed : (net : Network) (network : IsNetwork net) (files : List File) (name : List ℕ) (i : ℕ) → index_of net name ≡ Some i → (m : ℕ) → m < length net.names → HasIndex files (length files + i) (length files + i + 1) m ↔ Selects net files (Module name) m
 module_placed net network files name i is m low =
     let took = index_takes net name i is in (
       λ (k, above, below, at). elim at [
@@ -152,10 +152,10 @@ nothing_added net files table place selector zero none = record {
 
 -- the modules at some indices are added
 module _ (net : Network) (files : List File) (old new : SetTable) (place : Option ℕ) (from to : ℕ) (any : Bool)
-    (sets : (fs : List File) (s m : ℕ) → InSet fs new.sets.items s m ↔ (InSet fs old.sets.items s m ⊎ ((place ≡ Some s) × HasPlace fs from to m)))
+    (sets : (fs : List File) (s m : ℕ) → InSet fs new.sets.items s m ↔ (InSet fs old.sets.items s m ⊎ ((place ≡ Some s) × HasIndex fs from to m)))
     (some : (any ≡ true) ↔ (from < to)) (patterns : new.patterns ≡ old.patterns) (modules : new.modules ≡ old.modules) (count : length new.sets.items ≡ length old.sets.items)
     (sized : (places : ℕ) → AreSized places old.sets.items → AreSized places new.sets.items) where
-  sets_added : (selector : Selector) → ((m : ℕ) → m < length net.names → HasPlace files from to m ↔ Selects net files selector m) → (s m : ℕ) → m < length net.names
+  sets_added : (selector : Selector) → ((m : ℕ) → m < length net.names → HasIndex files from to m ↔ Selects net files selector m) → (s m : ℕ) → m < length net.names
       → InSet files new.sets.items s m ↔ (InSet files old.sets.items s m ⊎ ((place ≡ Some s) × Selects net files selector m))
   sets_added selector placed s m low =
       let p = placed m low in
@@ -167,10 +167,10 @@ module _ (net : Network) (files : List File) (old new : SetTable) (place : Optio
   -- of files with a property
   pub files_addition : (selector : Selector) (P : List ℕ → Type 0) → ((m : ℕ) → Selects net files selector m → HasFile files P m) → ((m : ℕ) → HasFile files P m → Selects net files selector m)
       → pattern_count selector ≡ 0 → to ≤ length files → ((k : ℕ) (f : File) → slice_get files k ≡ Some f → ((from ≤ k) × (k < to)) ↔ P f.path.now) → IsAddition net files old place selector any new
-  files_addition selector P there back none within are =
-      let placed : (m : ℕ) → HasPlace files from to m ↔ Selects net files selector m = λ m.
-      let law = files_placed files P from to within are m in
-      ((λ at. back m (law.0 at)), (λ own. law.1 (there m own))) in
+  files_addition selector P present back none within elements =
+      let placed : (m : ℕ) → HasIndex files from to m ↔ Selects net files selector m = λ m.
+      let law = files_placed files P from to within elements m in
+      ((λ at. back m (law.0 at)), (λ own. law.1 (present m own))) in
       record {
         any_is = (
           λ e. let (m, at) = some_placed files from to within (some.0 e) in (m, (placed m).0 at),
@@ -234,7 +234,7 @@ module _ (net : Network) (files : List File) (old : SetTable) (place : Option �
       low m lt own = elim (cases_eq m node) [ inl e ↦ absurd (other (subst fits e own)) | inr ne ↦ omega (arith, ne) ]
 
   pub matched_more : (node : ℕ) (any : Bool) (now new : SetTable) → fits node → IsMatchedTo net files old place fits node any now
-      → ((fs : List File) (s m : ℕ) → InSet fs new.sets.items s m ↔ (InSet fs now.sets.items s m ⊎ ((place ≡ Some s) × HasPlace fs (length files + node) (length files + node + 1) m)))
+      → ((fs : List File) (s m : ℕ) → InSet fs new.sets.items s m ↔ (InSet fs now.sets.items s m ⊎ ((place ≡ Some s) × HasIndex fs (length files + node) (length files + node + 1) m)))
       → new.patterns ≡ now.patterns → new.modules ≡ now.modules → length new.sets.items ≡ length now.sets.items → ((places : ℕ) → AreSized places now.sets.items → AreSized places new.sets.items)
       → (some : Bool) → some ≡ true → IsMatchedTo net files old place fits (node + 1) some new
   matched_more node any now new own is sets patterns modules count sized some here_is = record {
@@ -260,7 +260,7 @@ module _ (net : Network) (files : List File) (old : SetTable) (place : Option �
     sized = λ places was. sized places (is.sized places was);
   }
     where
-      one_placed : (m : ℕ) → HasPlace files (length files + node) (length files + node + 1) m → m ≡ node
+      one_placed : (m : ℕ) → HasIndex files (length files + node) (length files + node + 1) m → m ≡ node
       one_placed m (k, low, high, at) = elim at [
         | inl (f, at_file, e) ↦ let lt = get_low files k f at_file in absurd (omega arith)
         | inr e ↦ omega arith

@@ -141,19 +141,19 @@ module _ (net : Network) (files : List File) (pieces : List (List ℕ)) where
     ]
 
     -- a violation is among them, if it is of an earlier line or of one of these imports
-    pub there : (l k : ℕ) (path : List ℕ) → (l < line) ⊎ ((l ≡ line) × (k < high)) → Breaks net files pieces l k path → (v : Violation) × Contains (first ++ more) v × (v.line ≡ l) × (v.import_number ≡ k)
-    there l k path (inl less) breaks = elim (cases_lt l bound) [
+    pub present : (l k : ℕ) (path : List ℕ) → (l < line) ⊎ ((l ≡ line) × (k < high)) → Breaks net files pieces l k path → (v : Violation) × Contains (first ++ more) v × (v.line ≡ l) × (v.import_number ≡ k)
+    present l k path (inl less) breaks = elim (cases_lt l bound) [
       | inl low ↦ let (v, old, at, e) = a.all l k path low breaks in (v, Contains-append_left first more v old, at, e)
       | inr late ↦ absurd (gap l k path late less breaks)
     ]
-    there l k path (inr (same, less)) breaks =
+    present l k path (inr (same, less)) breaks =
         let (v, new, e) = b.all k path (omega arith) less (subst (λ (n : ℕ). Breaks net files pieces n k path) same breaks) in
         (v, Contains-append_right first more v new, (b.each v new).1 ∙ sym same, e)
 
   pub below_more : (bound line : ℕ) (first more : List Violation) → IsGap bound line → bound ≤ line → AreBelow net files pieces bound first → AreOfRule net files pieces line 0 (length net.imports) more → AreBelow net files pieces (line + 1) (first ++ more)
   below_more bound line first more gap above a b = record {
     each = each_is bound line (length net.imports) first more gap above a b;
-    all = λ l k path less breaks. there bound line (length net.imports) first more gap above a b l k path (elim (cases_eq l line) [ inl e ↦ inr (e, breaks.within) | inr ne ↦ inl (omega (arith, ne)) ]) breaks;
+    all = λ l k path less breaks. present bound line (length net.imports) first more gap above a b l k path (elim (cases_eq l line) [ inl e ↦ inr (e, breaks.within) | inr ne ↦ inl (omega (arith, ne)) ]) breaks;
     ascending = ascend bound line (length net.imports) first more gap above a b;
   }
 
@@ -177,9 +177,9 @@ module _ (net : Network) (files : List File) (pieces : List (List ℕ)) where
 
   -- what breaks a rule is in the list
   pub in_violations : (vs : List Violation) → AreViolations net files pieces vs → (v : Violation) → IsViolation net files pieces v → Contains vs v
-  in_violations vs are v is =
-      let (w, has, line, number) = are.all v.line v.import_number v.path is.is_chain in
-      subst (Contains vs) (one_violation w v (are.each w has) is line number) has
+  in_violations vs elements v is =
+      let (w, has, line, number) = elements.all v.line v.import_number v.path is.is_chain in
+      subst (Contains vs) (one_violation w v (elements.each w has) is line number) has
 
   pub one_verdict : (vs ws : List Violation) → AreViolations net files pieces vs → AreViolations net files pieces ws → vs ≡ ws
   one_verdict vs ws first second =
@@ -188,13 +188,13 @@ module _ (net : Network) (files : List File) (pieces : List (List ℕ)) where
   -- those of the earlier rules and of the first imports of the next are the first of all
   pub first_of_all : (bound line high : ℕ) (first more whole : List Violation) → IsGap bound line → bound ≤ line → AreBelow net files pieces bound first → AreOfRule net files pieces line 0 high more → AreViolations net files pieces whole
       → (rest : List Violation) × (whole ≡ (first ++ more) ++ rest)
-  first_of_all bound line high first more whole gap above a b are =
-      front_of ComesBefore before_apart (first ++ more) whole (ascend bound line high first more gap above a b) are.ascending
-      (λ v has. in_violations whole are v (each_is bound line high first more gap above a b v has).0)
+  first_of_all bound line high first more whole gap above a b elements =
+      front_of ComesBefore before_apart (first ++ more) whole (ascend bound line high first more gap above a b) elements.ascending
+      (λ v has. in_violations whole elements v (each_is bound line high first more gap above a b v has).0)
       (λ v w has in_whole before.
       let (own, low) = each_is bound line high first more gap above a b v has in
-      let is = are.each w in_whole in
-      let (u, found, at, e) = there bound line high first more gap above a b w.line w.import_number w.path (reach v w has before) is.is_chain in
+      let is = elements.each w in_whole in
+      let (u, found, at, e) = present bound line high first more gap above a b w.line w.import_number w.path (reach v w has before) is.is_chain in
       subst (Contains (first ++ more)) (one_violation u w (each_is bound line high first more gap above a b u found).0 is at e) found)
     where
       reach : (v w : Violation) → Contains (first ++ more) v → ComesBefore w v → (w.line < line) ⊎ ((w.line ≡ line) × (w.import_number < high))

@@ -8,14 +8,14 @@ use Rattle.std.proofs.KnownBytes.{Appends-nil}
 use Rattle.std.proofs.lemmas.Grind.{flat_map-append}
 use Rattle.std.proofs.lemmas.List.{get_or_default, map-append}
 use Rattle.std.proofs.lemmas.List.Elements.{Contains-get_or}
-use Rattle.byte_sink.specs.Sinks.{AppendsFront}
+use Rattle.byte_sink.specs.Sinks.{AppendsPrefix}
 use Rattle.text_escape.specs.Places.{Style, location_text}
-use Rattle.text_pieces.specs.Pieces.{PutsAllBut}
-use Rattle.text_pieces.proofs.Joining.{front_joined, front_more, joined, lines, lines_around, lines_more}
+use Rattle.byte_sink.specs.Pieces.{WritesAllBut}
+use Rattle.byte_sink.proofs.Joining.{front_joined, front_more, joined, lines, lines_around, lines_more}
 use Rattle.digraph.specs.Edges.{Leads}
 use Rattle.digraph.specs.Marks.{marked}
 use Rattle.digraph.specs.ShortestPaths.{IsPathAround, IsShortestPath}
-use Rattle.cut_net.specs.Network.{Network, name_of, none_there}
+use Rattle.cut_net.specs.Network.{Network, name_of, missing_item}
 use Rattle.cut_net.specs.WellFormed.{IsNetwork}
 use Rattle.cut_rules.specs.declared.file.File.{File}
 use Rattle.cut_rules.specs.declared.reading.Rules.{Rules}
@@ -50,15 +50,15 @@ violation_appended style net sites v site t0 t1 t2 t3 t4 t5 at e1 e2 e3 e4 e5 =
 
 -- ---- one import
 
-module _ (net : Network) (network : IsNetwork net) (files : List File) (pieces : List (List ℕ)) (rules : Rules) (are : AreRulesOf net files pieces rules) (line : ℕ) (found : RuleSearch) (for : IsSearchFor net files pieces line found) (k : ℕ) (lt : k < length net.imports) where
+module _ (net : Network) (network : IsNetwork net) (files : List File) (pieces : List (List ℕ)) (rules : Rules) (elements : AreRulesOf net files pieces rules) (line : ℕ) (found : RuleSearch) (for : IsSearchFor net files pieces line found) (k : ℕ) (lt : k < length net.imports) where
   low_from : (import_at net k).from < length net.names
-  low_from = (network.between (import_at net k) (Contains-get_or net.imports k none_there lt)).0
+  low_from = (network.between (import_at net k) (Contains-get_or net.imports k missing_item lt)).0
 
   pub low_to : (import_at net k).to < length net.names
-  low_to = (network.between (import_at net k) (Contains-get_or net.imports k none_there lt)).1
+  low_to = (network.between (import_at net k) (Contains-get_or net.imports k missing_item lt)).1
 
   pub none_allowed : marked rules.allowed.items k ≡ true → (path : List ℕ) → Breaks net files pieces line k path → ⊥
-  none_allowed taken path breaks = let (l, le, says) = (are.allowed.are k lt).0 taken in breaks.counted (l, says)
+  none_allowed taken path breaks = let (l, le, says) = (elements.allowed.elements k lt).0 taken in breaks.counted (l, says)
 
   pub none_target : marked found.targets.items (import_at net k).to ≡ false → (path : List ℕ) → Breaks net files pieces line k path → ⊥
   none_target none path breaks =
@@ -76,7 +76,7 @@ module _ (net : Network) (network : IsNetwork net) (files : List File) (pieces :
       (least_as (IsPathAround (Leads for.edges) for.starts for.barrier (import_at net k).from) (Breaks net files pieces line k)
       (λ other around. record {
         within = lt;
-        counted = λ (l, says). (let e : true ≡ false = sym ((are.allowed.are k lt).1 (l, (says_low pieces l _ says).1, says)) ∙ free in cc);
+        counted = λ (l, says). (let e : true ≡ false = sym ((elements.allowed.elements k lt).1 (l, (says_low pieces l _ says).1, says)) ∙ free in cc);
         forbidden = (for.forbidden (import_at net k).from (import_at net k).to other low_from low_to).0 (around, target);
       })
       (λ other breaks. ((for.forbidden (import_at net k).from (import_at net k).to other low_from low_to).1 breaks.forbidden).0) path shortest)
@@ -84,56 +84,56 @@ module _ (net : Network) (network : IsNetwork net) (files : List File) (pieces :
 -- ---- texts of lists
 
 module _ {X : Type 0} (line : X → List ℕ) (text : List ℕ) where
-  pub puts_none : (known : Option (List ℕ)) → PutsAllBut known known (text ++ flat_map line []) text
+  pub puts_none : (known : Option (List ℕ)) → WritesAllBut known known (text ++ flat_map line []) text
   puts_none known = ([], append-nil text, Appends-nil known)
 
-  pub puts_one : (old new : Option (List ℕ)) (x : X) (rest whole : List ℕ) → whole ≡ text ++ line x → PutsAllBut old new whole rest → PutsAllBut old new (text ++ flat_map line (x ∷ [])) rest
-  puts_one old new x rest whole e p = subst (λ (t : List ℕ). PutsAllBut old new t rest) (e ∙ ap (λ (t : List ℕ). text ++ t) (sym (append-nil (line x)))) p
+  pub puts_one : (old new : Option (List ℕ)) (x : X) (rest whole : List ℕ) → whole ≡ text ++ line x → WritesAllBut old new whole rest → WritesAllBut old new (text ++ flat_map line (x ∷ [])) rest
+  puts_one old new x rest whole e p = subst (λ (t : List ℕ). WritesAllBut old new t rest) (e ∙ ap (λ (t : List ℕ). text ++ t) (sym (append-nil (line x)))) p
 
-  pub front_one : (old new : Option (List ℕ)) (x : X) (whole : List ℕ) → whole ≡ text ++ line x → AppendsFront old new whole → AppendsFront old new (text ++ flat_map line (x ∷ []))
-  front_one old new x whole e p = subst (AppendsFront old new) (e ∙ ap (λ (t : List ℕ). text ++ t) (sym (append-nil (line x)))) p
+  pub front_one : (old new : Option (List ℕ)) (x : X) (whole : List ℕ) → whole ≡ text ++ line x → AppendsPrefix old new whole → AppendsPrefix old new (text ++ flat_map line (x ∷ []))
+  front_one old new x whole e p = subst (AppendsPrefix old new) (e ∙ ap (λ (t : List ℕ). text ++ t) (sym (append-nil (line x)))) p
 
-  pub puts_both : (old now new : Option (List ℕ)) (first more : List X) (rest last : List ℕ) → PutsAllBut old now (text ++ flat_map line first) rest → PutsAllBut now new (rest ++ flat_map line more) last → PutsAllBut old new (text ++ flat_map line (first ++ more)) last
+  pub puts_both : (old now new : Option (List ℕ)) (first more : List X) (rest last : List ℕ) → WritesAllBut old now (text ++ flat_map line first) rest → WritesAllBut now new (rest ++ flat_map line more) last → WritesAllBut old new (text ++ flat_map line (first ++ more)) last
   puts_both old now new first more rest last p q = joined old now new text (flat_map line first) (flat_map line more) rest last (flat_map line (first ++ more)) (flat_map-append line first more) p q
 
-  pub front_both : (old now new : Option (List ℕ)) (first more : List X) (rest : List ℕ) → PutsAllBut old now (text ++ flat_map line first) rest → AppendsFront now new (rest ++ flat_map line more) → AppendsFront old new (text ++ flat_map line (first ++ more))
+  pub front_both : (old now new : Option (List ℕ)) (first more : List X) (rest : List ℕ) → WritesAllBut old now (text ++ flat_map line first) rest → AppendsPrefix now new (rest ++ flat_map line more) → AppendsPrefix old new (text ++ flat_map line (first ++ more))
   front_both old now new first more rest p q =
       front_joined old now new text (flat_map line first) (flat_map line more) rest [] (flat_map line (first ++ more)) (flat_map-append line first more ∙ sym (append-nil (flat_map line first ++ flat_map line more))) p q
 
   -- of the first of a list, and so of all of it
-  pub front_of_list : (old new : Option (List ℕ)) (first rest whole : List X) → whole ≡ first ++ rest → AppendsFront old new (text ++ flat_map line first) → AppendsFront old new (text ++ flat_map line whole)
+  pub front_of_list : (old new : Option (List ℕ)) (first rest whole : List X) → whole ≡ first ++ rest → AppendsPrefix old new (text ++ flat_map line first) → AppendsPrefix old new (text ++ flat_map line whole)
   front_of_list old new first rest whole e p = front_more old new text (flat_map line first) (flat_map line rest) (flat_map line whole) (ap (flat_map line) e ∙ flat_map-append line first rest) p
 
 -- ---- texts of violations, in one style under two names
 
 module _ (net : Network) (sites : List Site) (style other : Style) (same : other ≡ style) (text : List ℕ) (old now new : Option (List ℕ)) (first more : List Violation) (rest : List ℕ) where
-  pub puts_more : (last : List ℕ) → PutsAllBut old now (text ++ flat_map (violation_line style net sites) first) rest → PutsAllBut now new (rest ++ flat_map (violation_line other net sites) more) last
-      → PutsAllBut old new (text ++ flat_map (violation_line style net sites) (first ++ more)) last
-  puts_more last p q = puts_both (violation_line style net sites) text old now new first more rest last p (subst (λ (s : Style). PutsAllBut now new (rest ++ flat_map (violation_line s net sites) more) last) same q)
+  pub puts_more : (last : List ℕ) → WritesAllBut old now (text ++ flat_map (violation_line style net sites) first) rest → WritesAllBut now new (rest ++ flat_map (violation_line other net sites) more) last
+      → WritesAllBut old new (text ++ flat_map (violation_line style net sites) (first ++ more)) last
+  puts_more last p q = puts_both (violation_line style net sites) text old now new first more rest last p (subst (λ (s : Style). WritesAllBut now new (rest ++ flat_map (violation_line s net sites) more) last) same q)
 
-  pub front_more_of : PutsAllBut old now (text ++ flat_map (violation_line style net sites) first) rest → AppendsFront now new (rest ++ flat_map (violation_line other net sites) more)
-      → AppendsFront old new (text ++ flat_map (violation_line style net sites) (first ++ more))
-  front_more_of p q = front_both (violation_line style net sites) text old now new first more rest p (subst (λ (s : Style). AppendsFront now new (rest ++ flat_map (violation_line s net sites) more)) same q)
+  pub front_more_of : WritesAllBut old now (text ++ flat_map (violation_line style net sites) first) rest → AppendsPrefix now new (rest ++ flat_map (violation_line other net sites) more)
+      → AppendsPrefix old new (text ++ flat_map (violation_line style net sites) (first ++ more))
+  front_more_of p q = front_both (violation_line style net sites) text old now new first more rest p (subst (λ (s : Style). AppendsPrefix now new (rest ++ flat_map (violation_line s net sites) more)) same q)
 
 -- ---- stale lines
 
 module _ (list items : List StaleAllow) (same : items ≡ list) (k : ℕ) (d : StaleAllow) (lt : k < length items) (text before after : List ℕ) (added : after ≡ before ++ stale_line (stale_of (get_or items k d))) (old now new : Option (List ℕ))
-    (so_far : PutsAllBut old now (text ++ lines stale_of stale_line (take k list)) before) where
+    (so_far : WritesAllBut old now (text ++ lines stale_of stale_line (take k list)) before) where
   within : k < length list
   within = subst (λ (l : List StaleAllow). k < length l) same lt
 
   here : after ≡ before ++ stale_line (stale_of (get_or list k d))
   here = added ∙ ap (λ (l : List StaleAllow). before ++ stale_line (stale_of (get_or l k d))) same
 
-  pub stale_next : (rest : List ℕ) → PutsAllBut now new after rest → PutsAllBut old new (text ++ lines stale_of stale_line (take (k + 1) list)) rest
+  pub stale_next : (rest : List ℕ) → WritesAllBut now new after rest → WritesAllBut old new (text ++ lines stale_of stale_line (take (k + 1) list)) rest
   stale_next rest q =
       joined old now new text (lines stale_of stale_line (take k list)) (stale_line (stale_of (get_or list k d))) before rest (lines stale_of stale_line (take (k + 1) list)) (lines_more stale_of stale_line list k d within) so_far
-      (subst (λ (t : List ℕ). PutsAllBut now new t rest) here q)
+      (subst (λ (t : List ℕ). WritesAllBut now new t rest) here q)
 
-  pub stale_front : AppendsFront now new after → AppendsFront old new (text ++ lines stale_of stale_line list)
+  pub stale_front : AppendsPrefix now new after → AppendsPrefix old new (text ++ lines stale_of stale_line list)
   stale_front q =
       front_joined old now new text (lines stale_of stale_line (take k list)) (stale_line (stale_of (get_or list k d))) before (lines stale_of stale_line (drop (k + 1) list)) (lines stale_of stale_line list) (lines_around stale_of stale_line list k d within) so_far
-      (subst (λ (t : List ℕ). AppendsFront now new t) here q)
+      (subst (λ (t : List ℕ). AppendsPrefix now new t) here q)
 
 -- ---- reads
 

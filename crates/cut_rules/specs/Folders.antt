@@ -15,9 +15,9 @@ path_cmp f g = slice_cmp nat_cmp f.path.now g.path.now
 abbrev pub is_before : List ℕ → File → Bool
 is_before text f = is_lt (slice_cmp nat_cmp f.path.now text)
 
--- it does, or begins with it
-abbrev pub is_not_behind : List ℕ → File → Bool
-is_not_behind text f = is_before text f || starts_with nat_eq f.path.now text
+-- the path comes before the text, or begins with it
+abbrev pub is_before_end : List ℕ → File → Bool
+is_before_end text f = is_before text f || starts_with nat_eq f.path.now text
 
 -- the files are sorted by the bytes of their paths
 abbrev pub ArePathsInOrder : List File → Type 0

@@ -1,4 +1,4 @@
--- How rules are judged: the modules of names by their numbers, and the search for one rule.
+-- The search for the imports that break a rule: the modules of names by number, and the search for one rule.
 use Rattle.std.specs.Prelude.{◌≡◌, ◌↔◌, ◌⊎◌, ℕ, ◌<◌, ◌≤◌, Bool, true, false, List, length, slice_get, slice_index_or, Some, All, AllPairs, Contains}
 use Rattle.digraph.specs.declared.edge.Edge.{Edge}
 use Rattle.digraph.specs.Edges.{Leads}
@@ -6,10 +6,10 @@ use Rattle.digraph.specs.Graphs.{IsGraph}
 use Rattle.digraph.specs.declared.graph.Graph.{Graph}
 use Rattle.digraph.specs.Marks.{marked}
 use Rattle.cut_net.specs.Lines.{edge_of}
-use Rattle.cut_net.specs.Network.{Network, none_there}
+use Rattle.cut_net.specs.Network.{Network, missing_item}
 use Rattle.digraph.specs.Search.{IsSearch}
 use Rattle.digraph.specs.ShortestPaths.{IsPathAround}
-use Rattle.cut_rules.specs.Drafts.{IsMember}
+use Rattle.cut_rules.specs.Builders.{IsMember}
 use Rattle.cut_rules.specs.declared.file.File.{File}
 use Rattle.cut_rules.specs.declared.reading.Rules.{Rules}
 use Rattle.cut_rules.specs.declared.rule.Rule.{Rule}
@@ -20,11 +20,11 @@ use Rattle.cut_rules.specs.Verdicts.{Breaks, ComesBefore, IsForbidden, IsViolati
 
 -- ---- imports that count
 
--- it is the edge of one of the first imports, and that one isn't marked
+-- the edge of one of the first `count` imports, which isn't flagged as allowed
 abbrev pub IsCountedBefore : Network → List Bool → ℕ → Edge → Type 0
-IsCountedBefore net allowed count p = (k : ℕ) × (k < count) × (marked allowed k ≡ false) × (edge_of (slice_index_or net.imports k none_there) ≡ p)
+IsCountedBefore net allowed count p = (k : ℕ) × (k < count) × (marked allowed k ≡ false) × (edge_of (slice_index_or net.imports k missing_item) ≡ p)
 
--- it is the edge of an import that isn't marked
+-- the edge of an import that isn't flagged as allowed
 abbrev pub IsCounted : Network → List Bool → Edge → Type 0
 IsCounted net allowed p = IsCountedBefore net allowed (length net.imports) p
 
@@ -34,7 +34,7 @@ IsCounted net allowed p = IsCountedBefore net allowed (length net.imports) p
 abbrev pub IsNamed : Rules → ℕ → ℕ → Type 0
 IsNamed rules number m = (number ≡ m) ⊎ IsMember rules.files.now rules.table number m
 
--- a node among these has the value now, and any other has what it had
+-- the flag of one of these nodes has the value, and any other is unchanged
 abbrev pub IsMarkSet : List ℕ → Bool → List Bool → List Bool → ℕ → Type 0
 IsMarkSet nodes value old new v = (Contains nodes v × (marked new v ≡ value)) ⊎ ((Contains nodes v → ⊥) × (marked new v ≡ marked old v))
 
@@ -42,11 +42,11 @@ IsMarkSet nodes value old new v = (Contains nodes v × (marked new v ≡ value))
 abbrev pub IsMayOf : Rule → ℕ → Type 0
 IsMayOf r first = (r.kind ≡ kinds.May) × (r.first ≡ first)
 
--- the rule is a `may`, and one of an earlier line has the same first name
+-- the rule is a `may` whose first name an earlier `may` has
 abbrev pub IsRepeated : List Rule → Rule → Type 0
 IsRepeated rules r = (r.kind ≡ kinds.May) × (s : Rule) × Contains rules s × (s.line < r.line) × IsMayOf s r.first
 
--- the module is neither of the name nor of another one that these `may` rules of it name
+-- the module isn't of the name, and of no other name that these `may` rules allow for it
 abbrev pub IsOutsiderOf : Rules → List Rule → ℕ → ℕ → Type 0
 IsOutsiderOf rules some first n = (IsNamed rules first n → ⊥) × ((r : Rule) → Contains some r → IsMayOf r first → IsNamed rules r.second n → ⊥)
 
@@ -85,11 +85,11 @@ pub record IsCountedGraph (net : Network) (rules : Rules) (graph : Graph) : Type
   pub nodes : length graph.after.items ≡ length net.names
   pub counted : (p : Edge) → Contains graph.edges.now p ↔ IsCounted net rules.allowed.items p
 
--- one of the rules, and no `may` that isn't the first of its name
+-- one of the rules, and the first `may` of its name if it is a `may`
 abbrev pub IsFirstRule : List Rule → Rule → Type 0
 IsFirstRule rules r = Contains rules r × (IsRepeated rules r → ⊥)
 
--- the first rules, and no others, stand in lines before this one
+-- exactly the first `count` rules are in lines before this one
 pub record IsBound (rules : List Rule) (count bound : ℕ) : Type 0 where
   pub before : (k : ℕ) (r : Rule) → k < count → slice_get rules k ≡ Some r → r.line < bound
   pub after : (k : ℕ) (r : Rule) → count ≤ k → slice_get rules k ≡ Some r → bound ≤ r.line

@@ -4,7 +4,7 @@ pub mod LineReading
 pub mod Faults
 pub mod Folders
 pub mod Names
-pub mod Drafts
+pub mod Builders
 pub mod Outcomes
 pub mod Verdicts
 pub mod Judged

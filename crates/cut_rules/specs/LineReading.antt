@@ -11,14 +11,14 @@ use Rattle.cut_rules.specs.declared.line.Line.TheVariants as lines
 use Rattle.cut_rules.specs.declared.line.Selector as declared
 use Rattle.cut_rules.specs.declared.line.Selector.TheVariants as selectors
 
--- what a selector that was read is
+-- the content of a parsed selector
 abbrev pub selector_content : declared.Selector → Selector
 selector_content (selectors.Module m) = Module m.now
 selector_content (selectors.Folder path) = Folder path.now
 selector_content (selectors.Named pattern) = Named pattern.now
 selector_content selectors.Tree = Tree
 
--- what a line that was read states
+-- the content of a parsed line
 abbrev pub line_content : Line → RuleLine
 line_content (lines.Adds s selector) = Adds s.now (selector_content selector)
 line_content (lines.Restricts kind x y) = Restricts kind x.now y.now
@@ -29,7 +29,7 @@ unfoldable pub is_comment : List ℕ → Bool
 is_comment [] = false
 is_comment (b ∷ bytes) = if is_blank b then is_comment bytes else b == 35
 
--- whether they state nothing
+-- whether the bytes state nothing
 abbrev pub is_idle : List ℕ → Bool
 is_idle [] = true
 is_idle (b ∷ bytes) = is_comment (b ∷ bytes)

@@ -1,11 +1,11 @@
--- The names that the lines of a rules text are read for.
+-- The names that a rules text may refer to.
 use Rattle.std.specs.Prelude.{◌≡◌, ◌↔◌, ◌⊎◌, ℕ, ◌+◌, ◌<◌, ◌≤◌, Bool, true, List, [], length, map, Option, Some, AllPairs, Contains}
 use Rattle.digraph.specs.Marks.{marked}
 use Rattle.text_hash.specs.declared.name.Name.{Name}
 use Rattle.cut_net.specs.Network.{Network, index_of, unpinned}
 use Rattle.cut_rules.specs.declared.names.Names.{Names}
 use Rattle.cut_rules.specs.declared.rule.RuleKind.{RuleKind}
-use Rattle.cut_rules.specs.RuleLines.{Restricts, Says}
+use Rattle.cut_rules.specs.RuleLines.{Restricts, States}
 use Rattle.cut_rules.specs.Rules.{IsRule, IsSet}
 
 -- the bytes of each name
@@ -23,11 +23,11 @@ pub record AreLinesOf (P : ℕ → Type 0) (count : ℕ) (lines : List ℕ) : Ty
   pub ascending : AllPairs (λ i j. i < j) lines
 
 -- at most 4096 lines before this one are rules
-pub record AreFewBefore (pieces : List (List ℕ)) (line : ℕ) : Type 0 where
+pub record IsWithinRuleLimit (pieces : List (List ℕ)) (line : ℕ) : Type 0 where
   pub count : ℕ
   pub number : line ≡ count + 1
   pub lines : List ℕ
-  pub are : AreLinesOf (IsRule pieces) count lines
+  pub elements : AreLinesOf (IsRule pieces) count lines
   pub few : length lines ≤ 4096
 
 -- the name is a module's or one of these
@@ -35,18 +35,18 @@ abbrev pub IsNoted : Network → List Name → List ℕ → Type 0
 IsNoted net names x = Contains net.names x ⊎ Contains (names_in names) x
 
 -- the name is that of a module or of a set
-abbrev pub IsKnown : Network → List (List ℕ) → List ℕ → Type 0
-IsKnown net pieces x = Contains net.names x ⊎ IsSet pieces x
+abbrev pub IsDeclaredName : Network → List (List ℕ) → List ℕ → Type 0
+IsDeclaredName net pieces x = Contains net.names x ⊎ IsSet pieces x
 
 -- the names in rules are a module's or among these, but for rules after the first one too many; and none of these is a module's
 pub record AreRuleNames (net : Network) (pieces : List (List ℕ)) (names : List Name) : Type 0 where
-  pub noted : (line : ℕ) (kind : RuleKind) (x y : List ℕ) → AreFewBefore pieces line → Says pieces line (Restricts kind x y) → IsNoted net names x × IsNoted net names y
+  pub noted : (line : ℕ) (kind : RuleKind) (x y : List ℕ) → IsWithinRuleLimit pieces line → States pieces line (Restricts kind x y) → IsNoted net names x × IsNoted net names y
   pub apart : (x : List ℕ) → Contains (names_in names) x → Contains net.names x → ⊥
 
--- a name is marked exactly if it is that of a set
+-- a name is flagged exactly if it is that of a set
 pub record AreDeclared (pieces : List (List ℕ)) (names : List Name) (declared : List Bool) : Type 0 where
   pub size : length declared ≡ length names
-  pub are : (x : List ℕ) (k : ℕ) → index_among names x ≡ Some k → (marked declared k ≡ true) ↔ IsSet pieces x
+  pub elements : (x : List ℕ) (k : ℕ) → index_among names x ≡ Some k → (marked declared k ≡ true) ↔ IsSet pieces x
 
 -- the names of the modules, and of the sets that rules name
 pub record AreNames (net : Network) (pieces : List (List ℕ)) (names : Names) : Type 0 where

@@ -3,7 +3,7 @@ use Rattle.std.specs.Prelude.{◌≡◌, ℕ, List, length}
 use Rattle.cut_net.specs.Network.{Network}
 use Rattle.cut_rules.specs.declared.file.File.{File}
 use Rattle.cut_rules.specs.declared.reading.Rules.{Rules}
-use Rattle.cut_rules.specs.Drafts.{AreAllowed, AreRules, AreStale, IsTable}
+use Rattle.cut_rules.specs.Builders.{AreAllowed, AreRules, AreStale, IsTable}
 use Rattle.cut_rules.specs.Names.{names_in}
 use Rattle.cut_rules.specs.Rules.{HasFault, LineFault}
 

@@ -6,14 +6,16 @@ use Rattle.texts.specs.Fields.{is_name, line_of}
 use Rattle.cut_rules.specs.declared.rule.RuleKind.{RuleKind}
 use Rattle.cut_rules.specs.declared.rule.RuleKind.TheVariants as kinds
 
--- which modules a line adds to a set: the module of a name, those whose file is below a folder, those whose name matches a pattern, those that have a file
+-- the modules that a line adds to a set: that of a name, those with a file below a folder, those whose name matches a pattern, or those
+-- with a file
 pub data Selector : Type 0 where
   Module : List ℕ → Selector
   Folder : List ℕ → Selector
   Named : List ℕ → Selector
   Tree : Selector
 
--- a line adds modules to a set, restricts the imports between two names by a rule of this kind, or allows the import of the second module by the first
+-- a line adds modules to a set, restricts the imports between two names by a rule of this kind, or allows the import of the second module
+-- by the first
 pub data RuleLine : Type 0 where
   Adds : List ℕ → Selector → RuleLine
   Restricts : RuleKind → List ℕ → List ℕ → RuleLine
@@ -101,10 +103,10 @@ pieces_of bytes = slice_split (λ c. c == 10) bytes
 pub record IsPieceAt (pieces : List (List ℕ)) (line : ℕ) (piece : List ℕ) : Type 0 where
   pub place : ℕ
   pub number : line ≡ place + 1
-  pub there : slice_get pieces place ≡ Some piece
+  pub present : slice_get pieces place ≡ Some piece
 
 -- the line of this number states this
-pub record Says (pieces : List (List ℕ)) (line : ℕ) (content : RuleLine) : Type 0 where
+pub record States (pieces : List (List ℕ)) (line : ℕ) (content : RuleLine) : Type 0 where
   pub piece : List ℕ
   pub at : IsPieceAt pieces line piece
   pub spelled : Spells piece content

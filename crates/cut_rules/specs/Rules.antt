@@ -7,7 +7,7 @@ use Rattle.cut_net.specs.Prices.{is_named}
 use Rattle.glob.specs.Globs.{Matches}
 use Rattle.cut_rules.specs.declared.file.File.{File}
 use Rattle.cut_rules.specs.declared.rule.RuleKind.{RuleKind}
-use Rattle.cut_rules.specs.RuleLines.{RuleLine, Selector, Module, Folder, Named, Tree, Adds, Restricts, Allow, IsIdle, IsPieceAt, Says, Spells}
+use Rattle.cut_rules.specs.RuleLines.{RuleLine, Selector, Module, Folder, Named, Tree, Adds, Restricts, Allow, IsIdle, IsPieceAt, States, Spells}
 
 -- ---- sets
 
@@ -27,12 +27,12 @@ folder_prefix path = without_dot (closed path)
 abbrev pub IsBelow : List ℕ → List ℕ → Type 0
 IsBelow path file = (rest : List ℕ) × (file ≡ folder_prefix path ++ rest)
 
--- the module has such a file
+-- the module has a file with the property
 abbrev pub HasFile : List File → (List ℕ → Type 0) → ℕ → Type 0
 HasFile files P m = (file : File) × Contains files file × (file.module ≡ m) × P file.path.now
 
 module _ (net : Network) (files : List File) where
-  -- the selector is for this module
+  -- the selector selects the module
   abbrev pub Selects : Selector → ℕ → Type 0
   Selects (Module name) m = (m < length net.names) × (name_of net m ≡ name)
   Selects (Folder path) m = HasFile files (IsBelow path) m
@@ -41,18 +41,18 @@ module _ (net : Network) (files : List File) where
 
 -- a line adds modules to the set
 abbrev pub IsSet : List (List ℕ) → List ℕ → Type 0
-IsSet pieces s = (line : ℕ) × (selector : Selector) × Says pieces line (Adds s selector)
+IsSet pieces s = (line : ℕ) × (selector : Selector) × States pieces line (Adds s selector)
 
 -- the module is the one of this name, or it is in the set of this name
 pub data IsIn (net : Network) (files : List File) (pieces : List (List ℕ)) (x : List ℕ) (m : ℕ) : Type 0 where
   Itself : name_of net m ≡ x → IsIn net files pieces x m
-  Added : (line : ℕ) (selector : Selector) → Says pieces line (Adds x selector) → Selects net files selector m → IsIn net files pieces x m
+  Added : (line : ℕ) (selector : Selector) → States pieces line (Adds x selector) → Selects net files selector m → IsIn net files pieces x m
 
 -- ---- allowed imports
 
 -- a line allows the import
 abbrev pub IsAllowed : Network → List (List ℕ) → Priced → Type 0
-IsAllowed net pieces i = (line : ℕ) × Says pieces line (Allow (name_of net i.from) (name_of net i.to))
+IsAllowed net pieces i = (line : ℕ) × States pieces line (Allow (name_of net i.from) (name_of net i.to))
 
 -- an import that no line allows leads from the one module to the other
 abbrev pub Counts : Network → List (List ℕ) → ℕ → ℕ → Type 0
@@ -64,11 +64,11 @@ LacksImport net m n = (i : Priced) → Contains net.imports i → is_named net m
 
 -- the line allows an import that the network doesn't have
 abbrev pub IsStale : Network → List (List ℕ) → ℕ → List ℕ → List ℕ → Type 0
-IsStale net pieces line m n = Says pieces line (Allow m n) × LacksImport net m n
+IsStale net pieces line m n = States pieces line (Allow m n) × LacksImport net m n
 
 -- ---- faults
 
--- what can be wrong with a line, with the names that are written
+-- the errors of a line, with the names in it
 pub data LineFault : Type 0 where
   BadLine : LineFault
   SetIsModule : List ℕ → LineFault
@@ -78,7 +78,7 @@ pub data LineFault : Type 0 where
   TooMany : LineFault
 
 -- 4096 lines before this one have the property
-pub record AreManyBefore (P : ℕ → Type 0) (line : ℕ) : Type 0 where
+pub record IsOverLimit (P : ℕ → Type 0) (line : ℕ) : Type 0 where
   pub lines : List ℕ
   pub many : length lines ≡ 4096
   pub ascending : AllPairs (λ i j. i < j) lines
@@ -100,11 +100,11 @@ empty_fault s Tree = EmptySet s
 
 -- the line is a rule
 abbrev pub IsRule : List (List ℕ) → ℕ → Type 0
-IsRule pieces line = (kind : RuleKind) × (x y : List ℕ) × Says pieces line (Restricts kind x y)
+IsRule pieces line = (kind : RuleKind) × (x y : List ℕ) × States pieces line (Restricts kind x y)
 
 -- the line has a pattern
 abbrev pub HasPattern : List (List ℕ) → ℕ → Type 0
-HasPattern pieces line = (s pattern : List ℕ) × Says pieces line (Adds s (Named pattern))
+HasPattern pieces line = (s pattern : List ℕ) × States pieces line (Adds s (Named pattern))
 
 module _ (net : Network) (files : List File) (pieces : List (List ℕ)) where
   abbrev pub IsModule : List ℕ → Type 0
@@ -123,10 +123,10 @@ module _ (net : Network) (files : List File) (pieces : List (List ℕ)) where
   IsWrong line (SetIsModule name) (Adds s selector) = (name ≡ s) × IsModule s
   IsWrong line (NoSuchModule name) (Adds s (Module m)) = (name ≡ m) × (IsModule m → ⊥)
   IsWrong line (NoSuchModule name) (Restricts kind x y) = IsFirstUnknown name x y
-  IsWrong line (TwiceAllowed m n) (Allow importer imported) = (m ≡ importer) × (n ≡ imported) × (before : ℕ) × (before < line) × Says pieces before (Allow importer imported)
+  IsWrong line (TwiceAllowed m n) (Allow importer imported) = (m ≡ importer) × (n ≡ imported) × (before : ℕ) × (before < line) × States pieces before (Allow importer imported)
   IsWrong line (EmptySet text) (Adds s selector) = (text ≡ selector_text s selector) × ((m : ℕ) → Selects net files selector m → ⊥)
-  IsWrong line TooMany (Adds s (Named pattern)) = AreManyBefore (HasPattern pieces) line
-  IsWrong line TooMany (Restricts kind x y) = AreManyBefore (IsRule pieces) line
+  IsWrong line TooMany (Adds s (Named pattern)) = IsOverLimit (HasPattern pieces) line
+  IsWrong line TooMany (Restricts kind x y) = IsOverLimit (IsRule pieces) line
   IsWrong line fault content = ⊥
 
   -- the line states something, and nothing that has a form
@@ -135,9 +135,9 @@ module _ (net : Network) (files : List File) (pieces : List (List ℕ)) where
 
   -- the line of this number has this fault
   abbrev pub HasFault : ℕ → LineFault → Type 0
-  HasFault line fault = (IsNoLine line × (fault ≡ BadLine)) ⊎ ((content : RuleLine) × Says pieces line content × IsWrong line fault content)
+  HasFault line fault = (IsNoLine line × (fault ≡ BadLine)) ⊎ ((content : RuleLine) × States pieces line content × IsWrong line fault content)
 
--- the order in which the faults of a line are looked for
+-- the order in which the errors of a line are tested
 abbrev pub rank : LineFault → ℕ
 rank BadLine = 0
 rank (SetIsModule name) = 1

@@ -1,4 +1,4 @@
--- What is written of rules: the imports that break them and the stale allow lines, or yes.
+-- The output for rules: the imports that break them and the stale `allow` lines, or `yes`.
 use Rattle.std.specs.Prelude.{◌≡◌, ◌⊎◌, ℕ, ◌<◌, Bool, true, false, List, [], ◌∷◌, ◌++◌, length, map, slice_get, slice_index_or, AllPairs, Contains, Option, Some, None, if◌then◌else◌, codes}
 use Rattle.std.specs.List.{flat_map}
 use Rattle.std.specs.Fmt.{decimal}
@@ -6,11 +6,11 @@ use Rattle.digraph.specs.Chains.{IsChain}
 use Rattle.digraph.specs.ShortestPaths.{IsLeastOf}
 use Rattle.text_escape.specs.Places.{Style, location_text}
 use Rattle.cut_net.specs.declared.priced.Priced.{Priced}
-use Rattle.cut_net.specs.Network.{Network, name_of, none_there}
+use Rattle.cut_net.specs.Network.{Network, name_of, missing_item}
 use Rattle.cut_rules.specs.declared.file.File.{File}
 use Rattle.cut_rules.specs.declared.rule.StaleAllow.{StaleAllow}
 use Rattle.cut_rules.specs.declared.site.Site.{Site}
-use Rattle.cut_rules.specs.RuleLines.{Forbid, ForbidImport, May, Says}
+use Rattle.cut_rules.specs.RuleLines.{Forbid, ForbidImport, May, States}
 use Rattle.cut_rules.specs.Rules.{Counts, IsAllowed, IsIn, IsStale}
 
 -- ---- imports that break a rule
@@ -24,16 +24,16 @@ module _ (Leads : ℕ → ℕ → Type 0) (IsSource IsBarred : ℕ → Type 0) (
 -- the line is the first `may` line of X
 pub record IsFirstMay (pieces : List (List ℕ)) (line : ℕ) (x : List ℕ) : Type 0 where
   pub target : List ℕ
-  pub says : Says pieces line (May x target)
-  pub first : (before : ℕ) (y : List ℕ) → before < line → Says pieces before (May x y) → ⊥
+  pub says : States pieces line (May x target)
+  pub first : (before : ℕ) (y : List ℕ) → before < line → States pieces before (May x y) → ⊥
 
 module _ (net : Network) (files : List File) (pieces : List (List ℕ)) (line m n : ℕ) where
   -- the rule of the line forbids that m imports n at the end of this path
   pub data IsForbidden (path : List ℕ) : Type 0 where
-    ByForbid : (x y : List ℕ) → Says pieces line (Forbid x y) → IsIn net files pieces y n → IsEntryPath (Counts net pieces) (IsIn net files pieces x) (IsIn net files pieces y) m path → IsForbidden path
-    ByForbidImport : (x y : List ℕ) → Says pieces line (ForbidImport x y) → IsIn net files pieces x m → IsIn net files pieces y n → path ≡ m ∷ [] → IsForbidden path
+    ByForbid : (x y : List ℕ) → States pieces line (Forbid x y) → IsIn net files pieces y n → IsEntryPath (Counts net pieces) (IsIn net files pieces x) (IsIn net files pieces y) m path → IsForbidden path
+    ByForbidImport : (x y : List ℕ) → States pieces line (ForbidImport x y) → IsIn net files pieces x m → IsIn net files pieces y n → path ≡ m ∷ [] → IsForbidden path
     ByMay : (x : List ℕ) → IsFirstMay pieces line x → IsIn net files pieces x m → (IsIn net files pieces x n → ⊥)
-        → ((other : ℕ) (y : List ℕ) → Says pieces other (May x y) → IsIn net files pieces y n → ⊥) → path ≡ m ∷ [] → IsForbidden path
+        → ((other : ℕ) (y : List ℕ) → States pieces other (May x y) → IsIn net files pieces y n → ⊥) → path ≡ m ∷ [] → IsForbidden path
 
 -- an import that breaks the rule of a line: the number of the import in the network, and the path to its importing module
 pub record Violation : Type 0 where
@@ -42,7 +42,7 @@ pub record Violation : Type 0 where
   pub path : List ℕ
 
 abbrev pub import_at : Network → ℕ → Priced
-import_at net k = slice_index_or net.imports k none_there
+import_at net k = slice_index_or net.imports k missing_item
 
 module _ (net : Network) (files : List File) (pieces : List (List ℕ)) where
   -- no line allows the import, and the rule of the line forbids it at the end of this path
@@ -84,11 +84,11 @@ pub record AreStaleLines (net : Network) (pieces : List (List ℕ)) (stale : Lis
 
 -- ---- the text
 
--- each after a space
+-- the names, each after a space
 abbrev pub spaced : List (List ℕ) → List ℕ
 spaced names = flat_map (λ (name : List ℕ). 32 ∷ name) names
 
--- where an import is
+-- the location of an import
 abbrev pub site_text : Style → Option Site → List ℕ
 site_text style None = []
 site_text style (Some site) = location_text style site.path.now site.line site.column
@@ -122,13 +122,14 @@ verdict_text style net sites violations stale = if is_clean violations stale the
 -- ---- what the violations of a rule are
 
 module _ (net : Network) (files : List File) (pieces : List (List ℕ)) (line : ℕ) where
-  -- a path of imports that no line allows, which the rule of the line forbids: of one or more imports for `forbid`, of one for the other two kinds
+  -- a path of imports that no line allows, which the rule of the line forbids: of one or more imports for `forbid`, of one for the other
+  -- two kinds
   pub data IsForbiddenPath : List ℕ → Type 0 where
-    PathByForbid : (x y : List ℕ) (start next : ℕ) (more : List ℕ) (end : ℕ) → Says pieces line (Forbid x y) → IsIn net files pieces x start → IsChain (Counts net pieces) start (next ∷ more) end → IsIn net files pieces y end
+    PathByForbid : (x y : List ℕ) (start next : ℕ) (more : List ℕ) (end : ℕ) → States pieces line (Forbid x y) → IsIn net files pieces x start → IsChain (Counts net pieces) start (next ∷ more) end → IsIn net files pieces y end
         → IsForbiddenPath (start ∷ next ∷ more)
-    PathByForbidImport : (x y : List ℕ) (m n : ℕ) → Says pieces line (ForbidImport x y) → IsIn net files pieces x m → Counts net pieces m n → IsIn net files pieces y n → IsForbiddenPath (m ∷ n ∷ [])
+    PathByForbidImport : (x y : List ℕ) (m n : ℕ) → States pieces line (ForbidImport x y) → IsIn net files pieces x m → Counts net pieces m n → IsIn net files pieces y n → IsForbiddenPath (m ∷ n ∷ [])
     PathByMay : (x : List ℕ) (m n : ℕ) → IsFirstMay pieces line x → IsIn net files pieces x m → Counts net pieces m n → (IsIn net files pieces x n → ⊥)
-        → ((other : ℕ) (y : List ℕ) → Says pieces other (May x y) → IsIn net files pieces y n → ⊥) → IsForbiddenPath (m ∷ n ∷ [])
+        → ((other : ℕ) (y : List ℕ) → States pieces other (May x y) → IsIn net files pieces y n → ⊥) → IsForbiddenPath (m ∷ n ∷ [])
 
 -- the import is one of the path's
 pub record IsOnPath (net : Network) (path : List ℕ) (k : ℕ) : Type 0 where
@@ -136,6 +137,6 @@ pub record IsOnPath (net : Network) (path : List ℕ) (k : ℕ) : Type 0 where
   pub after : List ℕ
   pub whole : path ≡ before ++ (import_at net k).from ∷ (import_at net k).to ∷ after
 
--- it breaks the rule of the line
+-- the import breaks the rule of the line
 abbrev pub BreaksRule : Network → List File → List (List ℕ) → ℕ → ℕ → Type 0
 BreaksRule net files pieces line k = (path : List ℕ) × Breaks net files pieces line k path

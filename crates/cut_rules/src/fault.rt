@@ -1,13 +1,13 @@
-//! Why bytes are no rules of a tree.
+//! Errors of a rules text.
 
 use std::alloc::{AllocError, AllocFailed};
 use thiserror::Error;
 
-/// The first fault of a rules text: the first line's, and within a line the first in this order. Lines are numbered from 1, and empty lines
-/// and comments count.
+/// The first error of a rules text: that of the first line with an error, and within the line the first in this order. Lines are numbered
+/// from 1, and empty lines and comments count.
 #[derive(Debug, Drop, Error)]
 pub enum RulesFault {
-    /// The line is neither empty nor a comment, and has none of the forms.
+    /// The line is neither empty nor a comment, and isn't a valid rule line.
     #[error("line {line} breaks the form")]
     BadLine {
         line: u64,
@@ -18,26 +18,27 @@ pub enum RulesFault {
         line: u64,
         name: String,
     },
-    /// The name is neither a module nor, where it may be one, a set. It is the first such name of the line.
+    /// The name isn't a module's, and isn't a set's if a set is allowed there. It is the first unknown name of the line.
     #[error("line {line}: there is no module {name}")]
     NoSuchModule {
         line: u64,
         name: String,
     },
-    /// An earlier line allows the same import.
+    /// An earlier line allows this import.
     #[error("line {line} is the second that allows the import of {imported} by {importer}")]
     TwiceAllowed {
         line: u64,
         importer: String,
         imported: String,
     },
-    /// The line adds no module to its set. The text is the line's path or pattern, and of a `tree` line the set's name.
+    /// The line adds no module to its set. The text is the line's path or pattern, for a `tree` line the set's name.
     #[error("line {line}: no module is in {text}")]
     EmptySet {
         line: u64,
         text: String,
     },
-    /// 4,096 lines before this one are rules, and so is this one; or 4,096 lines before this one have patterns, and so has this one.
+    /// The line exceeds a limit: 4,096 earlier lines are rules, and so is this one; or 4,096 earlier lines have patterns, and so has this
+    /// one.
     #[error("line {line} is one line too many")]
     TooMany {
         line: u64,

@@ -3,7 +3,7 @@ ghost use Rattle.std.specs.Prelude.{◌≡◌, ◌↔◌, ◌<◌, ◌≤◌, �
 ghost use Rattle.std.specs.List.{starts_with};
 ghost use Rattle.std.specs.Ordering.{is_lt, nat_cmp};
 ghost use Rattle.std.specs.Cmp.Lexicographic.{slice_cmp};
-ghost use Rattle.cut_rules.specs.Folders.{is_before, is_not_behind, ArePathsInOrder};
+ghost use Rattle.cut_rules.specs.Folders.{is_before, is_before_end, ArePathsInOrder};
 ghost use Rattle.cut_rules.specs.Rules.{closed, without_dot, IsBelow};
 ghost use Rattle.cut_rules.specs.declared.file.File.{File as TreeFile};
 
@@ -17,9 +17,9 @@ fn is_before(file: &File<'_>, text: &[u8]) -> bool
     file.path.as_bytes().cmp(text).is_lt()
 }
 
-/// Whether it does, or begins with the text.
-fn is_not_behind(file: &File<'_>, text: &[u8]) -> bool
-    ensures { result ≡ is_not_behind text.now file.now }
+/// Whether the file's path comes before the text, or begins with it.
+fn is_before_end(file: &File<'_>, text: &[u8]) -> bool
+    ensures { result ≡ is_before_end text.now file.now }
 {
     is_before(file, text) || file.path.as_bytes().starts_with(text)
 }
@@ -43,18 +43,18 @@ fn without_dot(path: &[u8]) -> &[u8]
 }
 
 /// The indices of the files below the folder, from the first up to the second, which is excluded.
-pub(crate) fn places_below(
+pub(crate) fn range_below(
     alloc: Global,
     files: &[File<'_>],
     path: &[u8],
 ) -> Result<(usize, usize), AllocError>
     requires { ArePathsInOrder files.now }
     ensures within { IfOk result (λ places. places.1 ≤ length files.now) }
-    ensures are { IfOk result (λ places. (k : ℕ) (f : TreeFile) → slice_get files.now k ≡ Some f → ((places.0 ≤ k) × (k < places.1)) ↔ IsBelow path.now f.path.now) }
+    ensures elements { IfOk result (λ places. (k : ℕ) (f : TreeFile) → slice_get files.now k ≡ Some f → ((places.0 ≤ k) × (k < places.1)) ↔ IsBelow path.now f.path.now) }
 {
     let closed = closed(alloc, path)?;
     let prefix = without_dot(closed.as_slice());
     let from = files.partition_point(|file| is_before(file, prefix));
-    let to = files.partition_point(|file| is_not_behind(file, prefix));
+    let to = files.partition_point(|file| is_before_end(file, prefix));
     Ok((from, to))
 }

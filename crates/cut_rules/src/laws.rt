@@ -1,4 +1,4 @@
-//! Laws of rules. Each function is a law: its body is empty, and its contract is proved.
+//! Laws of rules, proved as contracts of functions with an empty body.
 ghost use Rattle.std.specs.Prelude.{ℕ, ◌≡◌, List};
 ghost use Rattle.cut_net.specs.Network.{Network};
 ghost use Rattle.cut_rules.specs.Faults.{cause_of, IsRefusal};
@@ -8,29 +8,34 @@ ghost use Rattle.cut_rules.specs.declared.file.File.{File as TreeFile};
 ghost use Rattle.cut_rules.specs.Verdicts.{import_at, AreViolations, BreaksRule, IsForbiddenPath, IsOnPath, Violation};
 ghost use Rattle.cut_rules.specs.declared.reading.Rules.{Rules as TreeRules};
 
-/// A text is rejected for one thing at most: two refusals have one line, one cause and the same names.
+/// The error of a text is unique: its line, its cause and its names.
 pub fn one_refusal()
+    // Two errors have an equal line, cause and names.
     ensures { (net : Network) (files : List TreeFile) (pieces : List (List ℕ)) (a b : Refusal) → IsRefusal net files pieces a → IsRefusal net files pieces b → cause_of a ≡ cause_of b }
 {}
 
-/// A text that has rules is rejected for nothing.
+/// A text with rules has no error.
 pub fn rules_or_refusal()
+    // A text with rules and an error doesn't exist.
     ensures { (net : Network) (files : List TreeFile) (pieces : List (List ℕ)) (rules : TreeRules) (fault : Refusal) → AreRulesOf net files pieces rules → IsRefusal net files pieces fault → ⊥ }
 {}
 
 /// A text has at most one list of violations.
 pub fn one_verdict()
+    // A text has at most one list of violations.
     ensures { (net : Network) (files : List TreeFile) (pieces : List (List ℕ)) (a b : List Violation) → AreViolations net files pieces a → AreViolations net files pieces b → a ≡ b }
 {}
 
-/// Without the imports that break a rule no path that the rule forbids is left: each such path has one of them.
+/// Each path that a rule forbids has an import that breaks the rule; so without these imports no such path is left.
 pub fn none_left()
+    // A forbidden path has an import that breaks the rule.
     ensures { (net : Network) (files : List TreeFile) (pieces : List (List ℕ)) (line : ℕ) (path : List ℕ) → IsForbiddenPath net files pieces line path
         → ((k : ℕ) → IsOnPath net path k → BreaksRule net files pieces line k → ⊥) → ⊥ }
 {}
 
-/// Each of them alone leaves one: it is on a path that the rule forbids, and no other import of that path breaks the rule.
+/// Each import that breaks a rule is needed: it is on a path that the rule forbids, whose other imports don't break the rule.
 pub fn each_leaves_one()
+    // The import is on a forbidden path, and each import of that path that breaks the rule has its two modules.
     ensures { (net : Network) (files : List TreeFile) (pieces : List (List ℕ)) (line k : ℕ) → BreaksRule net files pieces line k
         → (path : List ℕ) × IsForbiddenPath net files pieces line path × IsOnPath net path k
         × ((other : ℕ) → IsOnPath net path other → BreaksRule net files pieces line other → ((import_at net other).from ≡ (import_at net k).from) × ((import_at net other).to ≡ (import_at net k).to)) }

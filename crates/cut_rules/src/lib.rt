@@ -1,11 +1,12 @@
-//! Rules for a tree: which modules may not import which, directly or through others.
-//! Stands on `cut_net` for networks, on `digraph` for paths, on `texts`, `text_escape`, `text_pieces` and `byte_sink`, on `text_hash` and `indexmap` for names,
-//! and on `thiserror` for its faults.
-//! Its contract: rules are exactly what their text states of a tree, or its first fault; and a sink takes a line for exactly the imports that break a rule and the
-//! stale allows, or else `yes`.
+//! Rules for a tree: which modules may not import which, directly or through others. A breadth-first search for each rule finds the
+//! imports that break it.
+//! Depends on `cut_net` for networks, `digraph` for paths, `texts`, `text_escape` and `byte_sink` for input and output,
+//! `text_hash` and `indexmap` for names, `thiserror` for errors.
+//! The main calls are `Rules::read` and `write_verdict`. Rules are exactly those of the text, or its first error; the sink takes a line
+//! for exactly the imports that break a rule and the stale `allow` lines, or else `yes`.
 #![tactic(auto)]
 
-mod draft;
+mod builder;
 mod fault;
 mod file;
 mod folders;

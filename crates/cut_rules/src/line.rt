@@ -5,7 +5,7 @@ ghost use Rattle.cut_rules.specs.LineReading.{is_comment, is_idle, kind_of, last
 ghost use Rattle.cut_rules.specs.RuleLines.{is_blank};
 
 use crate::rule::RuleKind;
-use texts::fields::{cut_at_byte, name_in};
+use texts::fields::{cut_at_byte, field_name};
 
 /// Which modules a line adds to a set.
 #[derive(Clone, Copy)]
@@ -75,7 +75,7 @@ fn last_name(fields: &[u8]) -> Option<&str>
     if !is_idle(rest) {
         return None;
     }
-    name_in(name)
+    field_name(name)
 }
 
 /// The kind of rule that a keyword begins.
@@ -135,12 +135,12 @@ fn line_of_fields<'a>(word: &[u8], fields: &'a [u8]) -> Option<Line<'a>>
         return Some(Line::Adds(last_name(fields)?, Selector::Tree));
     }
     let (first, last) = cut_at_byte(fields, b' ')?;
-    line_after(word, name_in(first)?, last)
+    line_after(word, field_name(first)?, last)
 }
 
 /// What the bytes of a line state, or none if they have no form.
 #[tactic(auto, unfolding(crate::specs::LineReading::rule_line_of))]
-pub(crate) fn line_in(piece: &[u8]) -> Option<Line<'_>>
+pub(crate) fn parse_line(piece: &[u8]) -> Option<Line<'_>>
     ensures { option_map line_content result ≡ rule_line_of piece.now }
 {
     let (word, fields) = cut_at_byte(piece, b' ')?;
@@ -165,7 +165,7 @@ pub(crate) fn rule_in(piece: &[u8]) -> Option<(&str, &str)>
 pub(crate) fn set_in(piece: &[u8]) -> Option<&str>
     ensures { option_map (λ name. name.now) result ≡ set_of piece.now }
 {
-    match line_in(piece)? {
+    match parse_line(piece)? {
         Line::Adds(set, _) => Some(set),
         Line::Restricts(_, _, _) | Line::Allow(_, _) => None,
     }

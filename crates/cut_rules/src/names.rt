@@ -1,28 +1,28 @@
-//! The names that the lines of a rules text are read for: of the modules, and of the sets that its rules name.
+//! The names that a rules text may refer to: those of the modules, and of the sets that its rules name.
 ghost use Rattle.std.specs.Prelude.{◌≡◌, ◌⊎◌, ◌<◌, ◌≤◌, ℕ, Contains, IfNone, IfOk, IfSome, List, OnOk, Some, length, false, true};
 ghost use Rattle.digraph.specs.Marks.{marked};
 ghost use Rattle.cut_rules.specs.LineReading.{set_of};
 ghost use Rattle.cut_rules.specs.Names.{index_among, names_in, AreDeclared, AreNames, AreRuleNames, IsNoted};
 ghost use Rattle.cut_rules.specs.RuleLines.{pieces_of};
 
-use crate::draft::MOST_LINES;
+use crate::builder::MOST_LINES;
 use crate::line::{rule_in, set_field, set_in};
 use cut_net::Net;
 use indexmap::IndexSet;
 use std::alloc::{AllocError, Global};
 use text_hash::{Name, Seed};
 
-/// A rule has at least so many bytes for each of its names.
+/// The smallest number of bytes of a rule for each of its names, to estimate the number of keys.
 const BYTES_A_NAME: usize = 4;
 
-/// The names of modules, and of the sets that rules name: of other sets no line has to be kept.
+/// The names of modules, and of the sets that rules name; lines about other sets are only parsed.
 #[derive(Drop)]
 pub(crate) struct Names<'a> {
     /// Of all modules, by their numbers.
     pub(crate) modules: IndexSet<Name<'a>, Seed>,
-    /// What the rules name and is no module, up to the first rule too many, in order of first occurrence.
+    /// The names in rules that aren't modules', up to the first rule that exceeds the limit, in order of first occurrence.
     pub(crate) sets: IndexSet<Name<'a>, Seed>,
-    /// For each of these whether a line adds modules to a set of this name.
+    /// For each name in `sets` whether a line adds modules to a set of this name.
     pub(crate) declared: Vec<bool>,
 }
 
@@ -33,7 +33,7 @@ impl Names<'_> {
         ensures found { IfSome result (λ k. (index_among self.now.sets.keys name.now ≡ Some k) × (marked self.now.declared.items k ≡ true)) }
         ensures none { IfNone result ((k : ℕ) → index_among self.now.sets.keys name.now ≡ Some k → marked self.now.declared.items k ≡ false) }
     {
-        let place = place_in(&self.sets, name.as_bytes())?;
+        let place = name_index(&self.sets, name.as_bytes())?;
         if !self.declared[place] {
             return None;
         }
@@ -42,16 +42,16 @@ impl Names<'_> {
 }
 
 /// The index of a name.
-pub(crate) fn place_in(names: &IndexSet<Name<'_>, Seed>, name: &[u8]) -> Option<usize>
+pub(crate) fn name_index(names: &IndexSet<Name<'_>, Seed>, name: &[u8]) -> Option<usize>
     ensures place { result ≡ index_among names.now.keys name.now }
     ensures within { IfSome result (λ k. k < length names.now.keys) }
 {
     names.get_index_of(&Name { bytes: name })
 }
 
-/// The names of all modules, one after the other, for the seed of their table: their author can choose them.
+/// The concatenated names of all modules, to choose the seed of their table: an author of modules can choose names that collide.
 fn joined_names(alloc: Global, net: &Net) -> Result<Vec<u8>, AllocError> {
-    net.keeps();
+    net.invariants();
     let mut text = Vec::new(alloc);
     for node in 0..net.nodes() {
         text.extend_from_slice(net.name(node).as_bytes())?;
@@ -63,7 +63,7 @@ fn joined_names(alloc: Global, net: &Net) -> Result<Vec<u8>, AllocError> {
 fn module_names<'a>(alloc: Global, net: &'a Net) -> Result<IndexSet<Name<'a>, Seed>, AllocError>
     ensures { IfOk result (λ names. names_in names.keys ≡ net.now.names) }
 {
-    net.keeps();
+    net.invariants();
     let text = joined_names(alloc, net)?;
     let seed = Seed::for_keys(text.as_slice(), net.nodes() as usize);
     let mut names = IndexSet::with_hasher(alloc, seed);
@@ -80,7 +80,7 @@ fn add_name<'a>(
     names: &mut IndexSet<Name<'a>, Seed>,
     name: &'a str,
 ) -> Result<(), AllocError>
-    ensures kept { OnOk result ((x : List ℕ) → Contains (names_in names.old.keys) x → Contains (names_in names.new.keys) x) }
+    ensures retained { OnOk result ((x : List ℕ) → Contains (names_in names.old.keys) x → Contains (names_in names.new.keys) x) }
     ensures noted { OnOk result (IsNoted net.now names.new.keys name.now) }
     ensures apart { OnOk result ((x : List ℕ) → Contains (names_in names.new.keys) x → Contains (names_in names.old.keys) x ⊎ (Contains net.now.names x → ⊥)) }
 {
@@ -92,14 +92,14 @@ fn add_name<'a>(
     Ok(())
 }
 
-/// Adds the names of a rule after so many others, unless it is too many.
+/// Adds the names of a rule after this many others, unless the limit is exceeded.
 fn add_names<'a>(
     net: &Net,
     names: &mut IndexSet<Name<'a>, Seed>,
     rules: usize,
     rule: (&'a str, &'a str),
 ) -> Result<(), AllocError>
-    ensures kept { OnOk result ((x : List ℕ) → Contains (names_in names.old.keys) x → Contains (names_in names.new.keys) x) }
+    ensures retained { OnOk result ((x : List ℕ) → Contains (names_in names.old.keys) x → Contains (names_in names.new.keys) x) }
     ensures noted { OnOk result (rules ≤ 4096 → IsNoted net.now names.new.keys rule.entry.0.now × IsNoted net.now names.new.keys rule.entry.1.now) }
     ensures apart { OnOk result ((x : List ℕ) → Contains (names_in names.new.keys) x → Contains (names_in names.old.keys) x ⊎ (Contains net.now.names x → ⊥)) }
 {
@@ -132,13 +132,14 @@ fn rule_names<'a>(
     Ok(names)
 }
 
-/// The index of the set to which a line adds modules, if it is a name that has no mark yet. Most lines aren't parsed: they name none of the sets, or one with a mark.
+/// The index of the set to which a line adds modules, if its name is unflagged. Most lines aren't parsed, since their name is flagged or
+/// isn't one of the sets.
 fn declared_by(names: &IndexSet<Name<'_>, Seed>, declared: &[bool], piece: &[u8]) -> Option<usize>
     requires { length declared.now ≡ length names.now.keys }
     ensures found { IfSome result (λ k. (k < length names.now.keys) × (x : List ℕ) × (set_of piece.now ≡ Some x) × (index_among names.now.keys x ≡ Some k)) }
     ensures none { IfNone result ((x : List ℕ) (k : ℕ) → set_of piece.now ≡ Some x → index_among names.now.keys x ≡ Some k → marked declared.now k ≡ true) }
 {
-    let place = place_in(names, set_field(piece)?)?;
+    let place = name_index(names, set_field(piece)?)?;
     if declared[place] {
         return None;
     }
@@ -146,19 +147,19 @@ fn declared_by(names: &IndexSet<Name<'_>, Seed>, declared: &[bool], piece: &[u8]
     Some(place)
 }
 
-/// Whether all have a mark.
-fn are_all_marked(marks: &[bool]) -> bool
-    ensures { result ≡ true → (k : ℕ) → k < length marks.now → marked marks.now k ≡ true }
+/// Whether all flags are set.
+fn are_all_marked(flags: &[bool]) -> bool
+    ensures { result ≡ true → (k : ℕ) → k < length flags.now → marked flags.now k ≡ true }
 {
-    for place in 0..marks.len() {
-        if !marks[place] {
+    for place in 0..flags.len() {
+        if !flags[place] {
             return false;
         }
     }
     true
 }
 
-/// For each name whether a line adds modules to the set of this name. The text is read until all have a mark.
+/// For each name whether a line adds modules to the set of this name. Reads the text until all flags are set.
 fn declared_sets(
     alloc: Global,
     names: &IndexSet<Name<'_>, Seed>,

@@ -1,13 +1,13 @@
 //! Reading the rules of a tree from their text.
 ghost use Rattle.std.specs.Prelude.{◌≡◌, ◌+◌, IfErr, IfOk, length};
-ghost use Rattle.cut_rules.specs.Drafts.{IsDraft, IsEmptyFor};
+ghost use Rattle.cut_rules.specs.Builders.{HasLines, IsEmptyFor};
 ghost use Rattle.cut_rules.specs.Faults.{IsRefusal, UnlessMemory};
 ghost use Rattle.cut_rules.specs.Folders.{ArePathsInOrder};
 ghost use Rattle.cut_rules.specs.Names.{names_in, AreNames};
 ghost use Rattle.cut_rules.specs.Outcomes.{AreRulesOf};
 ghost use Rattle.cut_rules.specs.RuleLines.{pieces_of};
 
-use crate::draft::{Draft, LineContext};
+use crate::builder::{LineContext, RulesBuilder};
 use crate::names::{Names, names_of};
 use crate::rule::{Rule, StaleAllow};
 use crate::table::{SetTable, empty_sets};
@@ -31,13 +31,13 @@ pub struct Rules<'a> {
 }
 
 /// The builder before the first line.
-fn empty<'a>(context: &LineContext<'_>) -> Result<Draft<'a>, AllocError>
+fn empty<'a>(context: &LineContext<'_>) -> Result<RulesBuilder<'a>, AllocError>
     ensures { IfOk result (IsEmptyFor context.now) }
 {
     let alloc = context.alloc;
     let modules = context.net.nodes() as usize;
     let places = context.files.len() + modules;
-    Ok(Draft {
+    Ok(RulesBuilder {
         table: SetTable {
             modules,
             sets: empty_sets(alloc, context.names.sets.len(), places)?,
@@ -51,26 +51,29 @@ fn empty<'a>(context: &LineContext<'_>) -> Result<Draft<'a>, AllocError>
 }
 
 /// What all lines state, or the fault of the first line that has one.
-fn draft_of<'a>(context: &LineContext<'_>, bytes: &'a [u8]) -> Result<Draft<'a>, RulesFault>
+fn build_from<'a>(
+    context: &LineContext<'_>,
+    bytes: &'a [u8],
+) -> Result<RulesBuilder<'a>, RulesFault>
     requires sorted { ArePathsInOrder context.now.files.now }
     requires names { AreNames context.now.net.now (pieces_of bytes.now) context.now.names.now }
-    ensures drafted { IfOk result (IsDraft context.now.net.now context.now.files.now (names_in context.now.names.now.sets.keys) (pieces_of bytes.now) (length (pieces_of bytes.now))) }
+    ensures built { IfOk result (HasLines context.now.net.now context.now.files.now (names_in context.now.names.now.sets.keys) (pieces_of bytes.now) (length (pieces_of bytes.now))) }
     ensures fault { IfErr result (λ fault. UnlessMemory fault (IsRefusal context.now.net.now context.now.files.now (pieces_of bytes.now) fault)) }
 {
-    let mut draft = empty(context)?;
+    let mut builder = empty(context)?;
     let mut line = 0;
     for piece in bytes.split(|b| *b == b'\n') {
         line += 1;
-        draft.take(&LineContext { line, ..*context }, piece)?;
+        builder.take(&LineContext { line, ..*context }, piece)?;
     }
-    Ok(draft)
+    Ok(builder)
 }
 
 impl Rules<'_> {
-    /// The rules that the bytes spell for the network of a tree whose modules have these files, sorted by path; or the first fault of the bytes: of the first line
-    /// that has one, the first in the order of `RulesFault`. `Memory` if an allocation failed.
+    /// The rules of a text for the network of a tree whose modules have these files, sorted by path. Fails with the first error of the
+    /// text: that of the first line with an error, and within the line the first in the order of `RulesFault`; or with `Memory`.
     ///
-    /// The forms of lines, with fields separated by one space:
+    /// The syntax of lines, with fields separated by one space:
     ///
     /// - `set S M`: the module M is in the set S.
     /// - `folder S PATH`: each module whose file is below PATH is in S.
@@ -79,9 +82,9 @@ impl Rules<'_> {
     /// - `forbid X Y`, `forbid-import X Y`, `may X Y`: a rule between X and Y, each a set or else a module (`RuleKind`).
     /// - `allow M N`: the import of N by M counts for no rule.
     ///
-    /// Names are identifiers (Oberon-07 report, section 3). PATH and PATTERN are the rest of their lines, in UTF-8. A comment is a `#` and the rest of the line, at
-    /// the line's start or, but for `folder` and `named`, after blanks, which belong to it. Empty lines are skipped. The last line end may be missing. Lines are in
-    /// any order.
+    /// Names are identifiers (Oberon-07 report, section 3). PATH and PATTERN are the rest of their lines, in UTF-8. A comment is a `#`
+    /// and the rest of the line, at the line's start or, but for `folder` and `named`, after blanks, which belong to it. Empty lines are
+    /// skipped. The last line end may be missing. Lines are in any order.
     pub fn read<'a>(
         alloc: Global,
         net: &'a Net,
@@ -103,13 +106,13 @@ impl Rules<'_> {
             names: &names,
             line: 0,
         };
-        let Draft {
+        let RulesBuilder {
             table,
             rules,
             allowed,
             stale,
             ..
-        } = draft_of(&context, bytes)?;
+        } = build_from(&context, bytes)?;
         Ok(Rules {
             files,
             names,

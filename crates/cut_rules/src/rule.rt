@@ -7,11 +7,12 @@ pub enum RuleKind {
     Forbid,
     /// `forbid-import`: no module of X imports one of Y.
     ForbidImport,
-    /// `may`: modules of X import only modules of X, and of each Y for which there is such a line.
+    /// `may`: modules of X import only modules of X, and of each Y that a `may` line allows for X.
     May,
 }
 
-/// A rule between two names. The number of a name is that of its module in the network, or, after the numbers of all modules, that of its set.
+/// A rule between two names. The number of a name is that of its module in the network, or, after the numbers of all modules, that of its
+/// set.
 #[derive(Clone, Copy)]
 pub struct Rule {
     /// The number of the line, from 1.

@@ -14,18 +14,18 @@ use std::alloc::{AllocError, Global};
 #[derive(Drop)]
 pub(crate) struct RuleSearch {
     pub(crate) search: Search,
-    /// Per module whether the rule forbids to import it.
+    /// For each module whether the rule forbids to import it.
     pub(crate) targets: Vec<bool>,
 }
 
-/// Gives the marks of these nodes this value.
-fn set_marks(marks: &mut Vec<bool>, nodes: &[u32], value: bool)
-    requires { All (λ v. v < vec_len marks.old) nodes.now }
-    ensures size { vec_len marks.new ≡ vec_len marks.old }
-    ensures marks { (v : ℕ) → IsMarkSet nodes.now value marks.old.items marks.new.items v }
+/// Sets the flags of these nodes to this value.
+fn set_flags(flags: &mut Vec<bool>, nodes: &[u32], value: bool)
+    requires { All (λ v. v < vec_len flags.old) nodes.now }
+    ensures size { vec_len flags.new ≡ vec_len flags.old }
+    ensures flags { (v : ℕ) → IsMarkSet nodes.now value flags.old.items flags.new.items v }
 {
     for node in nodes {
-        marks[*node as usize] = value;
+        flags[*node as usize] = value;
     }
 }
 
@@ -40,7 +40,7 @@ fn is_may_of(rule: Rule, first: usize) -> bool
 }
 
 impl Rules<'_> {
-    /// Whether the rule is a `may`, and one of an earlier line has the same first name.
+    /// Whether the rule is a `may` whose first name an earlier `may` has.
     pub(crate) fn is_repeated(&self, rule: Rule) -> bool
         ensures { IsTrue result ↔ IsRepeated self.now.rules.items rule }
     {
@@ -55,40 +55,40 @@ impl Rules<'_> {
         false
     }
 
-    /// Per module whether the `may` rules of the name of this number forbid to import it.
+    /// For each module whether the `may` rules of the name with this number forbid to import it.
     fn outsiders(&self, alloc: Global, net: &Net, first: usize) -> Result<Vec<bool>, AllocError>
-        ensures size { IfOk result (λ marks. vec_len marks ≡ length net.now.names) }
-        ensures are { IfOk result (λ marks. (n : ℕ) → n < length net.now.names → (marked marks.items n ≡ true) ↔ IsOutsider self.now first n) }
+        ensures size { IfOk result (λ flags. vec_len flags ≡ length net.now.names) }
+        ensures elements { IfOk result (λ flags. (n : ℕ) → n < length net.now.names → (marked flags.items n ≡ true) ↔ IsOutsider self.now first n) }
     {
         let own = self.members_of(alloc, net, first)?;
-        let mut marks = vec![in alloc; true; net.nodes() as usize]?;
-        set_marks(&mut marks, own.as_slice(), false);
+        let mut flags = vec![in alloc; true; net.nodes() as usize]?;
+        set_flags(&mut flags, own.as_slice(), false);
         for rule in self.rules.as_slice() {
             if is_may_of(*rule, first) {
                 let members = self.members_of(alloc, net, rule.second)?;
-                set_marks(&mut marks, members.as_slice(), false);
+                set_flags(&mut flags, members.as_slice(), false);
             }
         }
-        Ok(marks)
+        Ok(flags)
     }
 
-    /// Per module whether the rule forbids to import it.
+    /// For each module whether the rule forbids to import it.
     fn targets(&self, alloc: Global, net: &Net, rule: Rule) -> Result<Vec<bool>, AllocError>
-        ensures size { IfOk result (λ marks. vec_len marks ≡ length net.now.names) }
-        ensures are { IfOk result (λ marks. (n : ℕ) → n < length net.now.names → (marked marks.items n ≡ true) ↔ IsTarget self.now rule n) }
+        ensures size { IfOk result (λ flags. vec_len flags ≡ length net.now.names) }
+        ensures elements { IfOk result (λ flags. (n : ℕ) → n < length net.now.names → (marked flags.items n ≡ true) ↔ IsTarget self.now rule n) }
     {
         match rule.kind {
-            RuleKind::Forbid | RuleKind::ForbidImport => self.marks(alloc, net, rule.second),
+            RuleKind::Forbid | RuleKind::ForbidImport => self.flags(alloc, net, rule.second),
             RuleKind::May => self.outsiders(alloc, net, rule.first),
         }
     }
 
-    /// Per module whether no path of the rule may enter it: all are barred by a rule whose paths have one import.
+    /// For each module whether no path of the rule may enter it: true for all if the rule's paths have one import.
     fn barrier(&self, alloc: Global, net: &Net, rule: Rule) -> Result<Vec<bool>, AllocError>
-        ensures { IfOk result (λ marks. (n : ℕ) → n < length net.now.names → (marked marks.items n ≡ true) ↔ IsBarredBy self.now rule rule.kind n) }
+        ensures { IfOk result (λ flags. (n : ℕ) → n < length net.now.names → (marked flags.items n ≡ true) ↔ IsBarredBy self.now rule rule.kind n) }
     {
         match rule.kind {
-            RuleKind::Forbid => self.marks(alloc, net, rule.second),
+            RuleKind::Forbid => self.flags(alloc, net, rule.second),
             RuleKind::ForbidImport | RuleKind::May => vec![in alloc; true; net.nodes() as usize],
         }
     }

@@ -1,6 +1,6 @@
-//! Where imports are in files.
+//! Locations of imports.
 
-/// Where an import is in the file of its importing module.
+/// The location of an import in the file of its importer.
 #[derive(Clone, Copy)]
 pub struct Site<'a> {
     /// The path of the file below the tree's folder, with `/` between names.

@@ -1,23 +1,24 @@
 //! The sets of a text: the modules that its lines add to each.
 ghost use Rattle.std.specs.Prelude.{◌≡◌, ◌↔◌, ◌⊎◌, ◌+◌, ◌<◌, ◌≤◌, ℕ, IfOk, IfSome, List, Some, length, true};
 ghost use Rattle.digraph.specs.Marks.{marked};
-ghost use Rattle.cut_rules.specs.Drafts.{AreEmptySets, AreSized, HasPlace, InSet, IsAddition, IsTableFor};
+ghost use Rattle.cut_rules.specs.Builders.{AreEmptySets, AreSized, HasIndex, InSet, IsAddition, IsTableFor};
 ghost use Rattle.cut_rules.specs.Folders.{ArePathsInOrder};
 ghost use Rattle.cut_rules.specs.LineReading.{selector_content};
 ghost use Rattle.cut_rules.specs.RuleLines.{Module, Named};
 ghost use Rattle.cut_rules.specs.declared.file.File.{File as TreeFile};
 
-use crate::draft::LineContext;
-use crate::folders::places_below;
+use crate::builder::LineContext;
+use crate::folders::range_below;
 use crate::line::Selector;
-use crate::names::place_in;
+use crate::names::name_index;
 use glob::Glob;
 use std::alloc::{AllocError, Global};
 
-/// The modules of a set: for each file and then for each module whether the set has its module. The files of a folder are adjacent, so that a line adds them at once.
+/// The modules of a set: for each file and then for each module whether the set has its module. The files of a folder are adjacent, so
+/// that a line adds them at once.
 #[derive(Drop)]
 pub struct MarkedSet {
-    pub marks: Vec<bool>,
+    pub flags: Vec<bool>,
 }
 
 /// The sets of the lines so far.
@@ -31,7 +32,7 @@ pub(crate) struct SetTable {
     pub(crate) patterns: usize,
 }
 
-/// So many sets without modules.
+/// As many sets without modules as `count`.
 pub(crate) fn empty_sets(
     alloc: Global,
     count: usize,
@@ -41,56 +42,56 @@ pub(crate) fn empty_sets(
 {
     let mut sets = Vec::with_capacity(alloc, count)?;
     for _ in 0..count {
-        let marks = vec![in alloc; false; places]?;
-        sets.push(MarkedSet { marks })?;
+        let flags = vec![in alloc; false; places]?;
+        sets.push(MarkedSet { flags })?;
     }
     Ok(sets)
 }
 
-/// Marks what is at the indices from the first up to the second, which is excluded.
-fn mark_between(marks: &mut [bool], from: usize, to: usize)
-    requires { to ≤ length marks.old }
-    ensures size { length marks.new ≡ length marks.old }
-    ensures marks { (k : ℕ) → (marked marks.new k ≡ true) ↔ ((marked marks.old k ≡ true) ⊎ ((from ≤ k) × (k < to))) }
+/// Sets the flags with an index in `from..to`.
+fn mark_between(flags: &mut [bool], from: usize, to: usize)
+    requires { to ≤ length flags.old }
+    ensures size { length flags.new ≡ length flags.old }
+    ensures flags { (k : ℕ) → (marked flags.new k ≡ true) ↔ ((marked flags.old k ≡ true) ⊎ ((from ≤ k) × (k < to))) }
 {
     for place in from..to {
-        marks[place] = true;
+        flags[place] = true;
     }
 }
 
 impl SetTable {
-    /// Adds the modules at the indices from the first up to the second to a set, if there is one, and returns whether there is such a module.
+    /// Adds the modules at the indices `from..to` to a set, if there is one, and returns whether the range is nonempty.
     fn add_span(&mut self, set: Option<usize>, from: usize, to: usize) -> bool
         requires set { IfSome set (λ s. s < length self.old.sets.items) }
         requires sized { (places : ℕ) × AreSized places self.old.sets.items × (to ≤ places) }
         ensures any { (result ≡ true) ↔ (from < to) }
-        ensures sets { (files : List TreeFile) (s m : ℕ) → InSet files self.new.sets.items s m ↔ (InSet files self.old.sets.items s m ⊎ ((set ≡ Some s) × HasPlace files from to m)) }
+        ensures sets { (files : List TreeFile) (s m : ℕ) → InSet files self.new.sets.items s m ↔ (InSet files self.old.sets.items s m ⊎ ((set ≡ Some s) × HasIndex files from to m)) }
         ensures sized { (places : ℕ) → AreSized places self.old.sets.items → AreSized places self.new.sets.items }
         ensures count { length self.new.sets.items ≡ length self.old.sets.items }
         ensures modules { self.new.modules ≡ self.old.modules }
         ensures patterns { self.new.patterns ≡ self.old.patterns }
     {
         if let Some(set) = set {
-            mark_between(self.sets[set].marks.as_mut_slice(), from, to);
+            mark_between(self.sets[set].flags.as_mut_slice(), from, to);
         }
         from < to
     }
 
-    /// Adds the module of this name, if there is one, and returns whether there is.
+    /// Adds the module of this name to the set, if both exist, and returns whether the module exists.
     fn add_module(&mut self, context: &LineContext<'_>, set: Option<usize>, text: &str) -> bool
         requires set { IfSome set (λ s. s < length self.old.sets.items) }
         requires table { IsTableFor context.now self.old }
         ensures { IsAddition context.now.net.now context.now.files.now self.old set (Module text.now) result self.new }
     {
-        context.net.keeps();
-        let Some(number) = place_in(&context.names.modules, text.as_bytes()) else {
+        context.net.invariants();
+        let Some(number) = name_index(&context.names.modules, text.as_bytes()) else {
             return false;
         };
         let place = context.files.len() + number;
         self.add_span(set, place, place + 1)
     }
 
-    /// Adds the modules whose names match the pattern, and returns whether there is one.
+    /// Adds the modules whose names match the pattern to the set, if there is one, and returns whether a name matches.
     fn add_matching(
         &mut self,
         context: &LineContext<'_>,
@@ -102,7 +103,7 @@ impl SetTable {
         requires few { self.old.patterns ≤ 4096 }
         ensures { IfOk result (λ any. IsAddition context.now.net.now context.now.files.now self.old set (Named text.now) any self.new) }
     {
-        context.net.keeps();
+        context.net.invariants();
         let pattern = Glob::new(context.alloc, text.as_bytes())?;
         let mut any = false;
         for node in 0..context.net.nodes() {
@@ -115,7 +116,7 @@ impl SetTable {
         Ok(any)
     }
 
-    /// Adds the selected modules to the set at this index, if there is one, and returns whether there is such a module.
+    /// Adds the selected modules to the set at this index, if there is one, and returns whether a module is selected.
     pub(crate) fn add(
         &mut self,
         context: &LineContext<'_>,
@@ -131,7 +132,7 @@ impl SetTable {
         match selector {
             Selector::Module(module) => Ok(self.add_module(context, set, module)),
             Selector::Folder(path) => {
-                let (from, to) = places_below(context.alloc, context.files, path.as_bytes())?;
+                let (from, to) = range_below(context.alloc, context.files, path.as_bytes())?;
                 Ok(self.add_span(set, from, to))
             }
             Selector::Named(pattern) => self.add_matching(context, set, pattern),

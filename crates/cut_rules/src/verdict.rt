@@ -4,8 +4,8 @@ ghost use Rattle.std.specs.Fmt.{decimal};
 ghost use Rattle.std.specs.List.{flat_map};
 ghost use Rattle.std.specs.String.{string_bytes};
 ghost use Rattle.std.specs.Io.KnownBytes.{Appends};
-ghost use Rattle.byte_sink.specs.Sinks.{failures_after, AppendsFront};
-ghost use Rattle.text_pieces.specs.Pieces.{PutsAllBut};
+ghost use Rattle.byte_sink.specs.Sinks.{failures_after, AppendsPrefix};
+ghost use Rattle.byte_sink.specs.Pieces.{WritesAllBut};
 ghost use Rattle.text_escape.specs.Places.{style_of, writer_style};
 ghost use Rattle.digraph.specs.declared.edge.Edge.{Edge as GraphEdge};
 ghost use Rattle.digraph.specs.Edges.{IsAscending};
@@ -19,15 +19,14 @@ ghost use Rattle.cut_rules.specs.Verdicts.{import_at, is_clean, is_none, lines_t
 use crate::rule::{Rule, StaleAllow};
 use crate::rule_search::RuleSearch;
 use crate::{Rules, Site};
-use byte_sink::{Sink, SinkFault, put_all};
+use byte_sink::{Sink, SinkFault, flush_if_full, write_fully};
 use cut_net::Net;
-use digraph::{Edge, Graph, graph_of, put_in_order};
+use digraph::{Edge, Graph, graph_of, sort_all};
 use std::alloc::{AllocError, Global};
 use std::fmt::Write;
-use text_escape::{PlaceStyle, PlaceWriter};
-use text_pieces::put_enough;
+use text_escape::{LocationStyle, LocationWriter};
 
-/// The rules of a network, and where its imports are.
+/// The rules of a network, and the locations of its imports.
 #[derive(Clone, Copy)]
 struct Judgement<'a, 'r> {
     net: &'a Net,
@@ -36,10 +35,10 @@ struct Judgement<'a, 'r> {
     sites: &'a [Site<'a>],
 }
 
-/// Lines that are gathered, and written in pieces.
+/// Buffered lines, written in pieces.
 #[derive(Drop)]
 struct Lines<'a> {
-    places: PlaceWriter<'a>,
+    places: LocationWriter<'a>,
     text: String,
 }
 
@@ -47,7 +46,7 @@ struct Lines<'a> {
 fn counted_edges(alloc: Global, net: &Net, allowed: &[bool]) -> Result<Vec<Edge>, AllocError>
     requires { length allowed.now ≡ length net.now.imports }
     ensures ascending { IfOk result (λ edges. IsAscending edges.items) }
-    ensures are { IfOk result (λ edges. (p : GraphEdge) → Contains edges.items p ↔ IsCounted net.now allowed.now p) }
+    ensures elements { IfOk result (λ edges. (p : GraphEdge) → Contains edges.items p ↔ IsCounted net.now allowed.now p) }
 {
     let imports = net.imports();
     let mut edges = Vec::new(alloc);
@@ -59,7 +58,7 @@ fn counted_edges(alloc: Global, net: &Net, allowed: &[bool]) -> Result<Vec<Edge>
             })?;
         }
     }
-    put_in_order(&mut edges);
+    sort_all(&mut edges);
     Ok(edges)
 }
 
@@ -110,7 +109,7 @@ impl<'a> Lines<'a> {
         ensures style { writer_style self.new.places ≡ writer_style self.old.places }
     {
         let net = judgement.net;
-        net.keeps();
+        net.invariants();
         let site = judgement.sites[import];
         self.places
             .push_start(&mut self.text, site.path, site.line, site.column)?;
@@ -134,16 +133,16 @@ impl<'a> Judgement<'a, '_> {
         requires import { import < length self.now.net.now.imports }
         requires sites { length self.now.sites.now ≡ length self.now.net.now.imports }
         requires judged { (files : List TreeFile) × (pieces : List (List ℕ)) × AreRulesOf self.now.net.now files pieces self.now.rules.now × IsSearchFor self.now.net.now files pieces line search.now }
-        ensures written { IfOk result (λ broken. (files : List TreeFile) (pieces : List (List ℕ)) → AreRulesOf self.now.net.now files pieces self.now.rules.now → IsSearchFor self.now.net.now files pieces line search.now
-            → (violations : List Violation) × AreOfRule self.now.net.now files pieces line import (import + 1) violations × (broken ≡ not (is_none violations))
-            × PutsAllBut (S.taken sink.old) (S.taken sink.new) (string_bytes lines.old.text ++ flat_map (violation_line (writer_style lines.old.places) self.now.net.now self.now.sites.now) violations) (string_bytes lines.new.text)) }
+        ensures written { IfOk result (λ error_prefix. (files : List TreeFile) (pieces : List (List ℕ)) → AreRulesOf self.now.net.now files pieces self.now.rules.now → IsSearchFor self.now.net.now files pieces line search.now
+            → (violations : List Violation) × AreOfRule self.now.net.now files pieces line import (import + 1) violations × (error_prefix ≡ not (is_none violations))
+            × WritesAllBut (S.taken sink.old) (S.taken sink.new) (string_bytes lines.old.text ++ flat_map (violation_line (writer_style lines.old.places) self.now.net.now self.now.sites.now) violations) (string_bytes lines.new.text)) }
         ensures prefix { IfErr result (λ _. (files : List TreeFile) (pieces : List (List ℕ)) → AreRulesOf self.now.net.now files pieces self.now.rules.now → IsSearchFor self.now.net.now files pieces line search.now
             → (high : ℕ) × (violations : List Violation) × (import ≤ high) × AreOfRule self.now.net.now files pieces line import high violations
-            × AppendsFront (S.taken sink.old) (S.taken sink.new) (string_bytes lines.old.text ++ flat_map (violation_line (writer_style lines.old.places) self.now.net.now self.now.sites.now) violations)) }
+            × AppendsPrefix (S.taken sink.old) (S.taken sink.new) (string_bytes lines.old.text ++ flat_map (violation_line (writer_style lines.old.places) self.now.net.now self.now.sites.now) violations)) }
         ensures style { writer_style lines.new.places ≡ writer_style lines.old.places }
         ensures failures { S.failures sink.new ≡ failures_after result (S.failures sink.old) }
     {
-        self.net.keeps();
+        self.net.invariants();
         let ends = self.net.imports()[import];
         if self.rules.allowed[import] || !search.targets[ends.to as usize] {
             return Ok(false);
@@ -161,7 +160,7 @@ impl<'a> Judgement<'a, '_> {
         {
             return Err(SinkFault::Memory);
         }
-        put_enough(&mut lines.text, sink)?;
+        flush_if_full(&mut lines.text, sink)?;
         Ok(true)
     }
 
@@ -175,12 +174,12 @@ impl<'a> Judgement<'a, '_> {
     ) -> Result<bool, SinkFault>
         requires sites { length self.now.sites.now ≡ length self.now.net.now.imports }
         requires judged { (files : List TreeFile) × (pieces : List (List ℕ)) × AreRulesOf self.now.net.now files pieces self.now.rules.now × IsSearchFor self.now.net.now files pieces line search.now }
-        ensures written { IfOk result (λ broken. (files : List TreeFile) (pieces : List (List ℕ)) → AreRulesOf self.now.net.now files pieces self.now.rules.now → IsSearchFor self.now.net.now files pieces line search.now
-            → (violations : List Violation) × AreOfRule self.now.net.now files pieces line 0 (length self.now.net.now.imports) violations × (broken ≡ not (is_none violations))
-            × PutsAllBut (S.taken sink.old) (S.taken sink.new) (string_bytes lines.old.text ++ flat_map (violation_line (writer_style lines.old.places) self.now.net.now self.now.sites.now) violations) (string_bytes lines.new.text)) }
+        ensures written { IfOk result (λ error_prefix. (files : List TreeFile) (pieces : List (List ℕ)) → AreRulesOf self.now.net.now files pieces self.now.rules.now → IsSearchFor self.now.net.now files pieces line search.now
+            → (violations : List Violation) × AreOfRule self.now.net.now files pieces line 0 (length self.now.net.now.imports) violations × (error_prefix ≡ not (is_none violations))
+            × WritesAllBut (S.taken sink.old) (S.taken sink.new) (string_bytes lines.old.text ++ flat_map (violation_line (writer_style lines.old.places) self.now.net.now self.now.sites.now) violations) (string_bytes lines.new.text)) }
         ensures prefix { IfErr result (λ _. (files : List TreeFile) (pieces : List (List ℕ)) → AreRulesOf self.now.net.now files pieces self.now.rules.now → IsSearchFor self.now.net.now files pieces line search.now
             → (high : ℕ) × (violations : List Violation) × AreOfRule self.now.net.now files pieces line 0 high violations
-            × AppendsFront (S.taken sink.old) (S.taken sink.new) (string_bytes lines.old.text ++ flat_map (violation_line (writer_style lines.old.places) self.now.net.now self.now.sites.now) violations)) }
+            × AppendsPrefix (S.taken sink.old) (S.taken sink.new) (string_bytes lines.old.text ++ flat_map (violation_line (writer_style lines.old.places) self.now.net.now self.now.sites.now) violations)) }
         ensures style { writer_style lines.new.places ≡ writer_style lines.old.places }
         ensures failures { S.failures sink.new ≡ failures_after result (S.failures sink.old) }
     {
@@ -203,16 +202,16 @@ impl<'a> Judgement<'a, '_> {
         requires graph { IsCountedGraph self.now.net.now self.now.rules.now graph.now }
         requires rule { IsFirstRule self.now.rules.now.rules.items rule }
         requires judged { (files : List TreeFile) × (pieces : List (List ℕ)) × AreRulesOf self.now.net.now files pieces self.now.rules.now }
-        ensures written { IfOk result (λ broken. (files : List TreeFile) (pieces : List (List ℕ)) → AreRulesOf self.now.net.now files pieces self.now.rules.now
-            → (violations : List Violation) × AreOfRule self.now.net.now files pieces rule.line 0 (length self.now.net.now.imports) violations × (broken ≡ not (is_none violations))
-            × PutsAllBut (S.taken sink.old) (S.taken sink.new) (string_bytes lines.old.text ++ flat_map (violation_line (writer_style lines.old.places) self.now.net.now self.now.sites.now) violations) (string_bytes lines.new.text)) }
+        ensures written { IfOk result (λ error_prefix. (files : List TreeFile) (pieces : List (List ℕ)) → AreRulesOf self.now.net.now files pieces self.now.rules.now
+            → (violations : List Violation) × AreOfRule self.now.net.now files pieces rule.line 0 (length self.now.net.now.imports) violations × (error_prefix ≡ not (is_none violations))
+            × WritesAllBut (S.taken sink.old) (S.taken sink.new) (string_bytes lines.old.text ++ flat_map (violation_line (writer_style lines.old.places) self.now.net.now self.now.sites.now) violations) (string_bytes lines.new.text)) }
         ensures prefix { IfErr result (λ _. (files : List TreeFile) (pieces : List (List ℕ)) → AreRulesOf self.now.net.now files pieces self.now.rules.now
             → (high : ℕ) × (violations : List Violation) × AreOfRule self.now.net.now files pieces rule.line 0 high violations
-            × AppendsFront (S.taken sink.old) (S.taken sink.new) (string_bytes lines.old.text ++ flat_map (violation_line (writer_style lines.old.places) self.now.net.now self.now.sites.now) violations)) }
+            × AppendsPrefix (S.taken sink.old) (S.taken sink.new) (string_bytes lines.old.text ++ flat_map (violation_line (writer_style lines.old.places) self.now.net.now self.now.sites.now) violations)) }
         ensures style { writer_style lines.new.places ≡ writer_style lines.old.places }
         ensures failures { S.failures sink.new ≡ failures_after result (S.failures sink.old) }
     {
-        self.net.keeps();
+        self.net.invariants();
         let alloc = *lines.text.allocator();
         let Ok(search) = self.rules.search(alloc, self.net, graph, rule) else {
             return Err(SinkFault::Memory);
@@ -231,15 +230,15 @@ impl<'a> Judgement<'a, '_> {
         requires sites { length self.now.sites.now ≡ length self.now.net.now.imports }
         requires graph { IsCountedGraph self.now.net.now self.now.rules.now graph.now }
         requires judged { (files : List TreeFile) × (pieces : List (List ℕ)) × AreRulesOf self.now.net.now files pieces self.now.rules.now }
-        ensures written { IfOk result (λ broken. (files : List TreeFile) (pieces : List (List ℕ)) → AreRulesOf self.now.net.now files pieces self.now.rules.now
-            → (violations : List Violation) × AreViolations self.now.net.now files pieces violations × (broken ≡ not (is_none violations))
-            × PutsAllBut (S.taken sink.old) (S.taken sink.new) (string_bytes lines.old.text ++ flat_map (violation_line (writer_style lines.old.places) self.now.net.now self.now.sites.now) violations) (string_bytes lines.new.text)) }
+        ensures written { IfOk result (λ error_prefix. (files : List TreeFile) (pieces : List (List ℕ)) → AreRulesOf self.now.net.now files pieces self.now.rules.now
+            → (violations : List Violation) × AreViolations self.now.net.now files pieces violations × (error_prefix ≡ not (is_none violations))
+            × WritesAllBut (S.taken sink.old) (S.taken sink.new) (string_bytes lines.old.text ++ flat_map (violation_line (writer_style lines.old.places) self.now.net.now self.now.sites.now) violations) (string_bytes lines.new.text)) }
         ensures prefix { IfErr result (λ _. (files : List TreeFile) (pieces : List (List ℕ)) → AreRulesOf self.now.net.now files pieces self.now.rules.now → (violations : List Violation) → AreViolations self.now.net.now files pieces violations
-            → AppendsFront (S.taken sink.old) (S.taken sink.new) (string_bytes lines.old.text ++ flat_map (violation_line (writer_style lines.old.places) self.now.net.now self.now.sites.now) violations)) }
+            → AppendsPrefix (S.taken sink.old) (S.taken sink.new) (string_bytes lines.old.text ++ flat_map (violation_line (writer_style lines.old.places) self.now.net.now self.now.sites.now) violations)) }
         ensures style { writer_style lines.new.places ≡ writer_style lines.old.places }
         ensures failures { S.failures sink.new ≡ failures_after result (S.failures sink.old) }
     {
-        self.net.keeps();
+        self.net.invariants();
         let mut any = false;
         for rule in self.rules.rules.as_slice() {
             if !self.rules.is_repeated(*rule) {
@@ -251,15 +250,15 @@ impl<'a> Judgement<'a, '_> {
 
     /// Writes the lines of the stale allows.
     fn write_stale<S: Sink>(&self, lines: &mut Lines<'a>, sink: &mut S) -> Result<(), SinkFault>
-        ensures written { OnOk result (PutsAllBut (S.taken sink.old) (S.taken sink.new) (string_bytes lines.old.text ++ flat_map stale_line (map stale_of self.now.rules.now.stale.items)) (string_bytes lines.new.text)) }
-        ensures prefix { IfErr result (λ _. AppendsFront (S.taken sink.old) (S.taken sink.new) (string_bytes lines.old.text ++ flat_map stale_line (map stale_of self.now.rules.now.stale.items))) }
+        ensures written { OnOk result (WritesAllBut (S.taken sink.old) (S.taken sink.new) (string_bytes lines.old.text ++ flat_map stale_line (map stale_of self.now.rules.now.stale.items)) (string_bytes lines.new.text)) }
+        ensures prefix { IfErr result (λ _. AppendsPrefix (S.taken sink.old) (S.taken sink.new) (string_bytes lines.old.text ++ flat_map stale_line (map stale_of self.now.rules.now.stale.items))) }
         ensures failures { S.failures sink.new ≡ failures_after result (S.failures sink.old) }
     {
         for stale in self.rules.stale.as_slice() {
             if push_stale(&mut lines.text, stale).is_err() {
                 return Err(SinkFault::Memory);
             }
-            put_enough(&mut lines.text, sink)?;
+            flush_if_full(&mut lines.text, sink)?;
         }
         Ok(())
     }
@@ -272,22 +271,24 @@ fn rest_of(clean: bool, text: &str) -> &[u8]
     if clean { b"yes\n" } else { text.as_bytes() }
 }
 
-/// Writes a line `PATH:LINE:COL: no LINE A .. M N` for each import that breaks a rule, by the line of the rule and then by the names of the import's two modules,
-/// and then a line `stale LINE M N` for each `allow` of an import that the network doesn't have, by line; or `yes` if there is none, which is the result.
+/// Writes a line `PATH:LINE:COL: no LINE A .. M N` for each import that breaks a rule, by the line of the rule and then by the names of
+/// the import's two modules, and then a line `stale LINE M N` for each `allow` of an import that the network doesn't have, by line; or
+/// `yes` if there is none, which is the result.
 ///
 /// An import of N by M that no line allows breaks
-/// - `forbid X Y` if N is in Y, and M in X or at the end of a path of such imports from a module of X that enters no module of Y after its start;
+/// - `forbid X Y` if N is in Y, and M in X or at the end of a path of unallowed imports from a module of X that enters no module of Y
+///   after its start;
 /// - `forbid-import X Y` if M is in X and N in Y;
-/// - `may X Y`, and is written at the first such line of X, if M is in X, and N neither in X nor in any such Y.
+/// - `may X Y`, and is written at the first `may` line of X, if M is in X, and N neither in X nor in the Y of a `may` line of X.
 ///
-/// PATH:LINE:COL is the import's site in this style. A .. M is the shortest such path, with the smallest names from the first on, and M alone for the other two
-/// kinds. Errors are `Device` and `Memory`; the sink has then taken a prefix of the text.
+/// PATH:LINE:COL is the import's site in this style. For `forbid` A .. M is the shortest of these paths, with the smallest names from the
+/// first on; for the other two kinds it is M alone. Errors are `Device` and `Memory`; the sink has then taken a prefix of the text.
 pub fn write_verdict<'a, S: Sink>(
     alloc: Global,
     net: &'a Net,
     rules: &Rules<'a>,
     sites: &'a [Site<'a>],
-    style: PlaceStyle<'a>,
+    style: LocationStyle<'a>,
     sink: &mut S,
 ) -> Result<bool, SinkFault>
     // The rules are those of a text.
@@ -301,11 +302,11 @@ pub fn write_verdict<'a, S: Sink>(
     // After an error the sink has taken a prefix of it.
     ensures prefix { IfErr result (λ _. (files : List TreeFile) (pieces : List (List ℕ)) → AreRulesOf net.now files pieces rules.now
         → (violations : List Violation) (stale : List Stale) → AreViolations net.now files pieces violations → AreStaleLines net.now pieces stale
-        → AppendsFront (S.taken sink.old) (S.taken sink.new) (verdict_text (style_of style.entry) net.now sites.now violations stale)) }
+        → AppendsPrefix (S.taken sink.old) (S.taken sink.new) (verdict_text (style_of style.entry) net.now sites.now violations stale)) }
     // Device is returned if the sink counted a failure, and nowhere else.
     ensures failures { S.failures sink.new ≡ failures_after result (S.failures sink.old) }
 {
-    net.keeps();
+    net.invariants();
     let Ok(edges) = counted_edges(alloc, net, rules.allowed.as_slice()) else {
         return Err(SinkFault::Memory);
     };
@@ -314,12 +315,12 @@ pub fn write_verdict<'a, S: Sink>(
     };
     let judgement = Judgement { net, rules, sites };
     let mut lines = Lines {
-        places: PlaceWriter::new(style),
+        places: LocationWriter::new(style),
         text: String::new(alloc),
     };
-    let broken = judgement.write_rules(&mut lines, &graph, sink)?;
+    let error_prefix = judgement.write_rules(&mut lines, &graph, sink)?;
     judgement.write_stale(&mut lines, sink)?;
-    let clean = !broken && rules.stale.is_empty();
-    put_all(sink, rest_of(clean, lines.text.as_str()))?;
+    let clean = !error_prefix && rules.stale.is_empty();
+    write_fully(sink, rest_of(clean, lines.text.as_str()))?;
     Ok(clean)
 }

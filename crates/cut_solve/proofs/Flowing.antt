@@ -5,17 +5,17 @@ use Rattle.std.proofs.lemmas.Bool.{ltb-false}
 use Rattle.std.proofs.lemmas.List.{length-map, get_or-map, get_or_default}
 use Rattle.std.proofs.lemmas.List.Elements.{Contains-get_or}
 use Rattle.std.proofs.lemmas.List.Sums.{sum_by-cons}
-use Rattle.cut_net.specs.Network.{none_there}
+use Rattle.cut_net.specs.Network.{missing_item}
 use Rattle.cut_net.specs.declared.priced.Priced.{Priced}
 use Rattle.cut_net.specs.Network.{Network}
-use Rattle.cut_net.specs.Cuts.{same_ends, AreThose, IsClosed, IsFlow, Reached}
+use Rattle.cut_net.specs.Cuts.{have_equal_ends, AreThose, IsClosed, IsFlow, Reached}
 use Rattle.cut_net.specs.Cuts as cuts
 use Rattle.cut_net.specs.Lines.{comes_before, IsAscending, flow_by, amount_in}
 use Rattle.cut_net.proofs.ListSums.{sum_by-same}
-use Rattle.cut_residual.specs.declared.arc.Arc.{Arc}
-use Rattle.cut_residual.specs.Flows.{emptied, entering, leaving, AreSameArcs, IsBalanced}
-use Rattle.cut_residual.specs.Graphs.{no_arc, room, head, tail, is_seen, AreClosed, AreReached}
-use Rattle.cut_residual.proofs.Walking.{along}
+use Rattle.residual_graph.specs.declared.arc.Arc.{Arc}
+use Rattle.residual_graph.specs.Flows.{emptied, entering, leaving, DifferInFlowOnly, IsBalanced}
+use Rattle.residual_graph.specs.Graphs.{no_arc, room, head, tail, is_flagged, AreClosed, AreReached}
+use Rattle.residual_graph.proofs.Walking.{along}
 use Rattle.cut_solve.specs.Lines.{empty_of, has_flow, import_on, flow_line}
 use Rattle.cut_solve.proofs.Listing.{found}
 
@@ -35,19 +35,19 @@ imports_empty [] = refl
 imports_empty (i ∷ more) = ap (λ v. i ∷ v) (imports_empty more)
 
 -- a flow changes no import
-pub same_imports : (imports : List Priced) (arcs : List Arc) → AreSameArcs (map empty_of imports) arcs → imports_of arcs ≡ imports
+pub same_imports : (imports : List Priced) (arcs : List Arc) → DifferInFlowOnly (map empty_of imports) arcs → imports_of arcs ≡ imports
 same_imports imports arcs same = sym (imports_emptied arcs) ∙ ap imports_of same ∙ imports_emptied (map empty_of imports) ∙ imports_empty imports
 
 pub empty_within : (imports : List Priced) → All (λ r. r.flow ≤ r.capacity) (map empty_of imports)
 empty_within imports k d h =
     let len = length-map imports empty_of in
-    rw (get_or-map empty_of imports k none_there d (omega arith)) (omega arith)
+    rw (get_or-map empty_of imports k missing_item d (omega arith)) (omega arith)
 
 pub empty_between : (imports : List Priced) (n : ℕ) → ((i : Priced) → Contains imports i → (i.from < n) × (i.to < n)) → All (λ r. (r.from < n) × (r.to < n)) (map empty_of imports)
 empty_between imports n between k d h =
     let len = length-map imports empty_of in
     let in_k : k < length imports = omega arith in
-    rw (get_or-map empty_of imports k none_there d in_k) (between (get_or imports k none_there) (Contains-get_or imports k none_there in_k))
+    rw (get_or-map empty_of imports k missing_item d in_k) (between (get_or imports k missing_item) (Contains-get_or imports k missing_item in_k))
 
 sum_none : (f : Arc → ℕ) (imports : List Priced) → ((i : Priced) → f (empty_of i) ≡ 0) → sum_by f (map empty_of imports) ≡ 0
 sum_none f [] none = refl
@@ -97,8 +97,8 @@ flow_is arcs up k h =
     let len = length-map arcs flow_line in
     let in_lines : k < length (map flow_line arcs) = omega arith in
     let at_k : get_or (map flow_line arcs) k (flow_line no_arc) ≡ l = get_or-map flow_line arcs k no_arc (flow_line no_arc) h in
-    let there : find (same_ends l) (filter has_flow (map flow_line arcs)) ≡ cond (has_flow l) (Some l) None =
-    subst (λ v. find (same_ends v) (filter has_flow (map flow_line arcs)) ≡ cond (has_flow v) (Some v) None) at_k (found has_flow (map flow_line arcs) (lines_ascend arcs up) k (flow_line no_arc) in_lines) in
+    let there : find (have_equal_ends l) (filter has_flow (map flow_line arcs)) ≡ cond (has_flow l) (Some l) None =
+    subst (λ v. find (have_equal_ends v) (filter has_flow (map flow_line arcs)) ≡ cond (has_flow v) (Some v) None) at_k (found has_flow (map flow_line arcs) (lines_ascend arcs up) k (flow_line no_arc) in_lines) in
     ap amount_in there ∙ amount_cond l (has_flow l) refl
 
 module _ (names : List (List ℕ)) (pins : List Priced) (arcs : List Arc) (up : IsAscending (imports_of arcs)) where
@@ -142,14 +142,14 @@ module _ (names : List (List ℕ)) (pins : List Priced) (arcs : List Arc) (up : 
       closed.backward (import_on (get_or arcs k no_arc)) (k, omega arith, get_or-map import_on arcs k no_arc _ h) (omega arith) t
 
   -- the nodes that augmenting paths reach are those that the flow's residual imports reach
-  pub reached : (a : ℕ) (seen : List Bool) → a < length names → AreReached (record { nodes = length names; arcs = arcs }) a seen → AreClosed arcs seen →
-      AreThose (is_seen seen) (Reached (net_of names pins arcs) (flow_on arcs) a)
-  reached a seen a_in are shut m =
+  pub reached : (a : ℕ) (reached_flags : List Bool) → a < length names → AreReached (record { nodes = length names; arcs = arcs }) a reached_flags → AreClosed arcs reached_flags →
+      AreThose (is_flagged reached_flags) (Reached (net_of names pins arcs) (flow_on arcs) a)
+  reached a reached_flags a_in are shut m =
       let len = length-map arcs import_on in (
         λ t modules start closed.
             let (in_m, (path, way)) = (are.each m).0 t in
             along (λ v. modules v ≡ true) arcs (λ s known left. goes modules closed s.arc s.forward known left) a path m way.is_path.leads way.is_path.known way.left start,
-        λ r. r (is_seen seen)
+        λ r. r (is_flagged reached_flags)
             ((are.each a).1 (
               a_in,
               (
@@ -163,11 +163,11 @@ module _ (names : List (List ℕ)) (pins : List Priced) (arcs : List Arc) (up : 
             (record {
               forward = λ i (k, in_k, at_k).
                   let in_arcs : k < length arcs = omega arith in
-                  subst (λ v. flow_on arcs v < v.amount → is_seen seen v.from ≡ true → is_seen seen v.to ≡ true) (import_at i k in_k at_k)
+                  subst (λ v. flow_on arcs v < v.amount → is_flagged reached_flags v.from ≡ true → is_flagged reached_flags v.to ≡ true) (import_at i k in_k at_k)
                   (λ less t. let e = flow_is arcs up k in_arcs in shut (record { arc = k; forward = true }) in_arcs (omega arith) t);
               backward = λ i (k, in_k, at_k).
                   let in_arcs : k < length arcs = omega arith in
-                  subst (λ v. 0 < flow_on arcs v → is_seen seen v.to ≡ true → is_seen seen v.from ≡ true) (import_at i k in_k at_k)
+                  subst (λ v. 0 < flow_on arcs v → is_flagged reached_flags v.to ≡ true → is_flagged reached_flags v.from ≡ true) (import_at i k in_k at_k)
                   (λ some t. let e = flow_is arcs up k in_arcs in shut (record { arc = k; forward = false }) in_arcs (omega arith) t);
             }),
       )

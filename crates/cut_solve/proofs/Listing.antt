@@ -6,23 +6,23 @@ use Rattle.std.proofs.lemmas.List.Elements.{Contains-get_or}
 use Rattle.std.proofs.lemmas.List.Sums.{sum_by-cons}
 use Rattle.std.proofs.lemmas.List.Filters.{sum_by-filter_both}
 use Rattle.cut_net.specs.declared.priced.Priced.{Priced}
-use Rattle.cut_net.specs.Cuts.{same_ends, weight}
+use Rattle.cut_net.specs.Cuts.{have_equal_ends, weight}
 use Rattle.cut_net.specs.Lines.{comes_before, IsAscending, removed_by}
 use Rattle.cut_net.proofs.Ends.{apart, before_from, same_from, same_sym, same_true}
-use Rattle.cut_net.specs.Network.{none_there}
+use Rattle.cut_net.specs.Network.{missing_item}
 use Rattle.cut_net.specs.WellFormed.{AreBetween}
 
 pub ends_in : (imports : List Priced) (n k : ℕ) → AreBetween imports n → k < length imports →
-    ((get_or imports k none_there).from < n) × ((get_or imports k none_there).to < n)
-ends_in imports n k between h = between (get_or imports k none_there) (Contains-get_or imports k none_there h)
+    ((get_or imports k missing_item).from < n) × ((get_or imports k missing_item).to < n)
+ends_in imports n k between h = between (get_or imports k missing_item) (Contains-get_or imports k missing_item h)
 
-forth : (i j : Priced) → comes_before i j ≡ true → same_ends i j ≡ false
+forth : (i j : Priced) → comes_before i j ≡ true → have_equal_ends i j ≡ false
 forth i j e = false_from_ne_true _ (λ t. apart {i = i} {j = j} (before_from i j e) (same_from i j t))
 
-back : (i j : Priced) → comes_before i j ≡ true → same_ends j i ≡ false
+back : (i j : Priced) → comes_before i j ≡ true → have_equal_ends j i ≡ false
 back i j e = false_from_ne_true _ (λ t. apart {i = i} {j = j} (before_from i j e) (same_sym (same_from j i t)))
 
-itself : (i : Priced) → same_ends i i ≡ true
+itself : (i : Priced) → have_equal_ends i i ≡ true
 itself i = same_true i i (record { from = refl; to = refl })
 
 -- a search passes over what doesn't fit, kept or not
@@ -40,12 +40,12 @@ find_first p false x ys on none = none
 
 -- of imports in order, one is found where it is kept
 pub found : (q : Priced → Bool) (xs : List Priced) → IsAscending xs → (k : ℕ) (d : Priced) → k < length xs →
-    find (same_ends (get_or xs k d)) (filter q xs) ≡ cond (q (get_or xs k d)) (Some (get_or xs k d)) None
+    find (have_equal_ends (get_or xs k d)) (filter q xs) ≡ cond (q (get_or xs k d)) (Some (get_or xs k d)) None
 found q [] up k d h = absurd (omega arith)
 found q (x ∷ xs) up zero d h =
-    find_first (same_ends x) (q x) x (filter q xs) (itself x) (find_none (same_ends x) q xs (λ k e in_k. forth x (get_or xs k e) (up 0 (suc k) e (omega arith) (omega arith))))
+    find_first (have_equal_ends x) (q x) x (filter q xs) (itself x) (find_none (have_equal_ends x) q xs (λ k e in_k. forth x (get_or xs k e) (up 0 (suc k) e (omega arith) (omega arith))))
 found q (x ∷ xs) up (suc k) d h =
-    find_past (same_ends (get_or xs k d)) (q x) x (filter q xs) (back x (get_or xs k d) (up 0 (suc k) d (omega arith) (omega arith)))
+    find_past (have_equal_ends (get_or xs k d)) (q x) x (filter q xs) (back x (get_or xs k d) (up 0 (suc k) d (omega arith) (omega arith)))
     ∙ found q xs (λ i j e less in_j. up (suc i) (suc j) e (omega arith) (omega arith)) k d (omega arith)
 
 some_cond : (t : Bool) (x : Priced) → is_some (cond t (Some x) None) ≡ t
@@ -61,9 +61,9 @@ if_kept true i = refl
 if_kept false i = tt
 
 -- the line of an import that is kept has its amount
-pub each_kept : (q : Priced → Bool) (xs : List Priced) → IsAscending xs → (i : Priced) → Contains xs i → IfSome (find (same_ends i) (filter q xs)) (λ line. line.amount ≡ i.amount)
+pub each_kept : (q : Priced → Bool) (xs : List Priced) → IsAscending xs → (i : Priced) → Contains xs i → IfSome (find (have_equal_ends i) (filter q xs)) (λ line. line.amount ≡ i.amount)
 each_kept q xs up i (k, in_k, at_k) =
-    subst (λ v. IfSome (find (same_ends v) (filter q xs)) (λ line. line.amount ≡ v.amount)) at_k
+    subst (λ v. IfSome (find (have_equal_ends v) (filter q xs)) (λ line. line.amount ≡ v.amount)) at_k
     (subst (λ v. IfSome v (λ (line : Priced). line.amount ≡ (get_or xs k i).amount)) (sym (found q xs up k i in_k)) (if_kept (q (get_or xs k i)) (get_or xs k i)))
 
 cond_sum : (t : Bool) (i : Priced) (ys : List Priced) → sum_by (λ (j : Priced). j.amount) (cond t (i ∷ ys) ys) ≡ cond t i.amount 0 + sum_by (λ (j : Priced). j.amount) ys

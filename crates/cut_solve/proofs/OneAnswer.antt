@@ -12,21 +12,21 @@ use Rattle.digraph.proofs.Ascending.{same_members}
 use Rattle.digraph.proofs.Members.{first_or_later, no_member}
 use Rattle.cut_net.specs.declared.priced.Priced.{Priced}
 use Rattle.cut_net.specs.Network.{Network}
-use Rattle.cut_net.specs.Said.{Said, CutOf, BlockedBy}
-use Rattle.cut_net.specs.Cuts.{IsChain, same_ends, weight}
+use Rattle.cut_net.specs.AnswerClaim.{AnswerClaim, CutOf, BlockedBy}
+use Rattle.cut_net.specs.Cuts.{IsChain, have_equal_ends, weight}
 use Rattle.cut_net.specs.Lines.{IsAscending, IsImport, comes_before, removed_by}
 use Rattle.cut_net.specs.Pins.{ByPin, IsAnswerWithPins, IsCutAnswerWithPins, IsLeastPinChain, IsPinChain, PinChain}
 use Rattle.cut_net.proofs.Ends.{apart, before_from, one_way, same_from, same_true}
 use Rattle.cut_net.proofs.PinChains.{found_one, one_found}
-use Rattle.cut_solve.specs.Solving.{AreSameButFlow, AreSameOutcomes, IsSolveOutcome, IsSolved, SolveRefusal}
+use Rattle.cut_solve.specs.Solving.{AreEqualAnswers, AreEqualOutcomes, IsSolveOutcome, IsSolved, SolveError}
 use Rattle.cut_solve.proofs.Refusals.{one_refusal}
 
 -- of lines in order the one with the import's ends is found
-found_is : (i : Priced) (lines : List Priced) (z : Priced) → IsAscending lines → Contains lines z → same_ends i z ≡ true → find (same_ends i) lines ≡ Some z
+found_is : (i : Priced) (lines : List Priced) (z : Priced) → IsAscending lines → Contains lines z → have_equal_ends i z ≡ true → find (have_equal_ends i) lines ≡ Some z
 found_is i [] z up has same = no_member z has
-found_is i (l ∷ lines) z up has same = elim (cases_Bool (same_ends i l)) [
+found_is i (l ∷ lines) z up has same = elim (cases_Bool (have_equal_ends i l)) [
   | inr f ↦ rw f (elim (first_or_later l lines z has) [
-    | inl e ↦ absurd (both_ways (same_ends i l) f (subst (λ (k : Priced). same_ends i k ≡ true) (sym e) same))
+    | inl e ↦ absurd (both_ways (have_equal_ends i l) f (subst (λ (k : Priced). have_equal_ends i k ≡ true) (sym e) same))
     | inr later ↦ found_is i lines z (λ j k d less in_k. up (suc j) (suc k) d (omega arith) (omega arith)) later same
   ])
   | inl t ↦ rw t (elim (first_or_later l lines z has) [
@@ -88,21 +88,21 @@ chain_of : (net : Network) (a b : ℕ) (chain : List ℕ) → IsPinChain net a b
 chain_of net a b [] none = absurd none
 chain_of net a b (m ∷ more) (e, chain) = (more, subst (λ (n : ℕ). IsChain net.imports (ByPin net) n more b) e chain)
 
-one_said : (net : Network) (a b : ℕ) (said other : Said) → IsAnswerWithPins net a b said → IsAnswerWithPins net a b other → AreSameButFlow said other
+one_said : (net : Network) (a b : ℕ) (claim other : AnswerClaim) → IsAnswerWithPins net a b claim → IsAnswerWithPins net a b other → AreEqualAnswers claim other
 one_said net a b (CutOf total printed flow) (CutOf again others more) first second = one_cut net a b total printed flow again others more first second
 one_said net a b (CutOf total printed flow) (BlockedBy chain) first second = absurd (first.free (chain_of net a b chain second.is_chain))
 one_said net a b (BlockedBy chain) (CutOf total printed flow) first second = absurd (second.free (chain_of net a b chain first.is_chain))
 one_said net a b (BlockedBy chain) (BlockedBy other) first second = one_chain net a b chain other first second
 
-one_solved : (net : Network) (from to : List ℕ) (said other : Said) → IsSolved net from to said → IsSolved net from to other → AreSameButFlow said other
-one_solved net from to said other first second =
+one_solved : (net : Network) (from to : List ℕ) (claim other : AnswerClaim) → IsSolved net from to claim → IsSolved net from to other → AreEqualAnswers claim other
+one_solved net from to claim other first second =
     let a_is = same_Some second.a first.a (sym second.from_is ∙ first.from_is) in
     let b_is = same_Some second.b first.b (sym second.to_is ∙ first.to_is) in
-    one_said net first.a first.b said other first.answer
+    one_said net first.a first.b claim other first.answer
     (subst (λ (m : ℕ). IsAnswerWithPins net m first.b other) a_is (subst (λ (m : ℕ). IsAnswerWithPins net second.a m other) b_is second.answer))
 
-pub one_outcome : (net : Network) (from to : List ℕ) (o p : Result Said SolveRefusal) → IsSolveOutcome net from to o → IsSolveOutcome net from to p → AreSameOutcomes o p
-one_outcome net from to (Ok said) (Ok other) first second = one_solved net from to said other first second
+pub one_outcome : (net : Network) (from to : List ℕ) (o p : Result AnswerClaim SolveError) → IsSolveOutcome net from to o → IsSolveOutcome net from to p → AreEqualOutcomes o p
+one_outcome net from to (Ok claim) (Ok other) first second = one_solved net from to claim other first second
 one_outcome net from to (Err refusal) (Ok other) first second = let e = one_refusal net from to refusal (Ok other) first second in absurd cc
-one_outcome net from to (Ok said) (Err refusal) first second = let e = one_refusal net from to refusal (Ok said) second first in absurd cc
+one_outcome net from to (Ok claim) (Err refusal) first second = let e = one_refusal net from to refusal (Ok claim) second first in absurd cc
 one_outcome net from to (Err refusal) (Err other) first second = let e = one_refusal net from to refusal (Err other) first second in cc

@@ -9,7 +9,7 @@ use Rattle.cut_net.specs.Cuts.{AreThose, Chain, IsChain, IsClosed, Outside, Reac
 use Rattle.cut_net.specs.WellFormed.{AreBetween}
 use Rattle.cut_net.proofs.Chains.{chain_from_false, chain_or_none, joined, no_chain_to, no_chain_to-false, step}
 use Rattle.cut_net.proofs.Members.{from_map, in_map}
-use Rattle.cut_residual.specs.Graphs.{is_seen}
+use Rattle.residual_graph.specs.Graphs.{is_flagged}
 
 -- the marks of the numbers below n that pass
 marks : (ℕ → Bool) → ℕ → List Bool
@@ -21,24 +21,24 @@ unfolding marks
 marks_size f zero = refl
 marks_size f (suc n) = let rest = marks_size (λ k. f (suc k)) n in omega arith
 
-marks_in : (f : ℕ → Bool) (n m : ℕ) → m < n → is_seen (marks f n) m ≡ f m
+marks_in : (f : ℕ → Bool) (n m : ℕ) → m < n → is_flagged (marks f n) m ≡ f m
 unfolding marks
 marks_in f zero m lt = absurd (omega arith)
 marks_in f (suc n) zero lt = refl
 marks_in f (suc n) (suc m) lt = marks_in (λ k. f (suc k)) n m (omega arith)
 
-marks_past : (f : ℕ → Bool) (n m : ℕ) → n ≤ m → is_seen (marks f n) m ≡ false
+marks_past : (f : ℕ → Bool) (n m : ℕ) → n ≤ m → is_flagged (marks f n) m ≡ false
 unfolding marks
 marks_past f zero m le = refl
 marks_past f (suc n) zero le = absurd (omega arith)
 marks_past f (suc n) (suc m) le = marks_past (λ k. f (suc k)) n m (omega arith)
 
 -- of a property that only numbers below n have
-marked : (f : ℕ → Bool) (n : ℕ) (P : ℕ → Type 0) → ((m : ℕ) → (f m ≡ true) ↔ P m) → ((m : ℕ) → P m → m < n) → (m : ℕ) → (is_seen (marks f n) m ≡ true) ↔ P m
+marked : (f : ℕ → Bool) (n : ℕ) (P : ℕ → Type 0) → ((m : ℕ) → (f m ≡ true) ↔ P m) → ((m : ℕ) → P m → m < n) → (m : ℕ) → (is_flagged (marks f n) m ≡ true) ↔ P m
 marked f n P is low m = (
   λ t. elim (cases_lt m n) [
     | inl lt ↦ (is m).0 (sym (marks_in f n m lt) ∙ t)
-    | inr le ↦ absurd (both_ways (is_seen (marks f n) m) (marks_past f n m le) t)
+    | inr le ↦ absurd (both_ways (is_flagged (marks f n) m) (marks_past f n m le) t)
   ],
   λ p. marks_in f n m (low m p) ∙ (is m).1 p,
 )
@@ -123,7 +123,7 @@ module _ (net : Network) (flow : Priced → ℕ) (a : ℕ) where
   unfolding near_marks
   near_size = marks_size reaches (length net.names)
 
-  pub near_reached : AreBetween net.imports (length net.names) → a < length net.names → AreThose (is_seen near_marks) (Reached net flow a)
+  pub near_reached : AreBetween net.imports (length net.names) → a < length net.names → AreThose (is_flagged near_marks) (Reached net flow a)
   unfolding near_marks
   near_reached between a_in = marked reaches (length net.names) (Reached net flow a) reached (low between a_in)
 
@@ -146,6 +146,6 @@ module _ (net : Network) (x : Priced → Bool) (b : ℕ) where
   pub far_marks : List Bool
   far_marks = marks goes_to (length net.names)
 
-  pub far_chains : AreBetween net.imports (length net.names) → b < length net.names → (m : ℕ) → (is_seen far_marks m ≡ true) ↔ Chain net.imports (Outside x) m b
+  pub far_chains : AreBetween net.imports (length net.names) → b < length net.names → (m : ℕ) → (is_flagged far_marks m ≡ true) ↔ Chain net.imports (Outside x) m b
   unfolding far_marks
   far_chains between b_in = marked goes_to (length net.names) (λ m. Chain net.imports (Outside x) m b) goes_to-is (from_low between b_in)

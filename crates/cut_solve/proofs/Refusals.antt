@@ -2,20 +2,20 @@
 use Rattle.std.proofs.Common.{◌≡◌, ℕ, List, Option, Result, Ok, Err, refl, sym, ap, ◌∙◌, Some, None, inl, inr}
 use Rattle.std.proofs.lemmas.Option.{none-some, same_Some}
 use Rattle.cut_net.specs.Network.{Network}
-use Rattle.cut_net.specs.Said.{Said}
-use Rattle.cut_solve.specs.Solving.{IsSolveOutcome, SolveRefusal, SameModule, NoSuchModule}
+use Rattle.cut_net.specs.AnswerClaim.{AnswerClaim}
+use Rattle.cut_solve.specs.Solving.{IsSolveOutcome, SolveError, SameModule, NoSuchModule}
 
 both : {P : Type 0} (o : Option ℕ) (a : ℕ) → o ≡ None → o ≡ Some a → P
 both o a none some = absurd (none-some a (sym none ∙ some))
 
-pub one_refusal : (net : Network) (from to : List ℕ) (refusal : SolveRefusal) (o : Result Said SolveRefusal) → IsSolveOutcome net from to (Err refusal) → IsSolveOutcome net from to o → o ≡ Err refusal
-one_refusal net from to SameModule (Ok said) holds other =
+pub one_refusal : (net : Network) (from to : List ℕ) (refusal : SolveError) (o : Result AnswerClaim SolveError) → IsSolveOutcome net from to (Err refusal) → IsSolveOutcome net from to o → o ≡ Err refusal
+one_refusal net from to SameModule (Ok claim) holds other =
     absurd (other.apart (same_Some other.a other.b (sym other.from_is ∙ holds.from_is ∙ sym holds.to_is ∙ other.to_is)))
 one_refusal net from to SameModule (Err SameModule) holds other = refl
 one_refusal net from to SameModule (Err (NoSuchModule name)) holds (inl unknown) = both _ holds.a unknown.0 holds.from_is
 one_refusal net from to SameModule (Err (NoSuchModule name)) holds (inr unknown) = both _ holds.a unknown.1 holds.to_is
-one_refusal net from to (NoSuchModule name) (Ok said) (inl unknown) other = both _ other.a unknown.0 other.from_is
-one_refusal net from to (NoSuchModule name) (Ok said) (inr unknown) other = both _ other.b unknown.1 other.to_is
+one_refusal net from to (NoSuchModule name) (Ok claim) (inl unknown) other = both _ other.a unknown.0 other.from_is
+one_refusal net from to (NoSuchModule name) (Ok claim) (inr unknown) other = both _ other.b unknown.1 other.to_is
 one_refusal net from to (NoSuchModule name) (Err SameModule) (inl unknown) other = both _ other.a unknown.0 other.from_is
 one_refusal net from to (NoSuchModule name) (Err SameModule) (inr unknown) other = both _ other.a unknown.1 other.to_is
 one_refusal net from to (NoSuchModule name) (Err (NoSuchModule second)) (inl unknown) (inl again) = ap (λ (n : List ℕ). Err (NoSuchModule n)) (again.1 ∙ sym unknown.1)

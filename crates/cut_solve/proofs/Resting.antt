@@ -4,7 +4,7 @@ use Rattle.std.proofs.lemmas.Bool.{both_ways, cases_Bool, cases_eq, false_from_n
 use Rattle.cut_preflow.specs.declared.event.Event.{Event}
 use Rattle.cut_preflow.specs.declared.event.Step.{Step}
 use Rattle.cut_preflow.specs.declared.event.Step.TheVariants.{Push, Relabel}
-use Rattle.cut_preflow.specs.Bound.{most_changes}
+use Rattle.cut_preflow.specs.Bound.{max_steps}
 use Rattle.cut_preflow.specs.Kept.{IsFlowNetwork, IsQuiet, IsValidPreflow}
 use Rattle.cut_preflow.specs.Preflow.{FlowNetwork, State, applies, is_active, is_legal, opening, run}
 use Rattle.cut_preflow.proofs.Arcs.{active_from}
@@ -45,7 +45,7 @@ module _ (net : FlowNetwork) (is : IsFlowNetwork net) where
   next_at : (history : List Event) → HasActive (run net (opening net) history) → (step : Step) × (applies net (run net (opening net) history) step ≡ true)
   next_at history active = step_at (run net (opening net) history) (runs_keep net history is) active
 
-  rests_within : (fuel : ℕ) (history : List Event) → is_legal net (opening net) history ≡ true → most_changes net ≤ length history + fuel → Rests
+  rests_within : (fuel : ℕ) (history : List Event) → is_legal net (opening net) history ≡ true → max_steps net ≤ length history + fuel → Rests
   rests_within zero history legal enough = elim (active_or_quiet (run net (opening net) history)) [
     | inr quiet ↦ (history, quiet)
     | inl active ↦
@@ -63,4 +63,4 @@ module _ (net : FlowNetwork) (is : IsFlowNetwork net) where
   ]
 
   pub rests : Rests
-  rests = rests_within (most_changes net) [] refl (omega arith)
+  rests = rests_within (max_steps net) [] refl (omega arith)

@@ -6,18 +6,18 @@ use Rattle.digraph.specs.Edges.{Leads}
 use Rattle.digraph.proofs.SameGraphs.{chain_as}
 use Rattle.cut_net.specs.declared.priced.Priced.{Priced}
 use Rattle.cut_net.specs.Network.{Network, index_of}
-use Rattle.cut_net.specs.Said.{Said, CutOf, BlockedBy}
+use Rattle.cut_net.specs.AnswerClaim.{AnswerClaim, CutOf, BlockedBy}
 use Rattle.cut_net.specs.WellFormed.{IsNetwork}
 use Rattle.cut_net.specs.Cuts.{IsFlow, Imports, leaves}
-use Rattle.cut_net.specs.Lines.{IsAnswer, IsAscending, IsCheapestSaid, IsImport, edge_of, flow_by}
-use Rattle.cut_net.specs.Pins.{ArePins, ByPin, IsAnswerWithPins, IsCheapestSaidWithPins, is_pinned}
+use Rattle.cut_net.specs.Lines.{IsAnswer, IsAscending, IsCheapestAnswer, IsImport, edge_of, flow_by}
+use Rattle.cut_net.specs.Pins.{ArePins, ByPin, IsAnswerWithPins, IsCheapestAnswerWithPins, is_pinned}
 use Rattle.cut_net.proofs.Chains.{chain_or_none}
 use Rattle.cut_net.proofs.Members.{from_map, in_map}
 use Rattle.cut_net.proofs.PinChains.{least_of_pins, same_pins}
 use Rattle.cut_net.proofs.Pinned.{answer_is, cheapest_said, no_cut}
 use Rattle.cut_net.proofs.Places.{index_takes}
 use Rattle.cut_part.specs.Apart.{flow_lines}
-use Rattle.cut_part.specs.Narrowing.{IsBarred}
+use Rattle.cut_part.specs.CapacityReduction.{IsBarred}
 use Rattle.cut_part.proofs.Greatest.{end_unreached}
 use Rattle.cut_preflow.specs.Preflow.{State, opening, run}
 use Rattle.cut_preflow.specs.Kept.{IsFlowNetwork, IsQuiet, IsValidPreflow}
@@ -25,12 +25,12 @@ use Rattle.cut_preflow.specs.Flows.{AreEnds, network_between, value_of}
 use Rattle.cut_preflow.proofs.Flowing as flowing
 use Rattle.cut_preflow.proofs.Networks.{between_is}
 use Rattle.cut_preflow.proofs.Opening.{runs_keep}
-use Rattle.cut_residual.specs.declared.arc.Arc.{Arc}
-use Rattle.cut_residual.specs.Graphs.{is_seen}
-use Rattle.cut_solve.specs.GreatestFlow.{IsMaximumFlow}
+use Rattle.residual_graph.specs.declared.arc.Arc.{Arc}
+use Rattle.residual_graph.specs.Graphs.{is_flagged}
+use Rattle.cut_solve.specs.MaximumFlow.{IsMaximumFlow}
 use Rattle.cut_solve.specs.Lines.{flow_line, has_flow, import_on, is_printed}
-use Rattle.cut_solve.specs.Settling.{carrying}
-use Rattle.cut_solve.specs.Solving.{IsSolveOutcome, SolveRefusal, SameModule, NoSuchModule}
+use Rattle.cut_solve.specs.Settling.{arcs_with_flow}
+use Rattle.cut_solve.specs.Solving.{IsSolveOutcome, SolveError, SameModule, NoSuchModule}
 use Rattle.cut_solve.proofs.Answering.{answered, cheapest, kept_above_zero, kept_lines}
 use Rattle.cut_solve.proofs.Flowing.{flow_on, lines_ascend}
 use Rattle.cut_solve.proofs.LeastChain.{some_least_chain}
@@ -42,7 +42,7 @@ module _ (net : Network) (a b : ℕ) (is : IsNetwork net) (ends : AreEnds net a 
   -- a cheapest cut by the flow of a quiet preflow
   module _ (s : State) (kept : IsValidPreflow (network_between net a b) s) (quiet : IsQuiet (network_between net a b) s) where
     abbrev arcs : List Arc
-    arcs = carrying net.imports s.flow
+    arcs = arcs_with_flow net.imports s.flow
 
     abbrev flow : List Priced
     flow = filter has_flow (map flow_line arcs)
@@ -66,8 +66,8 @@ module _ (net : Network) (a b : ℕ) (is : IsNetwork net) (ends : AreEnds net a 
           },
         )
 
-    abbrev near : List Bool
-    near = near_marks net (flow_on arcs) a
+    abbrev source_side : List Bool
+    source_side = near_marks net (flow_on arcs) a
 
     known : (line : Priced) → Contains (map flow_line arcs) line → IsImport net line
     known line c =
@@ -79,28 +79,28 @@ module _ (net : Network) (a b : ℕ) (is : IsNetwork net) (ends : AreEnds net a 
           tt,
         )
 
-    greatest : IsMaximumFlow net a b near flow
+    greatest : IsMaximumFlow net a b source_side flow
     greatest = record {
       size = near_size net (flow_on arcs) a;
       reached = near_reached net (flow_on arcs) a is.between ends.from_in;
-      end = end_unreached net a b (flow_on arcs) (is_seen near) barred (near_reached net (flow_on arcs) a is.between ends.from_in);
+      end = end_unreached net a b (flow_on arcs) (is_flagged source_side) barred (near_reached net (flow_on arcs) a is.between ends.from_in);
       in_order = kept_lines net (map flow_line arcs) (lines_ascend arcs (subst IsAscending (sym (imports_are net s.flow kept.flows is.imports_ascend)) is.imports_ascend)) known;
       above_zero = kept_above_zero (map flow_line arcs);
       value = value_of (network_between net a b) s;
       is_flow = carries;
     }
 
-    cut_here : (said : Said) × IsAnswer net a b said × IsCheapestSaid net a b said
+    cut_here : (claim : AnswerClaim) × IsAnswer net a b claim × IsCheapestAnswer net a b claim
     cut_here =
-        let far = far_marks net (leaves (is_seen near)) b in
-        let chains = far_chains net (leaves (is_seen near)) b is.between ends.to_in in
-        let printed = filter (is_printed near far) net.imports in (
+        let sink_side = far_marks net (leaves (is_flagged source_side)) b in
+        let chains = far_chains net (leaves (is_flagged source_side)) b is.between ends.to_in in
+        let printed = filter (is_printed source_side sink_side) net.imports in (
           CutOf (sum_by (λ (i : Priced). i.amount) printed) printed flow,
-          answered net a b near far flow is.imports_ascend is.between ends.from_in greatest chains,
-          cheapest net a b near far flow is.imports_ascend is.between ends.from_in greatest chains,
+          answered net a b source_side sink_side flow is.imports_ascend is.between ends.from_in greatest chains,
+          cheapest net a b source_side sink_side flow is.imports_ascend is.between ends.from_in greatest chains,
         )
 
-  some_cut : (said : Said) × IsAnswer net a b said × IsCheapestSaid net a b said
+  some_cut : (claim : AnswerClaim) × IsAnswer net a b claim × IsCheapestAnswer net a b claim
   some_cut =
       let of = between_is net a b is ends in
       let (events, quiet) = rests (network_between net a b) of in
@@ -110,26 +110,26 @@ module _ (net : Network) (a b : ℕ) (is : IsNetwork net) (ends : AreEnds net a 
   by_pin i = elim (cases_Bool (is_pinned net i)) [ inl t ↦ inl t | inr f ↦ inr (λ t. both_ways (is_pinned net i) f t) ]
 
   -- a cut, or the least chain of pins
-  some_said : ArePins net → (said : Said) × IsAnswerWithPins net a b said × IsCheapestSaidWithPins net a b said
+  some_said : ArePins net → (claim : AnswerClaim) × IsAnswerWithPins net a b claim × IsCheapestAnswerWithPins net a b claim
   some_said pins = elim (chain_or_none net.imports (ByPin net) by_pin a b) [
     | inl chain ↦
         let edges = map edge_of net.pins in
         let least = some_least_chain edges b a (chain.0, chain_as (Leads edges) (Imports net.imports (ByPin net)) (same_pins net pins) a chain.0 b chain.1) in
         (BlockedBy least.0, least_of_pins net pins a b least.0 least.1, λ x cut. no_cut net a b x chain cut)
     | inr none ↦
-        let (said, answer, least) = some_cut in
-        (said, answer_is net a b pins none said answer least, cheapest_said net a b pins none said answer least)
+        let (claim, answer, least) = some_cut in
+        (claim, answer_is net a b pins none claim answer least, cheapest_said net a b pins none claim answer least)
   ]
 
-pub some_outcome : (net : Network) (from to : List ℕ) → IsNetwork net → ArePins net → (o : Result Said SolveRefusal) × IsSolveOutcome net from to o
+pub some_outcome : (net : Network) (from to : List ℕ) → IsNetwork net → ArePins net → (o : Result AnswerClaim SolveError) × IsSolveOutcome net from to o
 some_outcome net from to is pins = go (index_of net from) (index_of net to) refl refl
   where
-    go : (first second : Option ℕ) → index_of net from ≡ first → index_of net to ≡ second → (o : Result Said SolveRefusal) × IsSolveOutcome net from to o
+    go : (first second : Option ℕ) → index_of net from ≡ first → index_of net to ≡ second → (o : Result AnswerClaim SolveError) × IsSolveOutcome net from to o
     go None second from_is to_is = (Err (NoSuchModule from), inl (from_is, refl))
     go (Some a) None from_is to_is = (Err (NoSuchModule to), inr ((a, from_is), to_is, refl))
     go (Some a) (Some b) from_is to_is = elim (cases_eq a b) [
       | inl e ↦ (Err SameModule, record { a = a; from_is = from_is; to_is = to_is ∙ ap (λ (m : ℕ). Some m) (sym e) })
       | inr apart ↦
-          let said = some_said net a b is (record { from_in = (index_takes net from a from_is).0; to_in = (index_takes net to b to_is).0; apart = apart }) pins in
-          (Ok said.0, record { a = a; b = b; from_is = from_is; to_is = to_is; apart = apart; answer = said.1; cheapest = said.2 })
+          let claim = some_said net a b is (record { from_in = (index_takes net from a from_is).0; to_in = (index_takes net to b to_is).0; apart = apart }) pins in
+          (Ok claim.0, record { a = a; b = b; from_is = from_is; to_is = to_is; apart = apart; answer = claim.1; cheapest = claim.2 })
     ]

@@ -1,5 +1,5 @@
 pub mod Faults
-pub mod GreatestFlow
+pub mod MaximumFlow
 pub mod Lines
 pub mod Settling
 pub mod Solving

@@ -2,8 +2,8 @@
 use Rattle.std.specs.Prelude.{◌&&◌, nat_lt, Bool, if◌then◌else◌, List}
 use Rattle.cut_net.specs.declared.priced.Priced.{Priced}
 use Rattle.cut_net.specs.Cuts.{leaves}
-use Rattle.cut_residual.specs.declared.arc.Arc.{Arc}
-use Rattle.cut_residual.specs.Graphs.{is_seen}
+use Rattle.residual_graph.specs.declared.arc.Arc.{Arc}
+use Rattle.residual_graph.specs.Graphs.{is_flagged}
 
 -- the arc of an import, without flow
 abbrev pub empty_of : Priced → Arc
@@ -22,8 +22,8 @@ has_flow line = nat_lt 0 line.amount
 
 -- the reversed arc of an import, with capacity exactly if the import doesn't leave the minimal source side
 abbrev pub reversed_of : List Bool → Priced → Arc
-reversed_of near i = record { from = i.to; to = i.from; capacity = if leaves (is_seen near) i then 0 else 1; flow = 0 }
+reversed_of source_side i = record { from = i.to; to = i.from; capacity = if leaves (is_flagged source_side) i then 0 else 1; flow = 0 }
 
 -- the import leads from the minimal source side to a module that reaches the sink outside of it
 abbrev pub is_printed : List Bool → List Bool → Priced → Bool
-is_printed near far i = leaves (is_seen near) i && is_seen far i.to
+is_printed source_side sink_side i = leaves (is_flagged source_side) i && is_flagged sink_side i.to

@@ -3,35 +3,35 @@ use Rattle.std.specs.Prelude.{◌≡◌, ◌≢◌, ◌⊎◌, ℕ, true, List, 
 use Rattle.std.specs.String.{string_bytes}
 use Rattle.cut_net.specs.Network.{Network, index_of}
 use Rattle.cut_net.specs.declared.priced.Priced.{Priced}
-use Rattle.cut_net.specs.Said.{Said, CutOf, BlockedBy}
+use Rattle.cut_net.specs.AnswerClaim.{AnswerClaim, CutOf, BlockedBy}
 use Rattle.cut_net.specs.Cuts.{Chain, Outside, without}
 use Rattle.cut_net.specs.Lines.{removed_by}
-use Rattle.cut_net.specs.Pins.{IsAnswerWithPins, IsCheapestSaidWithPins}
+use Rattle.cut_net.specs.Pins.{IsAnswerWithPins, IsCheapestAnswerWithPins}
 use Rattle.cut_solve.specs.declared.fault.SolveFault.{SolveFault}
 use Rattle.cut_solve.specs.declared.fault.SolveFault.TheVariants as faults
 
 -- a and b are two modules, and the answer is a cheapest cut between them, of unpinned imports, with its weight and a flow of that value;
 -- or it is the shortest path of pinned imports, exactly if one leads from a to b, and then no cut exists
-pub record IsSolved (net : Network) (from to : List ℕ) (said : Said) : Type 0 where
+pub record IsSolved (net : Network) (from to : List ℕ) (claim : AnswerClaim) : Type 0 where
   pub a : ℕ
   pub b : ℕ
   pub from_is : index_of net from ≡ Some a
   pub to_is : index_of net to ≡ Some b
   pub apart : a ≢ b
-  pub answer : IsAnswerWithPins net a b said
-  pub cheapest : IsCheapestSaidWithPins net a b said
+  pub answer : IsAnswerWithPins net a b claim
+  pub cheapest : IsCheapestAnswerWithPins net a b claim
 
 -- each reported import is needed: without the others a path still leads from a to b; an answer with a path of pinned imports reports none
-abbrev pub IsEachNeeded : Network → ℕ → ℕ → Said → Type 0
+abbrev pub IsEachNeeded : Network → ℕ → ℕ → AnswerClaim → Type 0
 IsEachNeeded net a b (CutOf total printed flow) =
     (i : Priced) → Contains net.imports i → removed_by printed i ≡ true → Chain net.imports (Outside (without (removed_by printed) i)) a b
 IsEachNeeded net a b (BlockedBy chain) = Unit {0}
 
--- the answer is one for the modules of the two names
-abbrev pub AreNeeded : Network → List ℕ → List ℕ → Said → Type 0
-AreNeeded net from to said = (a b : ℕ) → index_of net from ≡ Some a → index_of net to ≡ Some b → IsEachNeeded net a b said
+-- each import of the answer is needed for the modules of the two names
+abbrev pub AreNeeded : Network → List ℕ → List ℕ → AnswerClaim → Type 0
+AreNeeded net from to claim = (a b : ℕ) → index_of net from ≡ Some a → index_of net to ≡ Some b → IsEachNeeded net a b claim
 
--- both names are the same module's
+-- both names denote one module
 pub record IsSameModule (net : Network) (from to : List ℕ) : Type 0 where
   pub a : ℕ
   pub from_is : index_of net from ≡ Some a
@@ -43,29 +43,29 @@ IsFirstUnknown net from to name =
     ((index_of net from ≡ None) × (name ≡ from)) ⊎ (((a : ℕ) × (index_of net from ≡ Some a)) × (index_of net to ≡ None) × (name ≡ to))
 
 -- the error in the two names, which holds a name as a list of bytes
-pub data SolveRefusal : Type 0 where
-  SameModule : SolveRefusal
-  NoSuchModule : List ℕ → SolveRefusal
+pub data SolveError : Type 0 where
+  SameModule : SolveError
+  NoSuchModule : List ℕ → SolveError
 
 -- the outcome holds for the names: a cut, a path of pinned imports, or the error in the names
-abbrev pub IsSolveOutcome : Network → List ℕ → List ℕ → Result Said SolveRefusal → Type 0
-IsSolveOutcome net from to (Ok said) = IsSolved net from to said
+abbrev pub IsSolveOutcome : Network → List ℕ → List ℕ → Result AnswerClaim SolveError → Type 0
+IsSolveOutcome net from to (Ok claim) = IsSolved net from to claim
 IsSolveOutcome net from to (Err SameModule) = IsSameModule net from to
 IsSolveOutcome net from to (Err (NoSuchModule name)) = IsFirstUnknown net from to name
 
--- the answers have the same cut and weight, whatever their flows, or the same path of pinned imports
-abbrev pub AreSameButFlow : Said → Said → Type 0
-AreSameButFlow (CutOf total printed flow) (CutOf again others more) = (total ≡ again) × (printed ≡ others)
-AreSameButFlow (BlockedBy chain) (BlockedBy other) = chain ≡ other
-AreSameButFlow (CutOf total printed flow) (BlockedBy chain) = ⊥
-AreSameButFlow (BlockedBy chain) (CutOf total printed flow) = ⊥
+-- the answers have equal cuts and weights, whatever their flows, or equal paths of pinned imports
+abbrev pub AreEqualAnswers : AnswerClaim → AnswerClaim → Type 0
+AreEqualAnswers (CutOf total printed flow) (CutOf again others more) = (total ≡ again) × (printed ≡ others)
+AreEqualAnswers (BlockedBy chain) (BlockedBy other) = chain ≡ other
+AreEqualAnswers (CutOf total printed flow) (BlockedBy chain) = ⊥
+AreEqualAnswers (BlockedBy chain) (CutOf total printed flow) = ⊥
 
--- the outcomes are the same answer but for the flow, or the same error
-abbrev pub AreSameOutcomes : Result Said SolveRefusal → Result Said SolveRefusal → Type 0
-AreSameOutcomes (Ok said) (Ok other) = AreSameButFlow said other
-AreSameOutcomes (Err refusal) (Err other) = refusal ≡ other
-AreSameOutcomes (Ok said) (Err refusal) = ⊥
-AreSameOutcomes (Err refusal) (Ok said) = ⊥
+-- the outcomes are equal answers but for the flow, or equal errors
+abbrev pub AreEqualOutcomes : Result AnswerClaim SolveError → Result AnswerClaim SolveError → Type 0
+AreEqualOutcomes (Ok claim) (Ok other) = AreEqualAnswers claim other
+AreEqualOutcomes (Err refusal) (Err other) = refusal ≡ other
+AreEqualOutcomes (Ok claim) (Err refusal) = ⊥
+AreEqualOutcomes (Err refusal) (Ok claim) = ⊥
 
 -- the number of the module of this name, or that there is none
 abbrev pub IsModuleOr : Network → List ℕ → Result ℕ SolveFault → Type 0

@@ -3,7 +3,7 @@ ghost use Rattle.std.specs.Prelude.{◌≡◌, IfOk, filter, length, map};
 ghost use Rattle.cut_solve.specs.Lines.{empty_of, has_flow, flow_line};
 
 use cut_net::{Net, Priced};
-use cut_residual::{Arc, ResidualGraph};
+use residual_graph::{Arc, ResidualGraph};
 use std::alloc::{AllocError, Global};
 
 /// For each import an arc without flow, whose capacity is the import's weight.
@@ -22,12 +22,13 @@ pub(crate) fn arcs_of(alloc: Global, imports: &[Priced]) -> Result<Vec<Arc>, All
     Ok(arcs)
 }
 
-/// The residual graph of a network without flow: for each import an arc whose capacity is the import's weight. Fails if an allocation fails.
+/// The residual graph of a network without flow: for each import an arc whose capacity is the import's weight. Fails if an allocation
+/// fails.
 pub fn graph_of(alloc: Global, net: &Net) -> Result<ResidualGraph, AllocError>
     // The nodes are the modules, and the arcs the imports in their order.
     ensures { IfOk result (λ graph. graph ≡ record { nodes = length net.now.names; arcs = map empty_of net.now.imports }) }
 {
-    net.keeps();
+    net.invariants();
     let arcs = arcs_of(alloc, net.imports())?;
     ResidualGraph::new(alloc, arcs, net.nodes())
 }

@@ -6,7 +6,7 @@ use thiserror::Error;
 /// An error in the two names, or a failed allocation.
 #[derive(Debug, Drop, Error)]
 pub enum SolveFault {
-    /// Both names are the same module's.
+    /// Both names denote one module.
     #[error("both names are of one module")]
     SameModule,
     /// No module has this name. `from` is looked up before `to`.

@@ -1,7 +1,7 @@
-//! Cheapest cuts: the imports to remove, and a flow that proves that no cut is cheaper, or the path of pinned imports because of which there is none.
-//! The algorithm is push-relabel (Goldberg and Tarjan 1988) by many threads on one locked preflow.
-//! Depends on `cut_part` for smaller networks, `cut_trial` for an initial flow, `cut_preflow` for steps, `cut_residual` for the final search.
-//! The main call is `solve`. It promises the reported cut by its definition, its weight and a flow of that value, for every schedule.
+//! Cheapest cuts: the imports to remove, and a flow that proves that no cut is cheaper, or the path of pinned imports because of which
+//! there is none. The algorithm is push-relabel (Goldberg and Tarjan 1988) by many threads on one locked preflow. Depends on `cut_part`
+//! for smaller networks, `initial_flow` for an initial flow, `cut_preflow` for steps, `residual_graph` for the final search. The main call is
+//! `solve`. It promises the reported cut by its definition, its weight and a flow of that value, for every schedule.
 #![tactic(auto)]
 
 mod arcs;
@@ -27,6 +27,6 @@ pub use fault::SolveFault;
 pub use names::module_of;
 pub use open_gate::OpenGate;
 pub use solving::solve;
-pub use start::{Start, start_between};
+pub use start::{Start, preflow_input};
 pub use turn::{Gate, Locked, Look};
 pub use workers::worker;

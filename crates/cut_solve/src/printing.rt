@@ -2,30 +2,34 @@
 ghost use Rattle.std.specs.Prelude.{ℕ, ◌≡◌, ◌<◌, ◌^◌, ◌↔◌, true, IfOk, filter, length, map, sum_by};
 ghost use Rattle.cut_net.specs.Cuts.{leaves, Chain, Outside};
 ghost use Rattle.cut_net.specs.WellFormed.{AreBetween};
-ghost use Rattle.cut_residual.specs.Graphs.{is_seen};
+ghost use Rattle.residual_graph.specs.Graphs.{is_flagged};
 ghost use Rattle.cut_solve.specs.Lines.{is_printed, reversed_of};
 
 use cut_net::Priced;
-use cut_residual::{Arc, marks};
+use residual_graph::{Arc, marks};
 use std::alloc::{AllocError, Global};
 
 /// Whether the import leaves the minimal source side.
-fn leaves(i: Priced, near: &[bool]) -> bool
-    requires from { i.from < length near.now }
-    requires to { i.to < length near.now }
-    ensures { result ≡ leaves (is_seen near.now) i }
+fn leaves(i: Priced, source_side: &[bool]) -> bool
+    requires from { i.from < length source_side.now }
+    requires to { i.to < length source_side.now }
+    ensures { result ≡ leaves (is_flagged source_side.now) i }
 {
-    near[i.from as usize] && !near[i.to as usize]
+    source_side[i.from as usize] && !source_side[i.to as usize]
 }
 
 /// For each import the reversed arc, with capacity exactly if the import doesn't leave the minimal source side.
-fn reversed_arcs(alloc: Global, imports: &[Priced], near: &[bool]) -> Result<Vec<Arc>, AllocError>
-    requires between { AreBetween imports.now (length near.now) }
-    ensures { IfOk result (λ arcs. arcs.items ≡ map (reversed_of near.now) imports.now) }
+fn reversed_arcs(
+    alloc: Global,
+    imports: &[Priced],
+    source_side: &[bool],
+) -> Result<Vec<Arc>, AllocError>
+    requires between { AreBetween imports.now (length source_side.now) }
+    ensures { IfOk result (λ arcs. arcs.items ≡ map (reversed_of source_side.now) imports.now) }
 {
     let mut arcs = Vec::with_capacity(alloc, imports.len())?;
     for i in imports {
-        let capacity = if leaves(*i, near) { 0 } else { 1 };
+        let capacity = if leaves(*i, source_side) { 0 } else { 1 };
         arcs.push(Arc {
             from: i.to,
             to: i.from,
@@ -37,48 +41,48 @@ fn reversed_arcs(alloc: Global, imports: &[Priced], near: &[bool]) -> Result<Vec
 }
 
 /// Flags the modules that reach the sink by imports that don't leave the minimal source side.
-pub(crate) fn far_from(
+pub(crate) fn sink_side_of(
     alloc: Global,
     imports: &[Priced],
-    near: &[bool],
+    source_side: &[bool],
     nodes: u32,
     to: u32,
 ) -> Result<Vec<bool>, AllocError>
     requires between { AreBetween imports.now nodes }
-    requires near { length near.now ≡ nodes }
+    requires source_side { length source_side.now ≡ nodes }
     requires to { to < nodes }
-    ensures size { IfOk result (λ far. length far.items ≡ nodes) }
-    ensures far { IfOk result (λ far. (m : ℕ) → (is_seen far.items m ≡ true) ↔ Chain imports.now (Outside (leaves (is_seen near.now))) m to) }
+    ensures size { IfOk result (λ sink_side. length sink_side.items ≡ nodes) }
+    ensures sink_side { IfOk result (λ sink_side. (m : ℕ) → (is_flagged sink_side.items m ≡ true) ↔ Chain imports.now (Outside (leaves (is_flagged source_side.now))) m to) }
 {
-    let arcs = reversed_arcs(alloc, imports, near)?;
-    let far = marks(alloc, &arcs, nodes, to)?;
-    Ok(far)
+    let arcs = reversed_arcs(alloc, imports, source_side)?;
+    let sink_side = marks(alloc, &arcs, nodes, to)?;
+    Ok(sink_side)
 }
 
 /// Whether the import is reported: it leaves the minimal source side, and the imported module reaches the sink outside of it.
-fn is_printed(i: Priced, near: &[bool], far: &[bool]) -> bool
-    requires from { i.from < length near.now }
-    requires to { i.to < length near.now }
-    requires far { i.to < length far.now }
-    ensures { result ≡ is_printed near.now far.now i }
+fn is_printed(i: Priced, source_side: &[bool], sink_side: &[bool]) -> bool
+    requires from { i.from < length source_side.now }
+    requires to { i.to < length source_side.now }
+    requires sink_side { i.to < length sink_side.now }
+    ensures { result ≡ is_printed source_side.now sink_side.now i }
 {
-    leaves(i, near) && far[i.to as usize]
+    leaves(i, source_side) && sink_side[i.to as usize]
 }
 
 /// The reported imports, in their order.
-pub(crate) fn printed_of(
+pub(crate) fn reported_imports(
     alloc: Global,
     imports: &[Priced],
-    near: &[bool],
-    far: &[bool],
+    source_side: &[bool],
+    sink_side: &[bool],
 ) -> Result<Vec<Priced>, AllocError>
-    requires near { AreBetween imports.now (length near.now) }
-    requires far { AreBetween imports.now (length far.now) }
-    ensures { IfOk result (λ printed. printed.items ≡ filter (is_printed near.now far.now) imports.now) }
+    requires source_side { AreBetween imports.now (length source_side.now) }
+    requires sink_side { AreBetween imports.now (length sink_side.now) }
+    ensures { IfOk result (λ printed. printed.items ≡ filter (is_printed source_side.now sink_side.now) imports.now) }
 {
     let mut printed = Vec::new(alloc);
     for i in imports {
-        if is_printed(*i, near, far) {
+        if is_printed(*i, source_side, sink_side) {
             printed.push(*i)?;
         }
     }

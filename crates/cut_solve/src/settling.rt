@@ -1,32 +1,32 @@
 //! The last step of the solver: the calling thread completes the preflow, and its flow gives the cut.
 ghost use Rattle.std.specs.Prelude.{◌≡◌, ◌≤◌, IfOk, IfSome, IsSome, length};
-ghost use Rattle.cut_net.specs.Answers.{said_by_cut};
-ghost use Rattle.cut_net.specs.Lines.{IsAnswer, IsCheapestSaid};
+ghost use Rattle.cut_net.specs.Answers.{cut_claim};
+ghost use Rattle.cut_net.specs.Lines.{IsAnswer, IsCheapestAnswer};
 ghost use Rattle.cut_preflow.specs.Flows.{AreEnds};
 ghost use Rattle.cut_preflow.specs.Kept.{IsQuiet};
 ghost use Rattle.cut_preflow.specs.Trace.{state_of};
 ghost use Rattle.cut_preflow.specs.Preflow.{count};
-ghost use Rattle.cut_solve.specs.Settling.{carrying};
-ghost use Rattle.cut_solve.specs.Starts.{IsBelow, IsStart};
+ghost use Rattle.cut_solve.specs.Settling.{arcs_with_flow};
+ghost use Rattle.cut_solve.specs.Starts.{HasReducedWeights, IsPreflowInput};
 
 use crate::arcs::flow_of;
 use crate::cutting::minimum_cut;
 use cut_net::{Cut, Net, Priced};
 use cut_preflow::{NetworkLedger, Preflow};
-use cut_residual::{Arc, marks};
+use residual_graph::{Arc, marks};
 use std::alloc::{AllocError, Global};
 
-/// The imports as arcs, each with the flow that the preflow has on the import of the same number.
-fn carrying<L: NetworkLedger>(
+/// The imports as arcs, each with the flow of the preflow on the import of its number.
+fn arcs_with_flow<L: NetworkLedger>(
     alloc: Global,
     imports: &[Priced],
     preflow: &Preflow<L>,
 ) -> Result<Vec<Arc>, AllocError>
     requires few { length imports.now ≤ 65536 }
     requires imports { count preflow.now.trace.net ≡ length imports.now }
-    ensures { IfOk result (λ arcs. arcs.items ≡ carrying imports.now (state_of preflow.now.trace).flow) }
+    ensures { IfOk result (λ arcs. arcs.items ≡ arcs_with_flow imports.now (state_of preflow.now.trace).flow) }
 {
-    preflow.keeps();
+    preflow.invariants();
     let mut arcs = Vec::with_capacity(alloc, imports.len())?;
     for number in 0..imports.len() {
         let import = imports[number];
@@ -52,21 +52,21 @@ fn quiet_cut<L: NetworkLedger>(
 ) -> Result<Option<Cut>, AllocError>
     requires ends { AreEnds net.now from to }
     requires nodes { preflow.now.trace.net.nodes ≡ length net.now.names }
-    requires start { IsBelow net.now from to preflow.now.trace.net.imports preflow.now.trace.net.source preflow.now.trace.net.sink }
+    requires start { HasReducedWeights net.now from to preflow.now.trace.net.imports preflow.now.trace.net.source preflow.now.trace.net.sink }
     requires quiet { IsQuiet preflow.now.trace.net (state_of preflow.now.trace) }
-    ensures answer { IfOk result (λ found. IfSome found (λ cut. IsAnswer net.now from to (said_by_cut cut))) }
-    ensures cheapest { IfOk result (λ found. IfSome found (λ cut. IsCheapestSaid net.now from to (said_by_cut cut))) }
-    ensures found { IsStart net.now from to preflow.now.trace.net.imports preflow.now.trace.net.source preflow.now.trace.net.sink → IfOk result (λ found. IsSome found) }
+    ensures answer { IfOk result (λ found. IfSome found (λ cut. IsAnswer net.now from to (cut_claim cut))) }
+    ensures cheapest { IfOk result (λ found. IfSome found (λ cut. IsCheapestAnswer net.now from to (cut_claim cut))) }
+    ensures found { IsPreflowInput net.now from to preflow.now.trace.net.imports preflow.now.trace.net.source preflow.now.trace.net.sink → IfOk result (λ found. IsSome found) }
 {
-    net.keeps();
-    preflow.keeps();
-    let arcs = carrying(alloc, net.imports(), preflow)?;
-    let near = marks(alloc, &arcs, net.nodes(), from)?;
-    if near[to as usize] {
+    net.invariants();
+    preflow.invariants();
+    let arcs = arcs_with_flow(alloc, net.imports(), preflow)?;
+    let source_side = marks(alloc, &arcs, net.nodes(), from)?;
+    if source_side[to as usize] {
         return Ok(None);
     }
     let flow = flow_of(alloc, &arcs)?;
-    let cut = minimum_cut(alloc, net, &near, flow, from, to)?;
+    let cut = minimum_cut(alloc, net, &source_side, flow, from, to)?;
     Ok(Some(cut))
 }
 
@@ -81,10 +81,10 @@ pub(crate) fn last_pass<L: NetworkLedger>(
 ) -> Result<Option<Cut>, AllocError>
     requires ends { AreEnds net.now from to }
     requires nodes { preflow.old.trace.net.nodes ≡ length net.now.names }
-    requires start { IsBelow net.now from to preflow.old.trace.net.imports preflow.old.trace.net.source preflow.old.trace.net.sink }
-    ensures answer { IfOk result (λ found. IfSome found (λ cut. IsAnswer net.now from to (said_by_cut cut))) }
-    ensures cheapest { IfOk result (λ found. IfSome found (λ cut. IsCheapestSaid net.now from to (said_by_cut cut))) }
-    ensures found { IsStart net.now from to preflow.old.trace.net.imports preflow.old.trace.net.source preflow.old.trace.net.sink → IfOk result (λ found. IsSome found) }
+    requires start { HasReducedWeights net.now from to preflow.old.trace.net.imports preflow.old.trace.net.source preflow.old.trace.net.sink }
+    ensures answer { IfOk result (λ found. IfSome found (λ cut. IsAnswer net.now from to (cut_claim cut))) }
+    ensures cheapest { IfOk result (λ found. IfSome found (λ cut. IsCheapestAnswer net.now from to (cut_claim cut))) }
+    ensures found { IsPreflowInput net.now from to preflow.old.trace.net.imports preflow.old.trace.net.source preflow.old.trace.net.sink → IfOk result (λ found. IsSome found) }
 {
     preflow.settle()?;
     quiet_cut(alloc, net, preflow, from, to)

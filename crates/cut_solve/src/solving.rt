@@ -1,19 +1,19 @@
 //! The solver with many workers: pushes and relabels on one locked preflow, completed by the calling thread.
 ghost use Rattle.std.specs.Prelude.{◌≡◌, ◌≤◌, Err, IfOk, IfSome, IsSome, length};
-ghost use Rattle.cut_net.specs.Answers.{said_by, said_by_cut};
-ghost use Rattle.cut_net.specs.Lines.{IsAnswer, IsCheapestSaid};
-ghost use Rattle.cut_net.specs.Pins.{IsAnswerWithPins, IsCheapestSaidWithPins};
+ghost use Rattle.cut_net.specs.Answers.{answer_claim, cut_claim};
+ghost use Rattle.cut_net.specs.Lines.{IsAnswer, IsCheapestAnswer};
+ghost use Rattle.cut_net.specs.Pins.{IsAnswerWithPins, IsCheapestAnswerWithPins};
 ghost use Rattle.cut_preflow.specs.Flows.{AreEnds, network_on};
-ghost use Rattle.cut_solve.specs.Faults.{Tells};
-ghost use Rattle.cut_solve.specs.Solving.{AreNeeded, IsSolveOutcome, SolveRefusal};
-ghost use Rattle.cut_solve.specs.Starts.{IsBelow, IsStart};
+ghost use Rattle.cut_solve.specs.Faults.{HasOutcome};
+ghost use Rattle.cut_solve.specs.Solving.{AreNeeded, IsSolveOutcome, SolveError};
+ghost use Rattle.cut_solve.specs.Starts.{HasReducedWeights, IsPreflowInput};
 
 use crate::blocking::{as_answer, blocked};
-use crate::lowering::lowered;
+use crate::lowering::reduced;
 use crate::names::module_of;
 use crate::settling::last_pass;
-use crate::start::{Start, start_between};
-use crate::whole::whole_cut;
+use crate::start::{Start, preflow_input};
+use crate::whole::cut_in_net;
 use crate::workers::worker;
 use crate::{Gate, Locked, SolveFault};
 use cut_net::{Answer, Cut, Net};
@@ -27,7 +27,7 @@ use std::thread;
 use std::thread::{JoinHandle, Threads};
 
 /// Runs a worker with a share of its own, if one is left.
-fn started<L: NetworkLedger, R: Wait, G: Gate>(
+fn run_worker<L: NetworkLedger, R: Wait, G: Gate>(
     rt: &R,
     locked: &Locked<L>,
     number: u32,
@@ -50,8 +50,9 @@ fn join_all<L: NetworkLedger, R: Threads + Wait>(
     }
 }
 
-/// Starts the workers, each in a thread, joins them, and returns their shares to the preflow. Goes on without a thread that can't be started.
-fn in_threads<L: NetworkLedger + Send + Sync, R: Threads + Wait + Sync, G: Gate + Sync>(
+/// Starts the workers, each in a thread, joins them, and returns their shares to the preflow. Goes on without a thread that can't be
+/// started.
+fn run_threads<L: NetworkLedger + Send + Sync, R: Threads + Wait + Sync, G: Gate + Sync>(
     rt: &R,
     alloc: Global,
     locked: &Locked<L>,
@@ -64,7 +65,7 @@ fn in_threads<L: NetworkLedger + Send + Sync, R: Threads + Wait + Sync, G: Gate 
             workers as usize,
         )?;
         for number in 0..workers {
-            if let Ok(handle) = scope.spawn(move || started(rt, locked, number, gate)) {
+            if let Ok(handle) = scope.spawn(move || run_worker(rt, locked, number, gate)) {
                 handles.push(handle)?;
             }
         }
@@ -74,7 +75,7 @@ fn in_threads<L: NetworkLedger + Send + Sync, R: Threads + Wait + Sync, G: Gate 
 }
 
 /// The preflow after the steps of this number of workers.
-fn worked<L: NetworkLedger + Send + Sync, R: Threads + Wait + Sync, G: Gate + Sync>(
+fn run_workers<L: NetworkLedger + Send + Sync, R: Threads + Wait + Sync, G: Gate + Sync>(
     rt: &R,
     alloc: Global,
     preflow: Preflow<L>,
@@ -82,13 +83,13 @@ fn worked<L: NetworkLedger + Send + Sync, R: Threads + Wait + Sync, G: Gate + Sy
     gate: &G,
 ) -> Result<Preflow<L>, AllocError> {
     let locked = Mutex::new(preflow);
-    in_threads(rt, alloc, &locked, workers, gate)?;
+    run_threads(rt, alloc, &locked, workers, gate)?;
     Ok(locked.into_inner())
 }
 
-/// A cheapest cut between two modules, with a flow that proves it, by this number of workers on one preflow, whose ledger is that of `blank`.
-/// None if the capacities of `start` don't allow a maximum flow.
-fn in_ledger<L: NetworkLedger + Send + Sync, R: Threads + Wait + Sync, G: Gate + Sync>(
+/// A cheapest cut between two modules, with a flow that proves it, by this number of workers on one preflow, whose ledger is that of
+/// `blank`. None if the capacities of `start` don't allow a maximum flow.
+fn with_ledger<L: NetworkLedger + Send + Sync, R: Threads + Wait + Sync, G: Gate + Sync>(
     rt: &R,
     alloc: Global,
     blank: Blank,
@@ -99,15 +100,15 @@ fn in_ledger<L: NetworkLedger + Send + Sync, R: Threads + Wait + Sync, G: Gate +
     gate: &G,
 ) -> Result<Option<Cut>, AllocError>
     requires ends { AreEnds net.now ends.0 ends.1 }
-    requires start { IsBelow net.now ends.0 ends.1 start.imports.items start.source start.sink }
+    requires start { HasReducedWeights net.now ends.0 ends.1 start.imports.items start.source start.sink }
     requires net { network_on (length net.now.names) start.imports.items start.source start.sink ≡ L.net }
     requires name { blank.name ≡ L.name }
     requires parts { (blank.parts ≡ 65) × (L.parts ≡ 65) }
-    ensures answer { IfOk result (λ found. IfSome found (λ cut. IsAnswer net.now ends.0 ends.1 (said_by_cut cut))) }
-    ensures cheapest { IfOk result (λ found. IfSome found (λ cut. IsCheapestSaid net.now ends.0 ends.1 (said_by_cut cut))) }
-    ensures found { IsStart net.now ends.0 ends.1 start.imports.items start.source start.sink → IfOk result (λ found. IsSome found) }
+    ensures answer { IfOk result (λ found. IfSome found (λ cut. IsAnswer net.now ends.0 ends.1 (cut_claim cut))) }
+    ensures cheapest { IfOk result (λ found. IfSome found (λ cut. IsCheapestAnswer net.now ends.0 ends.1 (cut_claim cut))) }
+    ensures found { IsPreflowInput net.now ends.0 ends.1 start.imports.items start.source start.sink → IfOk result (λ found. IsSome found) }
 {
-    net.keeps();
+    net.invariants();
     let (from, to) = ends;
     let Start {
         imports,
@@ -115,13 +116,13 @@ fn in_ledger<L: NetworkLedger + Send + Sync, R: Threads + Wait + Sync, G: Gate +
         sink,
     } = start;
     let preflow = Preflow::<L>::start_on(alloc, blank, net.nodes(), imports, source, sink)?;
-    let mut preflow = worked(rt, alloc, preflow, workers, gate)?;
-    preflow.keeps();
+    let mut preflow = run_workers(rt, alloc, preflow, workers, gate)?;
+    preflow.invariants();
     last_pass(alloc, net, &mut preflow, from, to)
 }
 
-/// As `in_ledger`, with a new ledger.
-fn in_own_ledger<R: Threads + Wait + Sync, G: Gate + Sync>(
+/// A cheapest cut between two modules, as `with_ledger` finds it, with a new ledger.
+fn with_new_ledger<R: Threads + Wait + Sync, G: Gate + Sync>(
     rt: &R,
     alloc: Global,
     start: Start,
@@ -131,12 +132,12 @@ fn in_own_ledger<R: Threads + Wait + Sync, G: Gate + Sync>(
     gate: &G,
 ) -> Result<Option<Cut>, AllocError>
     requires ends { AreEnds net.now ends.0 ends.1 }
-    requires start { IsBelow net.now ends.0 ends.1 start.imports.items start.source start.sink }
-    ensures answer { IfOk result (λ found. IfSome found (λ cut. IsAnswer net.now ends.0 ends.1 (said_by_cut cut))) }
-    ensures cheapest { IfOk result (λ found. IfSome found (λ cut. IsCheapestSaid net.now ends.0 ends.1 (said_by_cut cut))) }
-    ensures found { IsStart net.now ends.0 ends.1 start.imports.items start.source start.sink → IfOk result (λ found. IsSome found) }
+    requires start { HasReducedWeights net.now ends.0 ends.1 start.imports.items start.source start.sink }
+    ensures answer { IfOk result (λ found. IfSome found (λ cut. IsAnswer net.now ends.0 ends.1 (cut_claim cut))) }
+    ensures cheapest { IfOk result (λ found. IfSome found (λ cut. IsCheapestAnswer net.now ends.0 ends.1 (cut_claim cut))) }
+    ensures found { IsPreflowInput net.now ends.0 ends.1 start.imports.items start.source start.sink → IfOk result (λ found. IsSome found) }
 {
-    in_ledger::<Brand, R, G>(
+    with_ledger::<Brand, R, G>(
         rt,
         alloc,
         Blank::new(PARTS),
@@ -148,8 +149,9 @@ fn in_own_ledger<R: Threads + Wait + Sync, G: Gate + Sync>(
     )
 }
 
-/// A cheapest cut between two modules: with capacities reduced to an initial flow, and if these don't allow a maximum flow, without the reduction.
-fn on_lowered<R: Threads + Wait + Sync, G: Gate + Sync>(
+/// A cheapest cut between two modules: with capacities reduced to an initial flow, and if these don't allow a maximum flow, without the
+/// reduction.
+fn solve_reduced<R: Threads + Wait + Sync, G: Gate + Sync>(
     rt: &R,
     alloc: Global,
     net: &Net,
@@ -158,23 +160,23 @@ fn on_lowered<R: Threads + Wait + Sync, G: Gate + Sync>(
     gate: &G,
 ) -> Result<Cut, AllocError>
     requires { AreEnds net.now ends.0 ends.1 }
-    ensures answer { IfOk result (λ cut. IsAnswer net.now ends.0 ends.1 (said_by_cut cut)) }
-    ensures cheapest { IfOk result (λ cut. IsCheapestSaid net.now ends.0 ends.1 (said_by_cut cut)) }
+    ensures answer { IfOk result (λ cut. IsAnswer net.now ends.0 ends.1 (cut_claim cut)) }
+    ensures cheapest { IfOk result (λ cut. IsCheapestAnswer net.now ends.0 ends.1 (cut_claim cut)) }
 {
-    net.keeps();
-    let start = start_between(alloc, net, ends.0, ends.1)?;
-    let lower = lowered(alloc, net.nodes(), &start)?;
-    if let Some(cut) = in_own_ledger(rt, alloc, lower, net, ends, workers, gate)? {
+    net.invariants();
+    let start = preflow_input(alloc, net, ends.0, ends.1)?;
+    let lower = reduced(alloc, net.nodes(), &start)?;
+    if let Some(cut) = with_new_ledger(rt, alloc, lower, net, ends, workers, gate)? {
         return Ok(cut);
     }
-    match in_own_ledger(rt, alloc, start, net, ends, workers, gate)? {
+    match with_new_ledger(rt, alloc, start, net, ends, workers, gate)? {
         Some(cut) => Ok(cut),
         None => unreachable!(),
     }
 }
 
 /// A cheapest cut between two modules, found in the subnetwork of the modules on paths between them.
-fn in_part<R: Threads + Wait + Sync, G: Gate + Sync>(
+fn solve_subnetwork<R: Threads + Wait + Sync, G: Gate + Sync>(
     rt: &R,
     alloc: Global,
     net: &Net,
@@ -183,14 +185,17 @@ fn in_part<R: Threads + Wait + Sync, G: Gate + Sync>(
     gate: &G,
 ) -> Result<Cut, AllocError>
     requires { AreEnds net.now ends.0 ends.1 }
-    ensures answer { IfOk result (λ cut. IsAnswer net.now ends.0 ends.1 (said_by_cut cut)) }
-    ensures cheapest { IfOk result (λ cut. IsCheapestSaid net.now ends.0 ends.1 (said_by_cut cut)) }
+    ensures answer { IfOk result (λ cut. IsAnswer net.now ends.0 ends.1 (cut_claim cut)) }
+    ensures cheapest { IfOk result (λ cut. IsCheapestAnswer net.now ends.0 ends.1 (cut_claim cut)) }
 {
     let (from, to) = ends;
     let part = between(alloc, net, from, to)?;
-    let here = (part.places[from as usize], part.places[to as usize]);
-    let cut = on_lowered(rt, alloc, &part.net, here, workers, gate)?;
-    let whole = whole_cut(alloc, &cut, &part.numbers)?;
+    let here = (
+        part.new_numbers[from as usize],
+        part.new_numbers[to as usize],
+    );
+    let cut = solve_reduced(rt, alloc, &part.net, here, workers, gate)?;
+    let whole = cut_in_net(alloc, &cut, &part.numbers)?;
     Ok(whole)
 }
 
@@ -204,14 +209,14 @@ fn answer_between<R: Threads + Wait + Sync, G: Gate + Sync>(
     gate: &G,
 ) -> Result<Answer, AllocError>
     requires { AreEnds net.now ends.0 ends.1 }
-    ensures answer { IfOk result (λ answer. IsAnswerWithPins net.now ends.0 ends.1 (said_by answer)) }
-    ensures cheapest { IfOk result (λ answer. IsCheapestSaidWithPins net.now ends.0 ends.1 (said_by answer)) }
+    ensures answer { IfOk result (λ answer. IsAnswerWithPins net.now ends.0 ends.1 (answer_claim answer)) }
+    ensures cheapest { IfOk result (λ answer. IsCheapestAnswerWithPins net.now ends.0 ends.1 (answer_claim answer)) }
 {
     let (from, to) = ends;
     if let Some(answer) = blocked(alloc, net, from, to)? {
         return Ok(answer);
     }
-    let cut = in_part(rt, alloc, net, ends, workers, gate)?;
+    let cut = solve_subnetwork(rt, alloc, net, ends, workers, gate)?;
     Ok(as_answer(net, cut, from, to))
 }
 
@@ -233,13 +238,13 @@ pub fn solve<R: Threads + Wait + Sync, G: Gate + Sync>(
     // The number of workers is 1 to 64.
     requires workers { (1 ≤ workers) × (workers ≤ 64) }
     // The result is a cheapest cut with a flow that proves it, a path of pinned imports, or the error in the names.
-    ensures exact { Tells said_by result (IsSolveOutcome net.now from.now to.now) }
+    ensures exact { HasOutcome answer_claim result (IsSolveOutcome net.now from.now to.now) }
     // An error in the names is returned, unless an allocation fails.
-    ensures refused { (refusal : SolveRefusal) → IsSolveOutcome net.now from.now to.now (Err refusal) → Tells said_by result (λ o. o ≡ Err refusal) }
+    ensures refused { (refusal : SolveError) → IsSolveOutcome net.now from.now to.now (Err refusal) → HasOutcome answer_claim result (λ o. o ≡ Err refusal) }
     // Each import of a cut is needed: if only the others are removed, a path still leads from the one module to the other.
-    ensures needed { IfOk result (λ answer. AreNeeded net.now from.now to.now (said_by answer)) }
+    ensures needed { IfOk result (λ answer. AreNeeded net.now from.now to.now (answer_claim answer)) }
 {
-    net.keeps();
+    net.invariants();
     let from = module_of(alloc, net, from)?;
     let to = module_of(alloc, net, to)?;
     if from == to {

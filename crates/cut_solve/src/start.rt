@@ -1,11 +1,11 @@
 //! The input of a preflow: imports with reduced capacities, reversed if that is cheaper.
 ghost use Rattle.std.specs.Prelude.{IfOk, length};
-ghost use Rattle.cut_part.specs.Narrowing.{IsNarrowed};
+ghost use Rattle.cut_part.specs.CapacityReduction.{IsReduced};
 ghost use Rattle.cut_preflow.specs.Flows.{AreEnds};
-ghost use Rattle.cut_solve.specs.Starts.{with_imports, IsStart};
+ghost use Rattle.cut_solve.specs.Starts.{with_imports, IsPreflowInput};
 
 use cut_net::{Net, Priced};
-use cut_part::{narrowed, numbers_along, turned_imports};
+use cut_part::{reduced_capacities, reversed_imports, topological_imports};
 use std::alloc::{AllocError, Global};
 
 /// Imports in the order of a network's imports, and the source and the sink of a preflow on them.
@@ -20,13 +20,13 @@ pub struct Start {
 }
 
 /// The imports, each with the weight reduced to what can flow in and out along paths of the network.
-fn narrow(alloc: Global, net: &Net, from: u32, to: u32) -> Result<Vec<Priced>, AllocError>
+fn reduction(alloc: Global, net: &Net, from: u32, to: u32) -> Result<Vec<Priced>, AllocError>
     requires { AreEnds net.now from to }
-    ensures { IfOk result (λ v. IsNarrowed net.now (with_imports net.now v.items) from to) }
+    ensures { IfOk result (λ v. IsReduced net.now (with_imports net.now v.items) from to) }
 {
-    net.keeps();
-    let order = numbers_along(alloc, net.imports(), net.nodes())?;
-    narrowed(alloc, net.imports(), net.nodes(), &order, from, to)
+    net.invariants();
+    let order = topological_imports(alloc, net.imports(), net.nodes())?;
+    reduced_capacities(alloc, net.imports(), net.nodes(), &order, from, to)
 }
 
 /// The weight of the imports by a module, at most 2^64 - 1.
@@ -51,15 +51,15 @@ fn weight_to(imports: &[Priced], module: u32) -> u64 {
     sum
 }
 
-/// The input of a preflow between two modules: imports with reduced capacities. They are reversed if the imports of `to` weigh less than those
-/// by `from`, since less excess has to return then. Fails if an allocation fails.
-pub fn start_between(alloc: Global, net: &Net, from: u32, to: u32) -> Result<Start, AllocError>
+/// The input of a preflow between two modules: imports with reduced capacities. They are reversed if the imports of `to` weigh less than
+/// those by `from`, since less excess has to return then. Fails if an allocation fails.
+pub fn preflow_input(alloc: Global, net: &Net, from: u32, to: u32) -> Result<Start, AllocError>
     // `from` and `to` are two modules.
     requires { AreEnds net.now from to }
     // The imports are those between the two modules, as they are or reversed, with capacities that allow the same flows.
-    ensures { IfOk result (λ s. IsStart net.now from to s.imports.items s.source s.sink) }
+    ensures { IfOk result (λ s. IsPreflowInput net.now from to s.imports.items s.source s.sink) }
 {
-    let imports = narrow(alloc, net, from, to)?;
+    let imports = reduction(alloc, net, from, to)?;
     if weight_from(&imports, from) <= weight_to(&imports, to) {
         return Ok(Start {
             imports,
@@ -67,7 +67,7 @@ pub fn start_between(alloc: Global, net: &Net, from: u32, to: u32) -> Result<Sta
             sink: to,
         });
     }
-    let imports = turned_imports(alloc, &imports)?;
+    let imports = reversed_imports(alloc, &imports)?;
     Ok(Start {
         imports,
         source: to,

@@ -22,7 +22,7 @@ fn rest(times: u32) {
 
 /// Takes the lock. A worker that finds it taken yields, twice as often each time. It doesn't queue: a queue wakes a thread for each step,
 /// which takes longer than the step.
-fn aside<'a, L: NetworkLedger, R: Wait>(
+fn lock_with_backoff<'a, L: NetworkLedger, R: Wait>(
     rt: &R,
     locked: &'a Locked<L>,
 ) -> MutexGuard<'a, Preflow<L>> {
@@ -52,8 +52,8 @@ pub fn look<L: NetworkLedger>(preflow: &Preflow<L>, worker: u32) -> Look
     }
 }
 
-/// The event that the worker is to try. Without one, marks its share.
-fn look_or_mark<L: NetworkLedger>(
+/// The event that the worker is to try. Without one, flags its share.
+fn event_or_mark<L: NetworkLedger>(
     preflow: &Preflow<L>,
     number: u32,
     share: &mut Share<L>,
@@ -71,7 +71,7 @@ fn look_or_mark<L: NetworkLedger>(
     }
 }
 
-/// Tries an event, and finds the next one. Without one, marks the share.
+/// Tries an event, and finds the next one. Without one, flags the share.
 fn next<L: NetworkLedger>(
     preflow: &mut Preflow<L>,
     event: Event,
@@ -85,7 +85,7 @@ fn next<L: NetworkLedger>(
     if preflow.apply_as(event, share) == Outcome::Refused {
         return None;
     }
-    look_or_mark(preflow, number, share)
+    event_or_mark(preflow, number, share)
 }
 
 /// Runs the worker of this number until no module is active or an allocation fails in a step; then the share is marked.
@@ -105,14 +105,19 @@ pub fn worker<L: NetworkLedger, R: Wait, G: Gate>(
     // The share counts at least the steps that it counted before.
     ensures counted { share.count ≤ result.count }
 {
-    let Some(mut event) = look_or_mark(&*aside(rt, locked), number, &mut share) else {
+    let Some(mut event) = event_or_mark(&*lock_with_backoff(rt, locked), number, &mut share) else {
         return share;
     };
     let mut turn = 0u64;
     for _ in rt.forever() {
         gate.at(number, turn);
         turn = turn.saturating_add(1);
-        let Some(found) = next(&mut *aside(rt, locked), event, number, &mut share) else {
+        let Some(found) = next(
+            &mut *lock_with_backoff(rt, locked),
+            event,
+            number,
+            &mut share,
+        ) else {
             return share;
         };
         event = found;

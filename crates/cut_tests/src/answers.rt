@@ -1,10 +1,11 @@
-//! Answers of the plain solver and of the solver, each compared with the checker, and each cut with a preflow that nobody shares.
+//! Results of the sequential solver and of the solver, compared with the checker, and each cut with a preflow of a single worker.
 ghost use Rattle.std.specs.Prelude.{◌<◌, ◌≤◌, length};
 
-use crate::preflows::{Trial, try_on};
-use crate::told::is_told;
+use crate::description::expect;
+use crate::preflows::{Scenario, try_on};
 use crate::worked::{
-    A_WAY_BACK, DIAMOND, THREE_IMPORTS, TWO_IMPORTS, TWO_WAYS, net_of, told_answer, told_removals,
+    A_WAY_BACK, DIAMOND, THREE_IMPORTS, TWO_IMPORTS, TWO_WAYS, describe_answer, describe_removals,
+    net_of,
 };
 use cut_check::{Verdict, check};
 use cut_net::{Answer, Net, Priced};
@@ -16,16 +17,16 @@ use std::sync::Wait;
 use std::test::Fail;
 use std::thread::Threads;
 
-/// Three ways from A to B. The modules are A to F.
+/// Three paths from A to B. The modules are A to F.
 const WAYS: &[u8] =
     b"import A C 1\nimport A D 1\nimport A E 1\nimport C B 1\nimport D B 1\nimport E F 1\nimport F B 1\n";
 
 /// Weights with a zero, and a module without imports.
 const MIXED: &[u8] = b"import M B 2\n\nmodule Z\nimport A M 3\nmodule A\nimport A B 0";
 
-/// A network, its prices, the names of two modules, and the answer by the numbers of the modules.
+/// A network, its prices, the names of two modules, and the result, by the numbers of the modules.
 const ROWS: &[(&[u8], &[u8], (&str, &str), &str)] = &[
-    // Two imports in a row are cut at the first.
+    // Of two consecutive imports the first is cut.
     (
         TWO_IMPORTS,
         b"",
@@ -39,14 +40,14 @@ const ROWS: &[(&[u8], &[u8], (&str, &str), &str)] = &[
         ("A", "B"),
         "weight 2 remove 0 1 2 flow 0 1 2",
     ),
-    // A V leaves the modules that are near, and no chain needs it.
+    // The import A V leaves the minimal source side, but the cut doesn't need it.
     (
         TWO_WAYS,
         b"",
         ("A", "D"),
         "weight 1 remove 2 1 1 flow 0 2 1 flow 2 1 1",
     ),
-    // Two imports with a third of weight 0 go together.
+    // Two parallel imports with a third of weight 0 are cut together.
     (
         MIXED,
         b"",
@@ -55,14 +56,14 @@ const ROWS: &[(&[u8], &[u8], (&str, &str), &str)] = &[
     ),
     // Nothing leads to a module without imports.
     (MIXED, b"", ("A", "Z"), "weight 0"),
-    // Two ways part behind a module.
+    // Two paths branch after a module.
     (
         b"import A M 1\nimport M P 1\nimport M Q 1\nimport P B 1\nimport Q B 1\n",
         b"",
         ("A", "B"),
         "weight 1 remove 0 2 1 flow 0 2 1 flow 2 3 1 flow 3 1 1",
     ),
-    // Two ways meet before a module.
+    // Two paths join before a module.
     (
         b"import A P 1\nimport A Q 1\nimport P M 1\nimport Q M 1\nimport M B 1\n",
         b"",
@@ -71,24 +72,24 @@ const ROWS: &[(&[u8], &[u8], (&str, &str), &str)] = &[
     ),
     // An import of weight 0 is cut.
     (b"import M N 0\n", b"", ("M", "N"), "weight 0 remove 0 1 0"),
-    // Where there is no chain nothing is cut.
+    // Without a path nothing is cut.
     (TWO_IMPORTS, b"", ("B", "A"), "weight 0"),
     (DIAMOND, b"", ("D", "A"), "weight 0"),
-    // A path goes back over flow.
+    // An augmenting path cancels flow.
     (
         A_WAY_BACK,
         b"",
         ("S", "T"),
         "weight 2 remove 0 2 1 remove 0 3 1 flow 0 2 1 flow 0 3 1 flow 2 5 1 flow 3 4 1 flow 4 1 1 flow 5 1 1",
     ),
-    // A line of three is cut at the first.
+    // A path of three imports is cut at the first.
     (
         THREE_IMPORTS,
         b"",
         ("A", "B"),
         "weight 2 remove 0 2 2 flow 0 2 2 flow 2 3 2 flow 3 1 2",
     ),
-    // Two ways are cut where each is cheapest.
+    // Each of two paths is cut at its cheapest import.
     (
         DIAMOND,
         b"",
@@ -103,42 +104,42 @@ const ROWS: &[(&[u8], &[u8], (&str, &str), &str)] = &[
         "weight 9223372036854775807 remove 1 2 9223372036854775807 \
         flow 0 1 9223372036854775807 flow 1 2 9223372036854775807",
     ),
-    // Two ways are cut at the first imports where the later ones weigh as much.
+    // Two paths are cut at the first imports if the later ones weigh as much.
     (
         b"import A B 1\nimport C D 3\nimport A C 2\nimport B D 2\n",
         b"",
         ("A", "D"),
         "weight 3 remove 0 1 1 remove 0 2 2 flow 0 1 1 flow 0 2 2 flow 1 3 1 flow 2 3 2",
     ),
-    // Several flows have the value, and the cut is one.
+    // Several flows have the maximum value, and the cut is unique.
     (
         b"import A M 2\nimport A N 2\nimport M B 3\nimport M N 1\nimport N B 3\nimport N C 1\nimport C B 1\n",
         b"",
         ("A", "B"),
         "weight 4 remove 0 3 2 remove 0 4 2 flow 0 3 2 flow 0 4 2 flow 2 1 1 flow 3 1 2 flow 4 1 1 flow 4 2 1",
     ),
-    // A pin moves the cut behind it.
+    // A pin moves the cut to a later import.
     (
         DIAMOND,
         b"pin A B\n",
         ("A", "D"),
         "weight 4 remove 1 3 3 remove 2 3 1 flow 0 1 3 flow 0 2 1 flow 1 3 3 flow 2 3 1",
     ),
-    // No cut parts a chain of pins.
+    // No cut exists if a path of pinned imports joins the modules.
     (
         DIAMOND,
         b"pin A B\npin B D\n",
         ("A", "D"),
         "blocked [0, 1, 3]",
     ),
-    // Where it leads to another module it is no obstacle.
+    // A path of pinned imports to another module is no obstacle.
     (
         DIAMOND,
         b"pin A B\npin B D\n",
         ("A", "C"),
         "weight 2 remove 0 2 2 flow 0 2 2",
     ),
-    // Pins on each way, and on none all of them.
+    // Pinned imports on each path, and not all imports of any path.
     (
         WAYS,
         b"pin A C\npin D B\npin E F\npin F B\n",
@@ -146,16 +147,16 @@ const ROWS: &[(&[u8], &[u8], (&str, &str), &str)] = &[
         "weight 3 remove 0 3 1 remove 0 4 1 remove 2 1 1 \
         flow 0 2 1 flow 0 3 1 flow 0 4 1 flow 2 1 1 flow 3 1 1 flow 4 5 1 flow 5 1 1",
     ),
-    // Pins that lead away are no obstacle.
+    // Pinned imports on no path are no obstacle.
     (DIAMOND, b"pin A B\npin B D\n", ("D", "A"), "weight 0"),
-    // A price of 0 is cut for nothing.
+    // An import with price 0 is cut at no cost.
     (
         DIAMOND,
         b"price A C 0\n",
         ("A", "D"),
         "weight 1 remove 0 1 1 remove 0 2 0 flow 0 1 1 flow 1 3 1",
     ),
-    // Prices by the greatest number.
+    // Prices of the maximum number.
     (
         TWO_IMPORTS,
         b"price A M 1099511627776\npin M B\n",
@@ -168,7 +169,7 @@ const ROWS: &[(&[u8], &[u8], (&str, &str), &str)] = &[
         ("A", "B"),
         "weight 2 remove 2 1 2 flow 0 2 2 flow 2 1 2",
     ),
-    // The chain of pins that is told is a shortest one, the first of these.
+    // The reported path of pinned imports is a shortest one, and the lexicographically smallest of these.
     (
         WAYS,
         b"pin A E\npin E F\npin F B\n",
@@ -187,16 +188,16 @@ const ROWS: &[(&[u8], &[u8], (&str, &str), &str)] = &[
         ("A", "B"),
         "blocked [0, 2, 1]",
     ),
-    // The first unknown name is told.
+    // The first unknown name is reported.
     (TWO_IMPORTS, b"", ("Q", "Z"), "no module is named Q"),
     (TWO_IMPORTS, b"", ("Q", "B"), "no module is named Q"),
     (TWO_IMPORTS, b"", ("A", "Q"), "no module is named Q"),
     (TWO_IMPORTS, b"", ("Q", "Q"), "no module is named Q"),
-    // One module is not cut from itself.
+    // A module can't be cut from itself.
     (TWO_IMPORTS, b"", ("M", "M"), "both names are of one module"),
 ];
 
-/// Whether the imports lead out of the marked modules.
+/// Whether exactly these imports lead out of the set of modules.
 fn leave(imports: &[Priced], side: &[bool]) -> bool {
     for import in imports {
         if side.get(import.from as usize) != Some(&true)
@@ -208,8 +209,8 @@ fn leave(imports: &[Priced], side: &[bool]) -> bool {
     true
 }
 
-/// Whether the imports of a cut lead out of the modules that are near once a preflow is settled from its opening alone. The cut has its
-/// flow then.
+/// Whether the imports of a cut are exactly those that leave the minimal source side, once a preflow has run to completion without other
+/// workers. The cut has its flow then.
 fn is_settled(
     alloc: Global,
     net: &Net,
@@ -219,14 +220,14 @@ fn is_settled(
     match answer {
         Answer::Blocked { .. } => Ok(true),
         Answer::Cut(cut) => {
-            let settled = try_on(alloc, net, ends, Trial::Steps(&[]))?;
+            let settled = try_on(alloc, net, ends, Scenario::Steps(&[]))?;
             cut.flow = settled.flow;
             Ok(leave(&cut.imports, &settled.side))
         }
     }
 }
 
-/// Whether the checker says yes to an answer, also with the flow of a preflow, and the preflow shows the same cut.
+/// Whether the checker accepts a result, also with the flow of a preflow, and the preflow gives an equal cut.
 fn stands(
     alloc: Global,
     net: &Net,
@@ -242,8 +243,8 @@ fn stands(
     Ok(settled && matches!((found, again), (Verdict::Yes, Verdict::Yes)))
 }
 
-/// Tells an answer, whole or but for its flow, and whether it stands.
-fn told_answered(
+/// Appends a result, with or without its flow, and whether the checker accepts it.
+fn describe_solution(
     alloc: Global,
     net: &Net,
     names: (&str, &str),
@@ -256,19 +257,19 @@ fn told_answered(
     if from >= net.nodes() || to >= net.nodes() {
         return Err(AllocError);
     }
-    let mut told = if whole {
-        told_answer(alloc, &answer)?
+    let mut description = if whole {
+        describe_answer(alloc, &answer)?
     } else {
-        told_removals(alloc, &answer)?
+        describe_removals(alloc, &answer)?
     };
     if !stands(alloc, net, (from, to), answer)? {
-        told.push_str(", which doesn't stand")?;
+        description.push_str(", which doesn't stand")?;
     }
-    Ok(told)
+    Ok(description)
 }
 
-/// What is told of what was found of these names. No answer may fall.
-pub(crate) fn told(
+/// The description of a result for these names. No result is rejected.
+pub(crate) fn description(
     alloc: Global,
     net: &Net,
     names: (&str, &str),
@@ -276,13 +277,13 @@ pub(crate) fn told(
     whole: bool,
 ) -> Result<String, AllocError> {
     match found {
-        Ok(answer) => told_answered(alloc, net, names, answer, whole),
+        Ok(answer) => describe_solution(alloc, net, names, answer, whole),
         Err(SolveFault::Memory) => Err(AllocError),
         Err(fault) => format!(in alloc; "{fault}"),
     }
 }
 
-/// Checks that the solver finds the same by so many workers, but for the flow, of which there may be several.
+/// Checks that the solver finds an equal result with this many workers, except for the flow, as there may be several.
 pub(crate) fn is_solved<R: Abort + Threads + Wait + AllocGlobal + Sync>(
     rt: &R,
     net: &Net,
@@ -293,8 +294,8 @@ pub(crate) fn is_solved<R: Abort + Threads + Wait + AllocGlobal + Sync>(
     requires { (1 ≤ workers) × (workers ≤ 64) }
 {
     let found = solve(rt, rt.alloc(), net, names.0, names.1, workers, &OpenGate);
-    let told = told(rt.alloc(), net, names, found, false)?;
-    assert!(rt; want.starts_with(told.as_str()), "{told}");
+    let description = description(rt.alloc(), net, names, found, false)?;
+    assert!(rt; want.starts_with(description.as_str()), "{description}");
     Ok(())
 }
 
@@ -303,8 +304,8 @@ fn worked_networks_have_their_answers(rt: HostRuntime) -> Result<(), Fail> {
     for (net, prices, names, want) in ROWS {
         let net = net_of(rt.alloc(), net, prices)?;
         let found = plain(rt.alloc(), &net, names.0, names.1);
-        let told = told(rt.alloc(), &net, *names, found, true)?;
-        is_told(&rt, told.as_str(), want);
+        let description = description(rt.alloc(), &net, *names, found, true)?;
+        expect(&rt, description.as_str(), want);
         is_solved(&rt, &net, *names, 1, want)?;
         is_solved(&rt, &net, *names, 2, want)?;
     }

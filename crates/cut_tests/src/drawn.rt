@@ -1,21 +1,21 @@
-//! Seeded graphs, with arcs that are parallel or opposite or lead from a node to itself, and that carry nothing at most or very much.
+//! Seeded graphs with parallel and opposite arcs, self-loops, and capacities of 0 and very large ones.
 ghost use Rattle.std.specs.Prelude.{◌<◌, ◌≤◌, All, IfOk};
 
 use crate::generated::Seed;
-use cut_residual::Arc;
+use residual_graph::Arc;
 use std::alloc::{AllocError, Global};
 
-/// How many graphs are tried.
+/// The number of graphs.
 pub(crate) const GRAPHS: u32 = 400;
 
-/// A number of nodes, and arcs between them.
+/// A number of nodes, and the arcs between them.
 #[derive(Drop)]
 pub(crate) struct Drawn {
     pub(crate) nodes: u32,
     pub(crate) arcs: Vec<Arc>,
 }
 
-/// Two of the nodes; where arcs lead onwards alone, the second has a greater number.
+/// Two random nodes; in a graph without cycles the second has the greater number.
 fn ends(seed: &mut Seed, nodes: u32, onwards: bool) -> (u32, u32)
     requires { 2 ≤ nodes }
     ensures from { result.0 < nodes }
@@ -50,7 +50,7 @@ fn drawn_arc(seed: &mut Seed, nodes: u32, onwards: bool, carries: bool) -> Arc
     }
 }
 
-/// A graph of 2 to 9 nodes and at most 39 arcs. Its arcs may have no cycle, and may carry something already.
+/// A graph of 2 to 9 nodes and at most 39 arcs. It may have no cycle, and its arcs may already carry flow.
 pub(crate) fn draw(
     alloc: Global,
     seed: &mut Seed,

@@ -1,21 +1,22 @@
-//! The trial as it was before it passed by arcs in one loop: it looks up one residual arc after the other. The trial of today is compared with it,
-//! so its steps stay as they are. Nothing is proved of it but that it is safe.
+//! An initial flow by a simpler algorithm, which inspects one residual arc after the other. It is the reference for `initial_flow`, so its
+//! steps stay as they are.
+//! Nothing is proved of it but safety.
 ghost use Rattle.std.specs.Prelude.{◌≡◌, ◌<◌, All, IfOk, IfSome, OnOk, length, not, vec_len};
-ghost use Rattle.cut_residual.specs.OutArcs.{IsOutOf};
+ghost use Rattle.residual_graph.specs.OutArcs.{IsOutOf};
 
-use cut_residual::{OutArc, ResidualArc, ResidualGraph, order_of};
+use residual_graph::{OutArc, ResidualArc, ResidualGraph, topological_order};
 use std::alloc::{AllocError, Global};
 use std::marker::Model;
 
-/// For each node how many residual arcs lead from it to the end at least, and the number of nodes where none do; and the nodes from which some
-/// do, the nearest first.
+/// For each node its distance to the sink in the residual graph, or the number of nodes if there is no path; and the nodes with a path,
+/// sorted by distance.
 #[derive(Drop)]
 struct Distances {
     labels: Vec<u32>,
     reached: Vec<u32>,
 }
 
-/// The same arc the other way.
+/// The reverse of a residual arc.
 fn opposite(step: ResidualArc) -> ResidualArc
     ensures { result ≡ record { arc = step.arc; forward = not step.forward } }
 {
@@ -25,7 +26,7 @@ fn opposite(step: ResidualArc) -> ResidualArc
     }
 }
 
-/// Labels the nodes without a label that have a residual arc to this node, and adds them to those that were reached.
+/// Labels the unlabelled nodes that have a residual arc to this node, and appends them to the reached ones.
 fn spread(
     graph: &ResidualGraph,
     node: u32,
@@ -50,7 +51,7 @@ fn spread(
     Ok(())
 }
 
-/// The distances to the end.
+/// The distances to the sink.
 fn distances_to(alloc: Global, graph: &ResidualGraph, end: u32) -> Result<Distances, AllocError>
     requires { end < graph.now.nodes }
     ensures labels { IfOk result (λ d. vec_len d.labels ≡ graph.now.nodes) }
@@ -71,27 +72,27 @@ fn distances_to(alloc: Global, graph: &ResidualGraph, end: u32) -> Result<Distan
     Ok(Distances { labels, reached })
 }
 
-/// A graph with its flow, and for each node its excess and its label; those that wait have excess.
+/// A graph with its flow, the excess and the label of each node, and the queue of active nodes.
 #[derive(Drop)]
-struct Trial {
+struct Scenario {
     graph: ResidualGraph,
     excesses: Vec<u64>,
     labels: Vec<u32>,
     waiting: Vec<u32>,
 }
 
-impl Model for Trial {
-    ghost use Rattle.cut_residual.specs.Graphs.{Graph};
-    ghost use Rattle.cut_trial.specs.Trials.{IsTrial};
+impl Model for Scenario {
+    ghost use Rattle.residual_graph.specs.Graphs.{Graph};
+    ghost use Rattle.initial_flow.specs.Heuristics.{IsHeuristic};
 
     ghost Value = { Graph };
 
     ghost view = { λ t. t.graph };
 
-    ghost invariant = { λ t. IsTrial t.graph.nodes t.excesses.items t.labels.items t.waiting.items };
+    ghost invariant = { λ t. IsHeuristic t.graph.nodes t.excesses.items t.labels.items t.waiting.items };
 }
 
-/// The nodes with excess, the last first, without the end.
+/// The active nodes without the sink; the last one is discharged first.
 fn with_excess(
     alloc: Global,
     nodes: &[u32],
@@ -111,8 +112,8 @@ fn with_excess(
     Ok(found)
 }
 
-impl Trial {
-    /// The residual arc at this place of those that leave from a node, if there is one.
+impl Scenario {
+    /// The residual arc at this index among those that leave a node, if there is one.
     fn out_at(&self, node: u32, place: usize) -> Option<OutArc>
         requires { node < self.now.nodes }
         ensures { IfSome result (IsOutOf self.now node) }
@@ -125,7 +126,7 @@ impl Trial {
         }
     }
 
-    /// Sends over a residual arc of a node what is left of it, and at most this amount. A node that had no excess waits then.
+    /// Pushes at most this amount over a residual arc, up to its residual capacity. A node without excess before becomes active.
     fn send(&mut self, node: u32, out: OutArc, most: u64) -> Result<(), AllocError>
         requires node { node < self.old.nodes }
         requires out { IsOutOf self.old node out }
@@ -143,8 +144,8 @@ impl Trial {
         Ok(())
     }
 
-    /// Sends the excess of a node over a residual arc that leads one label down. Answers the label that it leads to, and 2^32 - 1 where
-    /// nothing is left of it.
+    /// Pushes the excess of a node over a residual arc to a node whose label is lower by one. Returns the label of the head, or 2^32 - 1 if
+    /// the residual capacity is used up.
     fn push(&mut self, node: u32, out: OutArc) -> Result<u32, AllocError>
         requires node { node < self.old.nodes }
         requires out { IsOutOf self.old node out }
@@ -164,8 +165,8 @@ impl Trial {
         Ok(label)
     }
 
-    /// Sends on what a node has too much, one label down. Where something is left in the end, answers the least label that it could still
-    /// go to.
+    /// Pushes the excess of a node to nodes whose label is lower by one. If excess is left, returns the lowest label of a head of a
+    /// residual arc.
     fn push_all(&mut self, node: u32) -> Result<u32, AllocError>
         requires { node < self.old.nodes }
         ensures { OnOk result (self.new.nodes ≡ self.old.nodes) }
@@ -184,8 +185,8 @@ impl Trial {
         Ok(least)
     }
 
-    /// Sends on what a node has too much. Where something is left, its label is raised, and it waits again where that stays below the
-    /// number of nodes. Answers whether it was raised.
+    /// Discharges a node. If excess is left, its label is raised, and it stays active if the label is below the number of nodes. Returns
+    /// whether the label was raised.
     fn discharge(&mut self, node: u32) -> Result<bool, AllocError>
         requires { node < self.old.nodes }
         ensures { OnOk result (self.new.nodes ≡ self.old.nodes) }
@@ -201,7 +202,7 @@ impl Trial {
         Ok(true)
     }
 
-    /// Discharges those that wait, in turn, until none do or as many were raised as there are nodes.
+    /// Discharges the active nodes in turn, until none is left or as many labels were raised as there are nodes.
     fn discharge_all(&mut self, end: u32) -> Result<(), AllocError>
         ensures { OnOk result (self.new.nodes ≡ self.old.nodes) }
     {
@@ -218,7 +219,7 @@ impl Trial {
         Ok(())
     }
 
-    /// Labels all nodes by their distances to the end, lets those wait from which something may still get there, and answers whether there is one.
+    /// Labels all nodes by their distances to the sink, makes those with excess and a path active, and returns whether there is one.
     fn label_all(&mut self, alloc: Global, end: u32) -> Result<bool, AllocError>
         requires { end < self.old.nodes }
         ensures { OnOk result (self.new ≡ self.old) }
@@ -229,7 +230,7 @@ impl Trial {
         Ok(!self.waiting.is_empty())
     }
 
-    /// Sends everything over the arcs that leave from the start.
+    /// Saturates the arcs that leave the source.
     fn open(&mut self, start: u32) -> Result<(), AllocError>
         requires { start < self.old.nodes }
         ensures { OnOk result (self.new.nodes ≡ self.old.nodes) }
@@ -245,7 +246,7 @@ impl Trial {
         Ok(())
     }
 
-    /// Sends what a node has too much back over the arcs that lead to it.
+    /// Pushes the excess of a node back over its incoming arcs.
     fn take_back(&mut self, node: u32) -> Result<(), AllocError>
         requires { node < self.old.nodes }
         ensures { OnOk result (self.new.nodes ≡ self.old.nodes) }
@@ -265,8 +266,8 @@ impl Trial {
         Ok(())
     }
 
-    /// Takes back what is stuck, from the last node of the order to the first.
-    fn take_all_back(&mut self, order: &[u32], end: u32) -> Result<(), AllocError>
+    /// Returns the excess that can't reach the sink, from the last node of the order to the first.
+    fn return_all(&mut self, order: &[u32], end: u32) -> Result<(), AllocError>
         requires { All (λ n. n < self.old.nodes) order.now }
         ensures { OnOk result (self.new.nodes ≡ self.old.nodes) }
     {
@@ -279,7 +280,7 @@ impl Trial {
         Ok(())
     }
 
-    /// Rounds until nothing more gets to the end.
+    /// Runs rounds until no more excess reaches the sink.
     fn run(&mut self, alloc: Global, end: u32) -> Result<(), AllocError>
         requires { end < self.old.nodes }
         ensures { OnOk result (self.new.nodes ≡ self.old.nodes) }
@@ -293,7 +294,7 @@ impl Trial {
         Ok(())
     }
 
-    /// Sends everything from the start, gets to the end what it can in rounds, and takes back what is stuck.
+    /// Saturates the arcs of the source, sends to the sink what can reach it, and returns the rest.
     fn settle(
         &mut self,
         alloc: Global,
@@ -308,13 +309,13 @@ impl Trial {
     {
         self.open(start)?;
         self.run(alloc, end)?;
-        self.take_all_back(order, end)
+        self.return_all(order, end)
     }
 }
 
-/// A flow from the start to the end over the arcs of a graph that carries none, as great as a preflow finds it. That is so where
-/// the arcs have no cycle; in any case no flow is above its arc's capacity. Fails where memory is refused.
-pub(crate) fn trial_flow(
+/// A flow from the source to the sink over the arcs of a graph without flow, of maximum value if the arcs have no cycle. No flow exceeds
+/// its arc's capacity. Fails if an allocation fails.
+pub(crate) fn find_initial_flow(
     alloc: Global,
     graph: ResidualGraph,
     start: u32,
@@ -324,8 +325,8 @@ pub(crate) fn trial_flow(
     requires end { end < graph.nodes }
 {
     let nodes = graph.nodes();
-    let order = order_of(alloc, &graph)?;
-    let mut trial = Trial {
+    let order = topological_order(alloc, &graph)?;
+    let mut trial = Scenario {
         graph,
         excesses: vec![in alloc; 0u64; nodes as usize]?,
         labels: vec![in alloc; nodes; nodes as usize]?,

@@ -1,11 +1,11 @@
-//! Two workers whose turns a gate orders, and workers whose gate is open.
+//! Two workers whose steps a gate orders, and workers with an open gate.
 ghost use Rattle.std.specs.Prelude.{◌≡◌, ◌≤◌, false};
 ghost use Rattle.cut_net.specs.Pins.{PinChain};
 ghost use Rattle.cut_preflow.specs.Flows.{AreEnds, network_between};
 
+use crate::description::expect;
 use crate::preflows::is_free;
-use crate::told::is_told;
-use crate::worked::{THREE_IMPORTS, net_of, told_answer};
+use crate::worked::{THREE_IMPORTS, describe_answer, net_of};
 use cut_net::Net;
 use cut_preflow::{NetworkLedger, PARTS, Preflow, Share};
 use cut_solve::{Gate, Locked, OpenGate, solve, worker};
@@ -19,18 +19,18 @@ use std::thread;
 use std::thread::Threads;
 use std::time::{Clock, Duration};
 
-/// Waits at most this often.
+/// The maximum number of waits.
 const MOST_WAITS: u32 = 1000;
 
-/// Holds worker 0 at turn 0 until worker 1 has come to turn 1, and worker 1 at turn 0 until worker 0 has come to turn 0 and at turn 1
-/// until worker 0 has come to turn 2.
+/// A gate that holds worker 0 at step 0 until worker 1 has come to step 1, and worker 1 at step 0 until worker 0 has come to step 0, and at
+/// step 1 until worker 0 has come to step 2.
 #[derive(Drop)]
 struct Holds<'a, R> {
     clock: &'a R,
-    /// How many turns each worker has come to.
+    /// The number of steps that each worker has come to.
     by_first: AtomicU64,
     by_second: AtomicU64,
-    /// How many of the three holds were let go in time.
+    /// The number of the three holds that were released in time.
     let_go: AtomicU64,
 }
 
@@ -75,9 +75,9 @@ impl<R: Clock> Gate for Holds<'_, R> {
     }
 }
 
-/// What both shares and the preflow came to: whether the shares came back marked and count the steps, how many are out, whether it is
-/// quiet, whether each worker took a step, and the events.
-fn told_two<L: NetworkLedger>(
+/// The state of both shares and of the preflow: whether both shares are marked and their counts sum to the number of events, the number of
+/// shares out, whether no node is active, whether each worker took a step, and the events.
+fn describe_two_workers<L: NetworkLedger>(
     alloc: Global,
     preflow: &mut Preflow<L>,
     first: Share<L>,
@@ -99,9 +99,9 @@ fn told_two<L: NetworkLedger>(
     )
 }
 
-/// What one worker alone left: whether its share came back marked and counts the steps, and whether these were none or all; then what
-/// is left is settled: how many shares are out, and whether it is quiet after how many steps.
-fn told_one<L: NetworkLedger>(
+/// The state after a single worker: whether its share is marked and counts all events, and whether it took none or all; then the number of
+/// shares out, whether no node is active, and the number of events after completion.
+fn describe_one_worker<L: NetworkLedger>(
     alloc: Global,
     preflow: &mut Preflow<L>,
     share: Share<L>,
@@ -119,7 +119,7 @@ fn told_one<L: NetworkLedger>(
     )
 }
 
-/// Two workers in threads of their own go on at a gate.
+/// Two workers in threads of their own run with a gate.
 fn join<R: Threads + Wait + Sync, L: NetworkLedger + Send + Sync, G: Gate + Sync>(
     rt: &R,
     locked: &Locked<L>,
@@ -137,7 +137,7 @@ fn join<R: Threads + Wait + Sync, L: NetworkLedger + Send + Sync, G: Gate + Sync
     )
 }
 
-/// Two workers go on from the opening at a gate.
+/// Two workers run from the initial preflow with a gate.
 fn by_two<R: Threads + Wait + Sync, L: NetworkLedger + Send + Sync, G: Gate + Sync>(
     rt: &R,
     alloc: Global,
@@ -149,10 +149,10 @@ fn by_two<R: Threads + Wait + Sync, L: NetworkLedger + Send + Sync, G: Gate + Sy
     };
     let locked: Locked<L> = Mutex::new(preflow);
     let (first, second) = join(rt, &locked, first, second, gate);
-    told_two(alloc, &mut locked.into_inner(), first, second)
+    describe_two_workers(alloc, &mut locked.into_inner(), first, second)
 }
 
-/// One worker goes on from the opening alone.
+/// One worker runs from the initial preflow.
 fn by_one<R: Wait, L: NetworkLedger>(
     rt: &R,
     alloc: Global,
@@ -163,11 +163,11 @@ fn by_one<R: Wait, L: NetworkLedger>(
     };
     let locked: Locked<L> = Mutex::new(preflow);
     let share = worker(rt, &locked, 0, share, &OpenGate);
-    told_one(alloc, &mut locked.into_inner(), share)
+    describe_one_worker(alloc, &mut locked.into_inner(), share)
 }
 
-/// One worker or two go on from the opening between the first two modules.
-fn told_in<L: NetworkLedger + Send + Sync, R: Threads + Wait + Sync, G: Gate + Sync>(
+/// One or two workers run from the initial preflow between the first two modules.
+fn describe_run<L: NetworkLedger + Send + Sync, R: Threads + Wait + Sync, G: Gate + Sync>(
     rt: &R,
     alloc: Global,
     blank: Blank,
@@ -187,8 +187,8 @@ fn told_in<L: NetworkLedger + Send + Sync, R: Threads + Wait + Sync, G: Gate + S
     }
 }
 
-/// What two workers at a gate come to on the line of three imports, and without one what one worker comes to.
-fn told_on_line<R: Threads + Wait + Sync, G: Gate + Sync>(
+/// The state after two workers with a gate on the path of three imports, and after one worker without a gate.
+fn describe_line_run<R: Threads + Wait + Sync, G: Gate + Sync>(
     rt: &R,
     alloc: Global,
     gate: Option<&G>,
@@ -197,11 +197,11 @@ fn told_on_line<R: Threads + Wait + Sync, G: Gate + Sync>(
     if net.nodes() < 2 || !is_free(alloc, &net, 0, 1)? {
         return Err(AllocError);
     }
-    told_in::<Brand, R, G>(rt, alloc, Blank::new(PARTS), &net, gate)
+    describe_run::<Brand, R, G>(rt, alloc, Blank::new(PARTS), &net, gate)
 }
 
-/// The cut of the line of three imports by so many workers at a gate.
-fn told_cut<R: Threads + Wait + Sync, G: Gate + Sync>(
+/// The cut of the path of three imports by this many workers with a gate.
+fn describe_cut<R: Threads + Wait + Sync, G: Gate + Sync>(
     rt: &R,
     alloc: Global,
     workers: u32,
@@ -211,18 +211,18 @@ fn told_cut<R: Threads + Wait + Sync, G: Gate + Sync>(
 {
     let net = net_of(alloc, THREE_IMPORTS, b"")?;
     match solve(rt, alloc, &net, "A", "B", workers, gate) {
-        Ok(answer) => told_answer(alloc, &answer),
+        Ok(answer) => describe_answer(alloc, &answer),
         Err(_) => Err(AllocError),
     }
 }
 
-// Where memory for the history is refused to a worker, the other waits at the gate in vain, and this test or the next fails.
+// If the allocation of a worker's history fails, the other waits at the gate in vain, and this test or the next fails.
 #[test]
 fn two_workers_take_turns(rt: HostRuntime) -> Result<(), Fail> {
     let gate = Holds::new(&rt);
-    let found = told_on_line(&rt, rt.alloc(), Some(&gate))?;
+    let found = describe_line_run(&rt, rt.alloc(), Some(&gate))?;
     assert!(rt; gate.were_passed());
-    is_told(
+    expect(
         &rt,
         found.as_str(),
         "marked true counted true out 0 quiet true; \
@@ -234,9 +234,9 @@ fn two_workers_take_turns(rt: HostRuntime) -> Result<(), Fail> {
 #[test]
 fn the_solver_takes_turns(rt: HostRuntime) -> Result<(), Fail> {
     let gate = Holds::new(&rt);
-    let cut = told_cut(&rt, rt.alloc(), 2, &gate)?;
+    let cut = describe_cut(&rt, rt.alloc(), 2, &gate)?;
     assert!(rt; gate.were_passed());
-    is_told(
+    expect(
         &rt,
         cut.as_str(),
         "weight 2 remove 0 2 2 flow 0 2 2 flow 2 3 2 flow 3 1 2",
@@ -244,10 +244,10 @@ fn the_solver_takes_turns(rt: HostRuntime) -> Result<(), Fail> {
     Ok(())
 }
 
-// Where memory for the history is refused to one of the workers, the other goes on.
+// If the allocation of one worker's history fails, the other goes on.
 #[test]
 fn each_worker_ends_marked(rt: HostRuntime) -> Result<(), Fail> {
-    let found = told_on_line(&rt, rt.alloc(), Some(&OpenGate))?;
+    let found = describe_line_run(&rt, rt.alloc(), Some(&OpenGate))?;
     assert!(rt;
         found
             .as_str()
@@ -257,11 +257,11 @@ fn each_worker_ends_marked(rt: HostRuntime) -> Result<(), Fail> {
     Ok(())
 }
 
-// Where memory for the history is refused, the worker ends at its first step, which isn't counted, and `settle` takes all four.
+// If the allocation of the history fails, the worker ends at its first step, which isn't counted, and `settle` takes all four.
 #[test]
 fn one_worker_takes_all_steps_or_none(rt: HostRuntime) -> Result<(), Fail> {
-    let found = told_on_line::<_, OpenGate>(&rt, rt.alloc(), None)?;
-    is_told(
+    let found = describe_line_run::<_, OpenGate>(&rt, rt.alloc(), None)?;
+    expect(
         &rt,
         found.as_str(),
         "marked true counted true whole true out 0 quiet true after 4",
@@ -269,11 +269,11 @@ fn one_worker_takes_all_steps_or_none(rt: HostRuntime) -> Result<(), Fail> {
     Ok(())
 }
 
-// Where memory for the history is refused to the worker, the last pass takes all steps.
+// If the allocation of the worker's history fails, the last pass takes all steps.
 #[test]
 fn one_worker_or_none_finds_the_cut(rt: HostRuntime) -> Result<(), Fail> {
-    let cut = told_cut(&rt, rt.alloc(), 1, &OpenGate)?;
-    is_told(
+    let cut = describe_cut(&rt, rt.alloc(), 1, &OpenGate)?;
+    expect(
         &rt,
         cut.as_str(),
         "weight 2 remove 0 2 2 flow 0 2 2 flow 2 3 2 flow 3 1 2",

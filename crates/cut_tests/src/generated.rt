@@ -1,7 +1,7 @@
-//! Seeded networks of several shapes, on which the solver answers as the plain solver does.
+//! Seeded networks of several shapes, on which the solver and the sequential solver agree.
 ghost use Rattle.std.specs.Prelude.{◌<◌};
 
-use crate::answers::{is_solved, told};
+use crate::answers::{description, is_solved};
 use crate::worked::net_of;
 use cut_plain::plain;
 use std::alloc::AllocError;
@@ -10,14 +10,14 @@ use std::sync::Wait;
 use std::test::Fail;
 use std::thread::Threads;
 
-/// How many networks of each shape are tried.
+/// The number of networks of each shape.
 const NETWORKS: u32 = 60;
 
-/// How many modules each has: M0 to M9.
+/// The number of modules of each: M0 to M9.
 const MODULES: u32 = 10;
 
-/// A module may import those that stand so far behind it, and of eight of them imports so many on average. Of eight imports so many are pinned
-/// on average, and as many have a price.
+/// The shape of a network: how far apart a module and its imports may be, how many of eight of these modules it imports on average, and how
+/// many of eight imports are pinned and have a price on average.
 struct Shape {
     nearest: u32,
     farthest: u32,
@@ -40,7 +40,7 @@ const SHAPES: &[Shape] = &[
         imported: 7,
         priced: 1,
     },
-    // Two modules a little further on.
+    // The next two modules.
     Shape {
         nearest: 1,
         farthest: 2,
@@ -54,7 +54,7 @@ const SHAPES: &[Shape] = &[
         imported: 6,
         priced: 1,
     },
-    // Modules further on.
+    // Distant modules.
     Shape {
         nearest: 3,
         farthest: 7,
@@ -63,7 +63,7 @@ const SHAPES: &[Shape] = &[
     },
 ];
 
-/// Seeded numbers: the linear congruence of MMIX (Knuth 1998).
+/// Seeded numbers: the linear congruential generator of MMIX (Knuth 1998).
 #[derive(Drop)]
 pub(crate) struct Seed {
     pub(crate) state: u64,
@@ -81,7 +81,7 @@ impl Seed {
         ((self.state >> 33) % u64::from(count)) as u32
     }
 
-    /// Of eight weights three are 0.
+    /// Three of eight weights are 0.
     pub(crate) fn weight(&mut self) -> u64 {
         match self.below(8) {
             0..=2 => 0,
@@ -91,8 +91,8 @@ impl Seed {
     }
 }
 
-/// A line for an import, and perhaps one that pins it or gives it a price.
-fn tell_import(
+/// Appends a line for an import, and perhaps one that pins it or gives it a price.
+fn append_import(
     text: &mut String,
     prices: &mut String,
     seed: &mut Seed,
@@ -110,8 +110,8 @@ fn tell_import(
     }
 }
 
-/// A line for a module, and those of its imports.
-fn tell_module(
+/// Appends a line for a module, and those of its imports.
+fn append_module(
     text: &mut String,
     prices: &mut String,
     seed: &mut Seed,
@@ -122,26 +122,26 @@ fn tell_module(
     for far in shape.nearest..shape.farthest.saturating_add(1) {
         let to = from.saturating_add(far);
         if to < MODULES && seed.below(8) < shape.imported {
-            tell_import(text, prices, seed, (from, to), shape.priced)?;
+            append_import(text, prices, seed, (from, to), shape.priced)?;
         }
     }
     Ok(())
 }
 
 /// The lines of a network and of its prices.
-fn tell_network(
+fn append_network(
     text: &mut String,
     prices: &mut String,
     seed: &mut Seed,
     shape: &Shape,
 ) -> Result<(), AllocError> {
     for from in 0..MODULES {
-        tell_module(text, prices, seed, shape, from)?;
+        append_module(text, prices, seed, shape, from)?;
     }
     Ok(())
 }
 
-/// Checks that the answer of the plain solver stands, and that the solver finds the same but for the flow.
+/// Checks that the checker accepts the result of the sequential solver, and that the solver's is equal except for the flow.
 fn is_answered<R: Abort + Threads + Wait + AllocGlobal + Sync>(
     rt: &R,
     text: &str,
@@ -150,7 +150,7 @@ fn is_answered<R: Abort + Threads + Wait + AllocGlobal + Sync>(
     let net = net_of(rt.alloc(), text.as_bytes(), prices.as_bytes())?;
     let names = ("M0", "M9");
     let found = plain(rt.alloc(), &net, names.0, names.1);
-    let want = told(rt.alloc(), &net, names, found, true)?;
+    let want = description(rt.alloc(), &net, names, found, true)?;
     assert!(rt; !want.ends_with("stand"), "{text}{prices}{want}");
     is_solved(rt, &net, names, 1, want.as_str())?;
     is_solved(rt, &net, names, 2, want.as_str())
@@ -164,7 +164,7 @@ fn try_shape<R: Abort + Threads + Wait + AllocGlobal + Sync>(
     for _ in 0..NETWORKS {
         let mut text = String::new(rt.alloc());
         let mut prices = String::new(rt.alloc());
-        tell_network(&mut text, &mut prices, seed, shape)?;
+        append_network(&mut text, &mut prices, seed, shape)?;
         is_answered(rt, text.as_str(), prices.as_str())?;
     }
     Ok(())

@@ -1,8 +1,8 @@
-//! A graph on which the way on goes back over flow, and what the calls leave of it.
+//! A graph with an augmenting path that cancels flow, and the state after the calls.
 ghost use Rattle.std.specs.Prelude.{◌≤◌, ◌<◌, ◌≢◌, IsTrue};
 
-use crate::told::is_told;
-use cut_residual::{Arc, ResidualArc, ResidualGraph, path_to, search};
+use crate::description::expect;
+use residual_graph::{Arc, ResidualArc, ResidualGraph, path_to, search};
 use std::alloc::{AllocError, Global};
 use std::test::Fail;
 
@@ -14,14 +14,14 @@ const B: u32 = 2;
 
 const T: u32 = 3;
 
-/// Where an arc leaves from and leads to, what it can carry and what it carries.
+/// An arc: its tail, its head, its capacity and its flow.
 type Row = (u32, u32, u64, u64);
 
-/// Arcs between so many nodes and one of these nodes. Told are how many arcs and nodes there are and the steps that leave A, each with its
-/// arc, its ends and what is left of it; then what a search from S finds, and the steps of a path to the node with how much is sent along
-/// it; then what each arc carries.
+/// Arcs between this many nodes, and one of these nodes. The result has the numbers of arcs and nodes, and the residual arcs that leave A,
+/// each with its arc, its ends and its residual capacity. Then the nodes that a search from S reaches, the steps of a path to the node with
+/// the amount that is sent along it, and the flow of each arc.
 const ROWS: &[(&[Row], u32, u32, &str)] = &[
-    // A unit of flow goes S, A, B, T. A second one goes S, B, back over A to B, and A, T.
+    // One unit of flow goes S, A, B, T. Another one goes S, B, then cancels that of A B, and goes A, T.
     (
         &[
             (S, A, 1, 1),
@@ -37,7 +37,7 @@ const ROWS: &[(&[Row], u32, u32, &str)] = &[
         forth 1 from 0 to 2 left 1, back 2 from 2 to 1 left 1, forth 3 from 1 to 3 left 1, sends 1, \
         1 of 1, 1 of 1, 0 of 1, 1 of 1, 1 of 1, ",
     ),
-    // The least that is left is sent.
+    // The minimum residual capacity is sent.
     (
         &[(S, A, 7, 2), (A, B, 3, 0)],
         3,
@@ -71,8 +71,8 @@ fn graph_of(alloc: Global, rows: &[Row], nodes: u32) -> Result<ResidualGraph, Al
     ResidualGraph::new(alloc, arcs, nodes)
 }
 
-/// The way of each step, its arc, where it leaves from and leads to, and what is left of it.
-fn tell_steps(
+/// Each residual arc with its direction, its arc, its ends and its residual capacity.
+fn append_steps(
     text: &mut String,
     graph: &ResidualGraph,
     steps: &[ResidualArc],
@@ -94,15 +94,15 @@ fn tell_steps(
     Ok(())
 }
 
-fn tell_flows(text: &mut String, graph: &ResidualGraph) -> Result<(), AllocError> {
+fn append_flows(text: &mut String, graph: &ResidualGraph) -> Result<(), AllocError> {
     for arc in graph.arcs() {
         write!(text, "{} of {}, ", arc.flow, arc.capacity)?;
     }
     Ok(())
 }
 
-/// Tells what a search from S finds, and sends what it can along a path to another node.
-fn tell_path(
+/// Appends the nodes that a search from S reaches, and sends the maximum along a path to another node.
+fn append_path(
     text: &mut String,
     alloc: Global,
     graph: &mut ResidualGraph,
@@ -114,18 +114,18 @@ fn tell_path(
     write!(
         text,
         "{:?} {:?}, ",
-        found.seen.as_slice(),
+        found.reached_flags.as_slice(),
         found.levels.as_slice()
     )?;
-    if !found.seen[node as usize] {
+    if !found.reached_flags[node as usize] {
         return Ok(());
     }
     let path = path_to(alloc, graph, &found, node)?;
-    tell_steps(text, graph, &path)?;
+    append_steps(text, graph, &path)?;
     write!(text, "sends {}, ", graph.augment(&path))
 }
 
-fn told(alloc: Global, rows: &[Row], nodes: u32, node: u32) -> Result<String, AllocError> {
+fn description(alloc: Global, rows: &[Row], nodes: u32, node: u32) -> Result<String, AllocError> {
     let mut graph = graph_of(alloc, rows, nodes)?;
     let nodes = graph.nodes();
     if node == S || node >= nodes || A >= nodes {
@@ -137,17 +137,17 @@ fn told(alloc: Global, rows: &[Row], nodes: u32, node: u32) -> Result<String, Al
         .iter()
         .map(|out| out.step)
         .collect(alloc)?;
-    tell_steps(&mut text, &graph, &leaving)?;
-    tell_path(&mut text, alloc, &mut graph, node)?;
-    tell_flows(&mut text, &graph)?;
+    append_steps(&mut text, &graph, &leaving)?;
+    append_path(&mut text, alloc, &mut graph, node)?;
+    append_flows(&mut text, &graph)?;
     Ok(text)
 }
 
 #[test]
 fn what_is_left_is_sent_along_a_path(rt: HostRuntime) -> Result<(), Fail> {
     for (rows, nodes, node, want) in ROWS {
-        let told = told(rt.alloc(), rows, *nodes, *node)?;
-        is_told(&rt, told.as_str(), want);
+        let description = description(rt.alloc(), rows, *nodes, *node)?;
+        expect(&rt, description.as_str(), want);
     }
     Ok(())
 }

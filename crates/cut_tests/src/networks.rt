@@ -1,35 +1,35 @@
-//! Prices of a network, its part between two modules, its weights narrowed, its imports turned round, and from which end a preflow starts.
+//! Prices of a network, its subnetwork between two modules, reduced capacities, reversed imports, and the direction of a preflow.
 ghost use Rattle.std.specs.Prelude.{◌<◌, IsTrue};
 
-use crate::told::is_told;
-use crate::worked::{DIAMOND, TWO_IMPORTS, TWO_WAYS, net_of, tell_lines};
+use crate::description::expect;
+use crate::worked::{DIAMOND, TWO_IMPORTS, TWO_WAYS, append_lines, net_of};
 use cut_net::{Net, PriceFault};
-use cut_part::{between, narrowed, turned_imports};
-use cut_solve::start_between;
+use cut_part::{between, reduced_capacities, reversed_imports};
+use cut_solve::preflow_input;
 use std::alloc::{AllocError, Global};
 use std::test::Fail;
 
-/// What is told of a network.
+/// A property of a network.
 #[derive(Clone, Copy)]
 enum Asked {
-    /// Its imports, with their weights or as pins.
+    /// The imports, with their weights or as pinned.
     Whole,
-    /// Its part between two modules: the names of the modules, the imports, the number in the whole network of each module of the part, and
-    /// of each module of the whole one whether it is on a chain.
+    /// The subnetwork between two modules: the names of its modules, its imports, the number in the network of each of its modules, and for
+    /// each module of the network whether it is on a path.
     Between(u32, u32),
-    /// The imports with their weights lowered in this order of their numbers, between the first two modules.
+    /// The imports with their capacities reduced in this order of their numbers, between the first two modules.
     Narrowed(&'static [u32]),
-    /// The imports turned round.
+    /// The reversed imports.
     Turned,
-    /// Where a preflow between the first two modules starts and where it goes to, and its imports.
+    /// The source and the sink of a preflow between the first two modules, and its imports.
     Start,
 }
 
-/// A and X import B and nothing leads to them, Y is a way out of C. The modules are A, B, C, D, X and Y.
+/// A and X import B and aren't reachable, and Y is a dead end after C. The modules are A, B, C, D, X and Y.
 const WITH_ODDS: &[u8] =
     b"import A B 1\nimport B C 2\nimport C D 3\nimport A D 9\nimport X B 1\nimport C Y 1\n";
 
-/// A narrow way into a wide one. The modules are A, B, M and N.
+/// A small capacity before a large one. The modules are A, B, M and N.
 const NARROW_FIRST: &[u8] = b"import A M 2\nimport M N 7\nimport N B 5\n";
 
 /// One import leaves A and two lead to B. The modules are A, B, P, X and Y.
@@ -40,13 +40,13 @@ const SCARCE_FIRST: &[u8] =
 const SCARCE_LAST: &[u8] =
     b"import A X 1\nimport A Y 1\nimport X Q 1\nimport Y Q 1\nimport Q B 1\n";
 
-/// Much leaves A and more leads to B, and little gets through. The modules are A, B, P, X and Y.
+/// The imports of A and to B weigh much, and those between them little. The modules are A, B, P, X and Y.
 const SCARCE_BEHIND: &[u8] = b"import A P 9\nimport P X 1\nimport X B 2\nimport Y B 5\n";
 
-/// An import that is heavier than the imports without a pin may be in sum.
+/// An import above the maximum total weight of imports without pins.
 const HEAVY: &[u8] = b"import A B 1099511627777\n";
 
-/// A network, the prices that it has, prices for it, what is asked of it with those, and what is told.
+/// A network, its prices, further prices, the property and its expected value.
 type Row = (
     &'static [u8],
     &'static [u8],
@@ -56,7 +56,7 @@ type Row = (
 );
 
 const ROWS: &[Row] = &[
-    // All modules on two ways are kept.
+    // All modules on two paths remain.
     (
         TWO_WAYS,
         b"",
@@ -64,7 +64,7 @@ const ROWS: &[Row] = &[
         Asked::Between(0, 1),
         " A D U V import 0 2 5 import 0 3 0 import 2 1 1 import 3 2 3; [0, 1, 2, 3] [true, true, true, true]",
     ),
-    // One import is kept.
+    // One import remains.
     (
         DIAMOND,
         b"",
@@ -72,7 +72,7 @@ const ROWS: &[Row] = &[
         Asked::Between(1, 3),
         " B D import 0 1 3; [1, 3] [false, true, false, true]",
     ),
-    // Both ends are kept where no chain leads.
+    // Both ends remain if there is no path.
     (
         DIAMOND,
         b"",
@@ -87,7 +87,7 @@ const ROWS: &[Row] = &[
         Asked::Between(1, 2),
         " B C; [1, 2] [false, false, false, false]",
     ),
-    // Modules on no chain are left out.
+    // Modules on no path are left out.
     (
         WITH_ODDS,
         b"",
@@ -95,7 +95,7 @@ const ROWS: &[Row] = &[
         Asked::Between(1, 3),
         " B C D import 0 1 2 import 1 2 3; [1, 2, 3] [false, true, true, true, false, false]",
     ),
-    // Prices and pins are kept.
+    // Prices and pins remain.
     (
         DIAMOND,
         b"",
@@ -110,7 +110,7 @@ const ROWS: &[Row] = &[
         Asked::Between(2, 3),
         " C D pin 0 1 1; [2, 3] [false, false, true, true]",
     ),
-    // Weights are lowered both ways.
+    // Capacities are reduced from both sides.
     (
         NARROW_FIRST,
         b"",
@@ -125,7 +125,7 @@ const ROWS: &[Row] = &[
         Asked::Narrowed(&[0, 1, 3, 2]),
         " import 0 2 1 import 0 3 0 import 2 1 1 import 3 2 0",
     ),
-    // Those that fit stay.
+    // Capacities that can be used remain.
     (
         TWO_IMPORTS,
         b"",
@@ -140,7 +140,7 @@ const ROWS: &[Row] = &[
         Asked::Turned,
         " import 2 0 5 import 3 0 0 import 1 2 1 import 2 3 3",
     ),
-    // Where both ends weigh the same it is the first module.
+    // If both ends weigh equally, the source is the first module.
     (
         TWO_IMPORTS,
         b"",
@@ -155,7 +155,7 @@ const ROWS: &[Row] = &[
         Asked::Start,
         " 0 1 import 0 2 1 import 0 3 0 import 2 1 1 import 3 2 0",
     ),
-    // The end whose imports weigh less, the first module here.
+    // The source is the end whose imports weigh less, here the first module.
     (
         SCARCE_FIRST,
         b"",
@@ -163,7 +163,7 @@ const ROWS: &[Row] = &[
         Asked::Start,
         " 0 1 import 0 2 1 import 2 3 1 import 2 4 1 import 3 1 1 import 4 1 1",
     ),
-    // And here the second: each import is turned round.
+    // Here it is the second module: each import is reversed.
     (
         SCARCE_LAST,
         b"",
@@ -171,7 +171,7 @@ const ROWS: &[Row] = &[
         Asked::Start,
         " 1 0 import 3 0 1 import 4 0 1 import 1 2 1 import 2 3 1 import 2 4 1",
     ),
-    // Weights that no flow can use don't count.
+    // Capacity that no flow can use doesn't count.
     (
         SCARCE_BEHIND,
         b"",
@@ -179,7 +179,7 @@ const ROWS: &[Row] = &[
         Asked::Start,
         " 0 1 import 0 2 1 import 2 3 1 import 3 1 1 import 4 1 0",
     ),
-    // Each import without a line stays as it is.
+    // An import without a line is unchanged.
     (
         DIAMOND,
         b"",
@@ -195,7 +195,7 @@ const ROWS: &[Row] = &[
         Asked::Whole,
         " pin 0 1 1 import 0 2 0 pin 1 3 3 import 2 3 1",
     ),
-    // 2^40 in sum is not too much, and one more is.
+    // A sum of 2^40 is permitted, and one more isn't.
     (
         TWO_IMPORTS,
         b"",
@@ -231,7 +231,7 @@ const ROWS: &[Row] = &[
         Asked::Whole,
         " import 0 1 1099511627776",
     ),
-    // A price ends a pin, and what has no line stays.
+    // A price removes a pin, and an import without a line is unchanged.
     (
         DIAMOND,
         b"pin A B\npin B D\nprice A C 7\n",
@@ -239,7 +239,7 @@ const ROWS: &[Row] = &[
         Asked::Whole,
         " import 0 1 2 import 0 2 7 pin 1 3 3 import 2 3 1",
     ),
-    // What is pinned again keeps the weight that it had before the first pin.
+    // An import that is pinned again has the weight that it had before the first pin.
     (
         DIAMOND,
         b"price A B 5\npin C D\n",
@@ -247,7 +247,7 @@ const ROWS: &[Row] = &[
         Asked::Whole,
         " pin 0 1 5 import 0 2 2 import 1 3 3 pin 2 3 1",
     ),
-    // The weight under a pin isn't counted, and one that ends a pin is.
+    // The weight of a pinned import isn't counted, and that of an unpinned one is.
     (
         DIAMOND,
         b"pin A B\n",
@@ -258,24 +258,24 @@ const ROWS: &[Row] = &[
 ];
 
 /// The names of the modules.
-fn tell_modules(text: &mut String, net: &Net) -> Result<(), AllocError> {
+fn append_modules(text: &mut String, net: &Net) -> Result<(), AllocError> {
     for node in 0..net.nodes() {
         write!(text, " {}", net.name(node))?;
     }
     Ok(())
 }
 
-/// Each import with its weight, or as a pin with the weight that it had.
-fn tell_imports(text: &mut String, net: &Net) -> Result<(), AllocError> {
-    net.keeps();
+/// Each import with its weight, or as pinned with the weight before.
+fn append_imports(text: &mut String, net: &Net) -> Result<(), AllocError> {
+    net.invariants();
     for number in 0..net.imports().len() as u32 {
         let word = if net.pinned(number) { "pin" } else { "import" };
-        tell_lines(text, word, &[net.import(number)])?;
+        append_lines(text, word, &[net.import(number)])?;
     }
     Ok(())
 }
 
-fn tell_part(
+fn append_part(
     text: &mut String,
     alloc: Global,
     net: &Net,
@@ -286,8 +286,8 @@ fn tell_part(
         return Err(AllocError);
     }
     let part = between(alloc, net, from, to)?;
-    tell_modules(text, &part.net)?;
-    tell_imports(text, &part.net)?;
+    append_modules(text, &part.net)?;
+    append_imports(text, &part.net)?;
     write!(
         text,
         "; {:?} {:?}",
@@ -296,52 +296,57 @@ fn tell_part(
     )
 }
 
-/// Whether the number is that of one of so many imports.
+/// Whether the number is below the number of imports.
 fn is_number(number: u32, imports: usize) -> bool
     ensures { IsTrue result → number < imports }
 {
     (number as usize) < imports
 }
 
-fn tell_narrowed(
+fn append_reduced(
     text: &mut String,
     alloc: Global,
     net: &Net,
     order: &[u32],
 ) -> Result<(), AllocError> {
-    net.keeps();
+    net.invariants();
     let imports = net.imports();
     if net.nodes() == 0 || order.iter().any(|k| !is_number(*k, imports.len())) {
         return Err(AllocError);
     }
-    let less = narrowed(alloc, imports, net.nodes(), order, 0, 1)?;
-    tell_lines(text, "import", &less)
+    let less = reduced_capacities(alloc, imports, net.nodes(), order, 0, 1)?;
+    append_lines(text, "import", &less)
 }
 
-fn tell_start(text: &mut String, alloc: Global, net: &Net) -> Result<(), AllocError> {
+fn append_start(text: &mut String, alloc: Global, net: &Net) -> Result<(), AllocError> {
     if net.nodes() < 2 {
         return Err(AllocError);
     }
-    let start = start_between(alloc, net, 0, 1)?;
+    let start = preflow_input(alloc, net, 0, 1)?;
     write!(text, " {} {}", start.source, start.sink)?;
-    tell_lines(text, "import", &start.imports)
+    append_lines(text, "import", &start.imports)
 }
 
-fn tell(text: &mut String, alloc: Global, net: &Net, asked: Asked) -> Result<(), AllocError> {
+fn append_all(text: &mut String, alloc: Global, net: &Net, asked: Asked) -> Result<(), AllocError> {
     match asked {
-        Asked::Whole => tell_imports(text, net),
-        Asked::Between(from, to) => tell_part(text, alloc, net, from, to),
-        Asked::Narrowed(order) => tell_narrowed(text, alloc, net, order),
-        Asked::Turned => tell_lines(text, "import", &turned_imports(alloc, net.imports())?),
-        Asked::Start => tell_start(text, alloc, net),
+        Asked::Whole => append_imports(text, net),
+        Asked::Between(from, to) => append_part(text, alloc, net, from, to),
+        Asked::Narrowed(order) => append_reduced(text, alloc, net, order),
+        Asked::Turned => append_lines(text, "import", &reversed_imports(alloc, net.imports())?),
+        Asked::Start => append_start(text, alloc, net),
     }
 }
 
-/// What is told of the network with these prices, or the fault of the prices.
-fn told(alloc: Global, net: &Net, prices: &[u8], asked: Asked) -> Result<String, AllocError> {
+/// The description of the network with these prices, or the fault of the prices.
+fn description(
+    alloc: Global,
+    net: &Net,
+    prices: &[u8],
+    asked: Asked,
+) -> Result<String, AllocError> {
     let mut text = String::new(alloc);
     match net.price(prices) {
-        Ok(net) => tell(&mut text, alloc, &net, asked)?,
+        Ok(net) => append_all(&mut text, alloc, &net, asked)?,
         Err(PriceFault::Memory) => return Err(AllocError),
         Err(fault) => write!(text, "{fault:?}")?,
     }
@@ -352,8 +357,8 @@ fn told(alloc: Global, net: &Net, prices: &[u8], asked: Asked) -> Result<String,
 fn networks_have_parts_and_starts(rt: HostRuntime) -> Result<(), Fail> {
     for (net, before, prices, asked, want) in ROWS {
         let net = net_of(rt.alloc(), net, before)?;
-        let told = told(rt.alloc(), &net, prices, *asked)?;
-        is_told(&rt, told.as_str(), want);
+        let description = description(rt.alloc(), &net, prices, *asked)?;
+        expect(&rt, description.as_str(), want);
     }
     Ok(())
 }

@@ -1,4 +1,4 @@
-//! Pictures by flow: of a cut, of a path of pins, and into a sink that fails.
+//! Pictures by flow: of a cut, of a path of pinned imports, and to a sink that fails.
 
 use crate::worked::net_of;
 use byte_sink::SinkFault;
@@ -9,15 +9,15 @@ use std::process::Abort;
 use std::test::Fail;
 use test_doubles::ByOne;
 
-/// Three ways from A to D, one of which weighs nothing, and E, which imports A. The modules are A, B, C, D, E and Z.
+/// Three paths from A to D, one with weight 0, and E, which imports A. The modules are A, B, C, D, E and Z.
 const NETWORK: &[u8] =
     b"import A B 1\nimport A C 2\nimport A Z 0\nimport B D 3\nimport C D 1\nimport E A 4\nimport Z D 5\n";
 
-/// A cut. It removes an import that carries nothing, D doesn't import A, and over that of A by E nothing flows.
+/// A cut. It removes an import without flow, D doesn't import A, and A E has no flow.
 const CUT: &[u8] = b"cut A D\nweight 2\nremove A B 1\nremove A Z 0\nremove C D 1\n\
     flow A B 1\nflow A C 1\nflow B D 1\nflow C D 1\nflow D A 7\nend\n";
 
-/// Its picture by flow: E and the imports E A and Z D, over which nothing flows, aren't there.
+/// Its picture by flow: without E and the imports E A and Z D, which have no flow.
 const CUT_BY_FLOW: &str = "digraph cut {\n  rankdir=LR;\n  \
     label=\"flow/weight; red: removed; bold: pinned; gray: still reached; double border: the two ends\";\n  \
     \"A\" [peripheries=2] [style=filled];\n  \"B\";\n  \"C\" [style=filled];\n  \"D\" [peripheries=2];\n  \"Z\";\n  \
@@ -30,7 +30,7 @@ const CUT_BY_FLOW: &str = "digraph cut {\n  rankdir=LR;\n  \
 /// Prices that pin the imports from A over B to D.
 const PINS: &[u8] = b"pin A B\npin B D\n";
 
-/// The report of the path that they are.
+/// The report of this path.
 const BLOCKED: &[u8] = b"cut A D\nblocked A B D\nend\n";
 
 /// Its picture by flow: the path, and no other import.
@@ -40,46 +40,46 @@ const BLOCKED_BY_FLOW: &str = "digraph cut {\n  rankdir=LR;\n  \
     \"A\" -> \"B\" [label=\"0/pin\"] [style=bold];\n  \
     \"B\" -> \"D\" [label=\"0/pin\"] [style=bold];\n}\n";
 
-/// A report that is wrong: the path comes back, E doesn't import B, and B doesn't import A.
+/// A wrong report: the path has a cycle, E doesn't import B, and B doesn't import A.
 const WRONG_PATH: &[u8] = b"cut A D\nblocked E B A B A B\nend\n";
 
-/// Its picture by flow: of the path's steps the one that is an import, once, and the two ends.
+/// Its picture by flow: of the path's steps the one that is an import, once, and both ends.
 const WRONG_PATH_BY_FLOW: &str = "digraph cut {\n  rankdir=LR;\n  \
     label=\"flow/weight; red: removed; bold: pinned; gray: still reached; double border: the two ends\";\n  \
     \"A\" [peripheries=2] [style=filled];\n  \"B\" [style=filled];\n  \"D\" [peripheries=2] [style=filled];\n  \
     \"A\" -> \"B\" [label=\"0/1\"];\n}\n";
 
-/// Puts the picture by flow of what a report says.
-fn put_by_flow(alloc: Global, net: &Net, report: &[u8], sink: &mut ByOne) -> Result<(), SinkFault> {
+/// Writes the picture by flow of a report.
+fn draw_report(alloc: Global, net: &Net, report: &[u8], sink: &mut ByOne) -> Result<(), SinkFault> {
     let Ok(report) = cut_report::read(alloc, report, net) else {
         return Err(SinkFault::Memory);
     };
     draw_flow(alloc, net, report.from, report.to, &report.answer, sink)
 }
 
-/// Checks what a sink has that fails behind so many bytes, of which the text has as many or more.
-fn has_front(
+/// Checks the bytes in a sink that fails after this many, at most those of the text.
+fn check_prefix(
     rt: &impl Abort,
     alloc: Global,
     net: &Net,
     report: &[u8],
-    puts: u64,
+    writes: u64,
     text: &str,
 ) -> Result<(), AllocError> {
-    let mut sink = ByOne::new(alloc, puts);
-    let is_whole = puts == text.len() as u64;
-    match put_by_flow(alloc, net, report, &mut sink) {
-        Ok(()) => assert!(rt; is_whole),
-        Err(SinkFault::Device) => assert!(rt; !is_whole),
+    let mut sink = ByOne::new(alloc, writes);
+    let is_complete = writes == text.len() as u64;
+    match draw_report(alloc, net, report, &mut sink) {
+        Ok(()) => assert!(rt; is_complete),
+        Err(SinkFault::Device) => assert!(rt; !is_complete),
         Err(SinkFault::Memory) => return Err(AllocError),
     }
-    assert_eq!(rt; (sink.failures, sink.empty), (u64::from(!is_whole), 0));
-    assert_eq!(rt; sink.taken.len() as u64, puts);
+    assert_eq!(rt; (sink.failures, sink.empty), (u64::from(!is_complete), 0));
+    assert_eq!(rt; sink.taken.len() as u64, writes);
     assert!(rt; text.as_bytes().starts_with(sink.taken.as_slice()));
     Ok(())
 }
 
-/// Checks the picture, and that a sink that fails at each put in turn has the front of it.
+/// Checks the picture, and that a sink that fails at each write in turn has a prefix of it.
 fn is_drawn(
     rt: &impl Abort,
     alloc: Global,
@@ -87,8 +87,8 @@ fn is_drawn(
     report: &[u8],
     text: &str,
 ) -> Result<(), AllocError> {
-    for puts in 0..=text.len() as u64 {
-        has_front(rt, alloc, net, report, puts, text)?;
+    for writes in 0..=text.len() as u64 {
+        check_prefix(rt, alloc, net, report, writes, text)?;
     }
     Ok(())
 }

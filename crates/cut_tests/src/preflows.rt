@@ -1,10 +1,10 @@
-//! Steps with their outcomes, from the opening on, in any order, in shares and outside of them, and what is left to settle.
+//! Steps with their outcomes, from the initial preflow on, in any order, in shares and outside, and the completion.
 ghost use Rattle.std.specs.Prelude.{◌≡◌, ◌<◌, IfOk, IsTrue, length};
 ghost use Rattle.cut_net.specs.Pins.{PinChain};
 ghost use Rattle.cut_preflow.specs.Flows.{AreEnds, network_between};
 
-use crate::told::is_told;
-use crate::worked::{A_WAY_BACK, THREE_IMPORTS, TWO_IMPORTS, net_of, tell_lines};
+use crate::description::expect;
+use crate::worked::{A_WAY_BACK, THREE_IMPORTS, TWO_IMPORTS, append_lines, net_of};
 use cut_net::{Net, Priced};
 use cut_preflow::{Event, NetworkLedger, Outcome, PARTS, Preflow, Share, Step};
 use cut_solve::workers::look;
@@ -13,12 +13,12 @@ use std::marker::Brand;
 use std::sync::ledger::Blank;
 use std::test::Fail;
 
-/// What is tried on the opening.
+/// A scenario on the initial preflow.
 #[derive(Clone, Copy)]
-pub(crate) enum Trial {
+pub(crate) enum Scenario {
     /// These steps in turn.
     Steps(&'static [Step]),
-    /// All steps that there are again and again, each so many numbers behind the one before it.
+    /// All steps repeatedly, with this difference between the numbers of successive ones.
     All(u32),
     /// 66 calls of `share`.
     Shares,
@@ -28,15 +28,15 @@ pub(crate) enum Trial {
     Raised,
 }
 
-/// What is told of a trial; and once the preflow is settled the modules that are near, and the imports that carry flow.
+/// The result of a scenario; and after completion the minimal source side, and the imports with flow.
 #[derive(Drop)]
 pub(crate) struct Settled {
-    pub(crate) told: String,
+    pub(crate) description: String,
     pub(crate) side: Vec<bool>,
     pub(crate) flow: Vec<Priced>,
 }
 
-/// Whether no chain of pins leads from the one module to the other.
+/// Whether no path of pinned imports leads from one module to the other.
 pub(crate) fn is_free(alloc: Global, net: &Net, from: u32, to: u32) -> Result<bool, AllocError>
     requires from { from < length net.now.names }
     requires to { to < length net.now.names }
@@ -48,7 +48,7 @@ pub(crate) fn is_free(alloc: Global, net: &Net, from: u32, to: u32) -> Result<bo
     }
 }
 
-/// The imports that carry flow, each with its flow.
+/// The imports with flow, each with its flow.
 fn flow_of<L: NetworkLedger>(
     alloc: Global,
     net: &Net,
@@ -57,7 +57,7 @@ fn flow_of<L: NetworkLedger>(
 ) -> Result<Vec<Priced>, AllocError>
     requires { preflow.now.trace.net ≡ network_between net.now _ends.0 _ends.1 }
 {
-    net.keeps();
+    net.invariants();
     let mut flow = Vec::new(alloc);
     for number in 0..net.imports().len() as u32 {
         let import = net.import(number);
@@ -70,7 +70,7 @@ fn flow_of<L: NetworkLedger>(
 }
 
 /// The label and the excess of each module.
-fn tell_modules<L: NetworkLedger>(
+fn append_modules<L: NetworkLedger>(
     text: &mut String,
     net: &Net,
     ends: (u32, u32),
@@ -85,8 +85,11 @@ fn tell_modules<L: NetworkLedger>(
     Ok(())
 }
 
-/// What is next to be done, how much was done, and which modules are near.
-fn tell_next<L: NetworkLedger>(text: &mut String, preflow: &Preflow<L>) -> Result<(), AllocError> {
+/// The next step, the number of steps, and the minimal source side.
+fn append_next<L: NetworkLedger>(
+    text: &mut String,
+    preflow: &Preflow<L>,
+) -> Result<(), AllocError> {
     let side = preflow.side()?;
     write!(
         text,
@@ -100,8 +103,8 @@ fn tell_next<L: NetworkLedger>(text: &mut String, preflow: &Preflow<L>) -> Resul
     )
 }
 
-/// The labels and excesses of the modules, the imports that carry flow, and what is next to be done.
-fn tell_state<L: NetworkLedger>(
+/// The labels and excesses of the modules, the imports with flow, and the next step.
+fn append_state<L: NetworkLedger>(
     text: &mut String,
     alloc: Global,
     net: &Net,
@@ -110,13 +113,13 @@ fn tell_state<L: NetworkLedger>(
 ) -> Result<(), AllocError>
     requires { preflow.now.trace.net ≡ network_between net.now ends.0 ends.1 }
 {
-    tell_modules(text, net, ends, preflow)?;
-    tell_lines(text, "flow", &flow_of(alloc, net, ends, preflow)?)?;
+    append_modules(text, net, ends, preflow)?;
+    append_lines(text, "flow", &flow_of(alloc, net, ends, preflow)?)?;
     text.push_str("; ")?;
-    tell_next(text, preflow)
+    append_next(text, preflow)
 }
 
-/// Tries an event, and once more where memory was refused to it. Tells it where that changed something.
+/// Applies an event, again after a failed allocation. Appends it if it changed something.
 fn try_again<L: NetworkLedger>(
     text: &mut String,
     preflow: &mut Preflow<L>,
@@ -135,8 +138,8 @@ fn try_again<L: NetworkLedger>(
     Ok(preflow.apply(event))
 }
 
-/// Tries these steps in turn, and tells what became of each and which module has excess then.
-fn tell_steps<L: NetworkLedger>(
+/// Applies these steps in turn, and appends the outcome of each and the modules with excess.
+fn append_steps<L: NetworkLedger>(
     text: &mut String,
     preflow: &mut Preflow<L>,
     steps: &[Step],
@@ -154,7 +157,7 @@ fn tell_steps<L: NetworkLedger>(
     Ok(())
 }
 
-/// The step of this number: the pushes over all arcs, then the relabels of all nodes.
+/// The step with this number: the pushes over all arcs, then the relabels of all nodes.
 fn step_of(number: u32, arcs: u32) -> Step {
     if number < arcs {
         Step::Push { arc: number }
@@ -165,11 +168,11 @@ fn step_of(number: u32, arcs: u32) -> Step {
     }
 }
 
-/// Tries all steps again and again, ten thousand in all.
+/// Applies all steps repeatedly, ten thousand in all.
 fn try_all<L: NetworkLedger>(preflow: &mut Preflow<L>, net: &Net, by: u32)
     ensures { preflow.new.trace.net ≡ preflow.old.trace.net }
 {
-    net.keeps();
+    net.invariants();
     let arcs = (net.imports().len() as u32).saturating_mul(2);
     let steps = arcs.saturating_add(net.nodes()).max(1);
     for turn in 0..10_000u32 {
@@ -180,8 +183,8 @@ fn try_all<L: NetworkLedger>(preflow: &mut Preflow<L>, net: &Net, by: u32)
     }
 }
 
-/// Tells which of 66 calls of `share` gives none, and how many are out once the last that there was has come back.
-fn tell_shares<L: NetworkLedger>(
+/// Appends which of 66 calls of `share` return none, and the number of shares out once the last one has come back.
+fn append_shares<L: NetworkLedger>(
     text: &mut String,
     preflow: &mut Preflow<L>,
 ) -> Result<(), AllocError>
@@ -200,23 +203,23 @@ fn tell_shares<L: NetworkLedger>(
     }
 }
 
-/// Whether each step is tried in the share, and the step.
+/// Whether each step is applied in the share, and the step.
 const COUNTED: &[(bool, Step)] = &[
     (true, Step::Relabel { node: 2 }),
     (true, Step::Relabel { node: 2 }),
     (false, Step::Push { arc: 2 }),
 ];
 
-fn tell_share<L: NetworkLedger>(text: &mut String, share: &Share<L>) -> Result<(), AllocError> {
+fn append_share<L: NetworkLedger>(text: &mut String, share: &Share<L>) -> Result<(), AllocError> {
     write!(text, "{} {}; ", share.count(), share.is_marked())
 }
 
-fn tell_tried(text: &mut String, quiet: bool, outcome: Outcome) -> Result<(), AllocError> {
+fn append_outcome(text: &mut String, quiet: bool, outcome: Outcome) -> Result<(), AllocError> {
     write!(text, "{quiet} {outcome:?} ")
 }
 
-/// Tells before each step whether it is quiet, and then what became of the step and what is in the share.
-fn tell_counted<L: NetworkLedger>(
+/// Appends before each step whether no node is active, and then the outcome of the step and the state of the share.
+fn append_count<L: NetworkLedger>(
     text: &mut String,
     preflow: &mut Preflow<L>,
     share: &mut Share<L>,
@@ -237,14 +240,14 @@ fn tell_counted<L: NetworkLedger>(
         if outcome == Outcome::Refused {
             return Err(AllocError);
         }
-        tell_tried(text, quiet, outcome)?;
-        tell_share(text, share)?;
+        append_outcome(text, quiet, outcome)?;
+        append_share(text, share)?;
     }
     Ok(())
 }
 
-/// Counts steps in a share; once it is quiet, tells whether it is, what is in the share, the steps, and how many shares are out.
-fn tell_counts<L: NetworkLedger>(
+/// Counts steps in a share; without active nodes, appends that, the state of the share, the steps, and the number of shares out.
+fn append_counts<L: NetworkLedger>(
     text: &mut String,
     preflow: &mut Preflow<L>,
 ) -> Result<(), AllocError>
@@ -253,15 +256,15 @@ fn tell_counts<L: NetworkLedger>(
     let Some(mut share) = preflow.share() else {
         return Err(AllocError);
     };
-    tell_counted(text, preflow, &mut share)?;
+    append_count(text, preflow, &mut share)?;
     let quiet = preflow.note_quiet(&mut share);
-    tell_share(text, &share)?;
+    append_share(text, &share)?;
     let out = preflow.rejoin(share);
     write!(text, "{quiet} {:?} {out} out; ", preflow.history())
 }
 
-/// Raises the label of the third module, once more where memory was refused to that, and tells the label behind the refusal and in the end.
-fn tell_raised<L: NetworkLedger>(
+/// Raises the label of the third module, again after a failed allocation, and appends the label after the failure and at the end.
+fn append_relabel<L: NetworkLedger>(
     text: &mut String,
     net: &Net,
     ends: (u32, u32),
@@ -290,24 +293,24 @@ fn tell_raised<L: NetworkLedger>(
     )
 }
 
-fn tell_trial<L: NetworkLedger>(
+fn append_scenario<L: NetworkLedger>(
     text: &mut String,
     alloc: Global,
     net: &Net,
     ends: (u32, u32),
     preflow: &mut Preflow<L>,
-    trial: Trial,
+    trial: Scenario,
 ) -> Result<(), AllocError>
     requires { preflow.old.trace.net ≡ network_between net.now ends.0 ends.1 }
     ensures { preflow.new.trace.net ≡ preflow.old.trace.net }
 {
     match trial {
-        Trial::Steps(steps) => {
-            tell_state(text, alloc, net, ends, preflow)?;
-            tell_steps(text, preflow, steps)?;
-            tell_state(text, alloc, net, ends, preflow)
+        Scenario::Steps(steps) => {
+            append_state(text, alloc, net, ends, preflow)?;
+            append_steps(text, preflow, steps)?;
+            append_state(text, alloc, net, ends, preflow)
         }
-        Trial::All(by) => {
+        Scenario::All(by) => {
             try_all(preflow, net, by);
             write!(
                 text,
@@ -316,28 +319,28 @@ fn tell_trial<L: NetworkLedger>(
                 preflow.history().len()
             )
         }
-        Trial::Shares => tell_shares(text, preflow),
-        Trial::Counts => tell_counts(text, preflow),
-        Trial::Raised => tell_raised(text, net, ends, preflow),
+        Scenario::Shares => append_shares(text, preflow),
+        Scenario::Counts => append_counts(text, preflow),
+        Scenario::Raised => append_relabel(text, net, ends, preflow),
     }
 }
 
-/// Tells a trial, settles, and tells what that led to.
+/// Appends the result of a scenario, runs to completion, and appends the result of that.
 fn tried<L: NetworkLedger>(
     alloc: Global,
     net: &Net,
     ends: (u32, u32),
     preflow: &mut Preflow<L>,
-    trial: Trial,
+    trial: Scenario,
 ) -> Result<Settled, AllocError>
     requires { preflow.old.trace.net ≡ network_between net.now ends.0 ends.1 }
 {
-    let mut told = String::new(alloc);
-    tell_trial(&mut told, alloc, net, ends, preflow, trial)?;
+    let mut description = String::new(alloc);
+    append_scenario(&mut description, alloc, net, ends, preflow, trial)?;
     preflow.settle()?;
-    tell_next(&mut told, preflow)?;
+    append_next(&mut description, preflow)?;
     Ok(Settled {
-        told,
+        description,
         side: preflow.side()?,
         flow: flow_of(alloc, net, ends, preflow)?,
     })
@@ -348,7 +351,7 @@ fn tried_in<L: NetworkLedger>(
     blank: Blank,
     net: &Net,
     ends: (u32, u32),
-    trial: Trial,
+    trial: Scenario,
 ) -> Result<Settled, AllocError>
     requires ends { AreEnds net.now ends.0 ends.1 }
     requires free { PinChain net.now ends.0 ends.1 → ⊥ }
@@ -360,12 +363,12 @@ fn tried_in<L: NetworkLedger>(
     tried(alloc, net, ends, &mut preflow, trial)
 }
 
-/// Tries this on the opening between two modules that no chain of pins joins.
+/// Runs a scenario on the initial preflow between two modules that no path of pinned imports joins.
 pub(crate) fn try_on(
     alloc: Global,
     net: &Net,
     ends: (u32, u32),
-    trial: Trial,
+    trial: Scenario,
 ) -> Result<Settled, AllocError> {
     if ends.0 == ends.1 || ends.0 >= net.nodes() || ends.1 >= net.nodes() {
         return Err(AllocError);
@@ -376,12 +379,12 @@ pub(crate) fn try_on(
     tried_in::<Brand>(alloc, Blank::new(PARTS), net, ends, trial)
 }
 
-/// A network, what is tried between its first two modules, and what is told of it.
-const ROWS: &[(&[u8], Trial, &str)] = &[
-    // Each event is answered.
+/// A network, the scenario between its first two modules, and its expected result.
+const ROWS: &[(&[u8], Scenario, &str)] = &[
+    // Each event has an outcome.
     (
         TWO_IMPORTS,
-        Trial::Steps(&[
+        Scenario::Steps(&[
             Step::Push { arc: 2 },
             Step::Relabel { node: 2 },
             Step::Push { arc: 2 },
@@ -396,10 +399,10 @@ const ROWS: &[(&[u8], Trial, &str)] = &[
         None None Quiet quiet true after 2 side [true, false, false]; \
         None None Quiet quiet true after 2 side [true, false, false]; ",
     ),
-    // Strange numbers are stale.
+    // Events with unknown numbers are stale.
     (
         TWO_IMPORTS,
-        Trial::Steps(&[
+        Scenario::Steps(&[
             Step::Push { arc: 4294967295 },
             Step::Relabel { node: 4294967295 },
             Step::Relabel { node: 0 },
@@ -412,20 +415,21 @@ const ROWS: &[(&[u8], Trial, &str)] = &[
         Some(2) Some(Relabel { node: 2 }) Try { event: Event { worker: 7, step: Relabel { node: 2 } } } quiet false after 0 side [true, false, false]; \
         None None Quiet quiet true after 2 side [true, false, false]; ",
     ),
-    // Four steps settle a line of three.
+    // Four steps complete the path of three imports.
     (
         THREE_IMPORTS,
-        Trial::Steps(&[]),
+        Scenario::Steps(&[]),
         " 4:0 0:0 0:2 0:0 flow 0 2 2; \
         Some(2) Some(Relabel { node: 2 }) Try { event: Event { worker: 7, step: Relabel { node: 2 } } } quiet false after 0 side [true, false, false, false];  \
         4:0 0:0 0:2 0:0 flow 0 2 2; \
         Some(2) Some(Relabel { node: 2 }) Try { event: Event { worker: 7, step: Relabel { node: 2 } } } quiet false after 0 side [true, false, false, false]; \
         None None Quiet quiet true after 4 side [true, false, false, false]; ",
     ),
-    // X gets excess over two arcs, and gives one unit on and one back. Arcs of U are its two imports and the way back to S.
+    // X gets excess over two arcs, and pushes one unit on and one back. The residual arcs of U are its two imports and the reverse arc to
+    // S.
     (
         A_WAY_BACK,
-        Trial::Steps(&[
+        Scenario::Steps(&[
             Step::Relabel { node: 3 },
             Step::Push { arc: 8 },
             Step::Relabel { node: 2 },
@@ -449,80 +453,80 @@ const ROWS: &[(&[u8], Trial, &str)] = &[
     ),
     (
         THREE_IMPORTS,
-        Trial::All(1),
+        Scenario::All(1),
         "quiet true after 4; None None Quiet quiet true after 4 side [true, false, false, false]; ",
     ),
     (
         A_WAY_BACK,
-        Trial::All(1),
+        Scenario::All(1),
         "quiet true after 11; None None Quiet quiet true after 11 side [true, false, false, false, false, false]; ",
     ),
     (
         A_WAY_BACK,
-        Trial::All(3),
+        Scenario::All(3),
         "quiet true after 8; None None Quiet quiet true after 8 side [true, false, false, false, false, false]; ",
     ),
     (
         A_WAY_BACK,
-        Trial::All(7),
+        Scenario::All(7),
         "quiet true after 12; None None Quiet quiet true after 12 side [true, false, false, false, false, false]; ",
     ),
     (
         A_WAY_BACK,
-        Trial::All(9),
+        Scenario::All(9),
         "quiet true after 8; None None Quiet quiet true after 8 side [true, false, false, false, false, false]; ",
     ),
     (
         A_WAY_BACK,
-        Trial::All(11),
+        Scenario::All(11),
         "quiet true after 8; None None Quiet quiet true after 8 side [true, false, false, false, false, false]; ",
     ),
     (
         A_WAY_BACK,
-        Trial::All(13),
+        Scenario::All(13),
         "quiet true after 8; None None Quiet quiet true after 8 side [true, false, false, false, false, false]; ",
     ),
     (
         A_WAY_BACK,
-        Trial::All(17),
+        Scenario::All(17),
         "quiet true after 14; None None Quiet quiet true after 14 side [true, false, false, false, false, false]; ",
     ),
     (
         A_WAY_BACK,
-        Trial::All(19),
+        Scenario::All(19),
         "quiet true after 8; None None Quiet quiet true after 8 side [true, false, false, false, false, false]; ",
     ),
     (
         TWO_IMPORTS,
-        Trial::Shares,
+        Scenario::Shares,
         "call 65 gives none, call 66 gives none, 63 out; \
         None None Quiet quiet true after 2 side [true, false, false]; ",
     ),
     (
         TWO_IMPORTS,
-        Trial::Counts,
+        Scenario::Counts,
         "false Raised { label: 1 } 1 false; false Stale 1 false; false Moved { amount: 2 } 1 false; \
         1 true; true [Event { worker: 7, step: Relabel { node: 2 } }, Event { worker: 7, step: Push { arc: 2 } }] 0 out; \
         None None Quiet quiet true after 2 side [true, false, false]; ",
     ),
-    // Where memory for the history is refused to a relabel, the label stays.
+    // If the allocation of the history fails at a relabel, the label is unchanged.
     (
         TWO_IMPORTS,
-        Trial::Raised,
+        Scenario::Raised,
         "refused at 0 raised to 1; None None Quiet quiet true after 2 side [true, false, false]; ",
     ),
 ];
 
-fn told(alloc: Global, net: &[u8], trial: Trial) -> Result<String, AllocError> {
+fn description(alloc: Global, net: &[u8], trial: Scenario) -> Result<String, AllocError> {
     let net = net_of(alloc, net, b"")?;
-    Ok(try_on(alloc, &net, (0, 1), trial)?.told)
+    Ok(try_on(alloc, &net, (0, 1), trial)?.description)
 }
 
 #[test]
 fn what_is_tried_is_answered(rt: HostRuntime) -> Result<(), Fail> {
     for (net, trial, want) in ROWS {
-        let told = told(rt.alloc(), net, *trial)?;
-        is_told(&rt, told.as_str(), want);
+        let description = description(rt.alloc(), net, *trial)?;
+        expect(&rt, description.as_str(), want);
     }
     Ok(())
 }

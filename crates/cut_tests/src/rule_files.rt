@@ -2,7 +2,7 @@
 ghost use Rattle.std.specs.Prelude.{IfOk};
 ghost use Rattle.cut_rules.specs.Folders.{ArePathsInOrder};
 
-use crate::told::is_told;
+use crate::description::expect;
 use crate::worked::net_of;
 use cut_net::Net;
 use cut_rules::{File, Rules, RulesFault};
@@ -15,7 +15,7 @@ pub(crate) const TREE: &[u8] =
     b"import Tool Canvas 1\nimport Tool Shapes 1\nimport Canvas Shapes 2\nimport Canvas Sync 1\n\
     import Shapes Heap 3\nimport Sync Net 1\nimport Net Heap 0\nimport Pad Heap 1\n";
 
-/// The files of the tree's modules, sorted by path. Heap has none.
+/// The files of the tree's modules, sorted by path. Heap has no file.
 const FILES: &[(&str, &str)] = &[
     ("Tool", "Tool.Mod"),
     ("Net", "net/src/graphics/Net.Mod"),
@@ -25,7 +25,7 @@ const FILES: &[(&str, &str)] = &[
     ("Sync", "src/graphicsnet/Sync.Mod"),
 ];
 
-/// Texts, and the fault of each for the tree, or none.
+/// Texts with the fault of each for the tree, or none.
 const FAULTS: &[(&[u8], &str)] = &[
     (b"", "none"),
     (b"# a comment\n \t#\n\nforbid Tool Pad # never", "none"),
@@ -57,7 +57,7 @@ const FAULTS: &[(&[u8], &str)] = &[
         b"allow Canvas Net\nallow Net Canvas\nallow Canvas Net\n",
         "line 3 is the second that allows the import of Net by Canvas",
     ),
-    // Folders and patterns are whole.
+    // Folders and patterns have to be complete.
     (
         b"folder A src/graphics/\nfolder A ./src\nfolder A .",
         "none",
@@ -70,7 +70,7 @@ const FAULTS: &[(&[u8], &str)] = &[
     (b"named A *a*a*a*\n", "line 1: no module is in *a*a*a*"),
     (b"named A Canv\n", "line 1: no module is in Canv"),
     (b"named A Canvas*s\n", "line 1: no module is in Canvas*s"),
-    // The first line that has a fault.
+    // The first line with a fault is reported.
     (
         b"set A Nope\nforbid\nset Net A\n",
         "line 1: there is no module Nope",
@@ -79,7 +79,7 @@ const FAULTS: &[(&[u8], &str)] = &[
         b"forbid Canvas A\nset A Nope\n",
         "line 2: there is no module Nope",
     ),
-    // Of the faults of one line the first.
+    // Of several faults of one line the first is reported.
     (b"set Canvas Nope\n", "the set Canvas of line 1 is a module"),
     (
         b"folder Canvas nowhere\n",
@@ -88,7 +88,7 @@ const FAULTS: &[(&[u8], &str)] = &[
     (b"set Canvas 1\n", "line 1 breaks the form"),
 ];
 
-/// What follows 4,096 rules and 4,096 patterns, and the fault, or none.
+/// Lines after 4,096 rules and 4,096 patterns, with the fault, or none.
 const AFTER_MOST: &[(&[u8], &str)] = &[
     (b"# none\nset A Net\nallow Net Heap\n", "none"),
     (
@@ -133,7 +133,7 @@ fn fault_of(alloc: Global, rules: &[u8]) -> Result<String, AllocError> {
     }
 }
 
-/// 4,096 rules and 4,096 patterns, and what follows them.
+/// 4,096 rules and 4,096 patterns, followed by these lines.
 fn after_most(alloc: Global, end: &[u8]) -> Result<Vec<u8>, AllocError> {
     let mut text = Vec::new(alloc);
     for _ in 0..4096u32 {
@@ -146,7 +146,7 @@ fn after_most(alloc: Global, end: &[u8]) -> Result<Vec<u8>, AllocError> {
 #[test]
 fn texts_have_their_first_faults(rt: HostRuntime) -> Result<(), Fail> {
     for (rules, want) in FAULTS {
-        is_told(&rt, fault_of(rt.alloc(), rules)?.as_str(), want);
+        expect(&rt, fault_of(rt.alloc(), rules)?.as_str(), want);
     }
     Ok(())
 }
@@ -155,7 +155,7 @@ fn texts_have_their_first_faults(rt: HostRuntime) -> Result<(), Fail> {
 fn rules_and_patterns_are_limited(rt: HostRuntime) -> Result<(), Fail> {
     for (end, want) in AFTER_MOST {
         let rules = after_most(rt.alloc(), end)?;
-        is_told(&rt, fault_of(rt.alloc(), rules.as_slice())?.as_str(), want);
+        expect(&rt, fault_of(rt.alloc(), rules.as_slice())?.as_str(), want);
     }
     Ok(())
 }

@@ -1,9 +1,9 @@
-//! Rules of a tree: what is written of them, and sinks that fail.
+//! Rules of a tree: the output of their violations, also to sinks that fail.
 ghost use Rattle.std.specs.Prelude.{◌≡◌, IfOk, length};
 ghost use Rattle.cut_rules.specs.Folders.{ArePathsInOrder};
 
+use crate::description::expect;
 use crate::rule_files::{TREE, fault_text, files_of};
-use crate::told::is_told;
 use crate::worked::{DIAMOND, net_of};
 use byte_sink::SinkFault;
 use cut_net::Net;
@@ -12,36 +12,36 @@ use std::alloc::{AllocError, Global};
 use std::process::Abort;
 use std::test::Fail;
 use test_doubles::ByOne;
-use text_escape::PlaceStyle;
+use text_escape::LocationStyle;
 
-/// Rules that the tree keeps.
+/// Rules that the tree satisfies.
 const KEPT: &[&[u8]] = &[
     b"",
     b"\n",
     b"# a comment\n#\n\n",
     b"#forbid Canvas Net",
     b"set A Canvas\nset A Canvas\n",
-    // Imports lead one way, and no path has no import.
+    // Imports have a direction, and every path has an import.
     b"forbid Heap Canvas\n",
     b"forbid Canvas Canvas\n",
     b"set A Canvas\nset B Canvas\nforbid A B\n",
     b"set A Net\nset A Canvas\nset B Tool\nforbid A B\n",
-    // What is allowed counts for no rule, wherever it stands.
+    // An allowed import counts for no rule, wherever its line is.
     b"forbid Canvas Net\nallow Canvas Sync",
     b"allow Sync Net\nforbid Canvas Net\nforbid Tool Net\nforbid Sync Net\n",
     b"allow Shapes Heap\nallow Net Heap\nforbid Canvas Heap\nforbid Tool Heap\n",
     b"forbid-import Canvas Sync # never\nmay Canvas Shapes\nallow Canvas Sync # yet\n",
-    // A folder has what is below it.
+    // A folder includes what is below it.
     b"folder G src/graphics\nforbid Sync G\nforbid G Tool\nforbid Pad G\n",
     b"folder G src/graphics\nset N Net\nallow Canvas Sync\nforbid G N\n",
-    // Imports alone, and not what they lead to.
+    // `import` rules concern imports only, and not what these reach.
     b"forbid-import Canvas Net\nforbid-import Tool Heap\n",
     b"may Canvas Sync\nmay Canvas Shapes\nmay Heap Tool\n",
     b"tree T\nmay T Heap\n",
     b"named S S*\nmay S Net\nmay S Heap\nforbid-import S S\n",
 ];
 
-/// A network, rules that it breaks, and the lines that are written.
+/// A network, rules that it violates, and the output.
 const BROKEN: &[(&[u8], &[u8], &str)] = &[
     // Comments and empty lines count.
     (
@@ -56,7 +56,7 @@ const BROKEN: &[(&[u8], &[u8], &str)] = &[
         "M.Mod:2:1: no 1 Tool Canvas Sync Net Heap\nM.Mod:4:1: no 1 Tool Shapes Heap\n",
     ),
     (TREE, b"forbid Net Heap\n", "M.Mod:2:1: no 1 Net Heap\n"),
-    // Two imports beside one that is allowed, and three beside two.
+    // Two imports besides an allowed one, and three besides two.
     (
         TREE,
         b"forbid Tool Shapes\nallow Tool Shapes\n",
@@ -82,13 +82,13 @@ const BROKEN: &[(&[u8], &[u8], &str)] = &[
         b"set E C\nset E B\nforbid A E\n",
         "M.Mod:0:1: no 3 A B\nM.Mod:0:2: no 3 A C\n",
     ),
-    // C is forbidden, so no path leads on from it.
+    // C is forbidden, so no path continues from it.
     (
         DIAMOND,
         b"set E D\nset E C\nforbid A E\n",
         "M.Mod:0:2: no 3 A C\nM.Mod:1:3: no 3 A B D\n",
     ),
-    // A folder's files, and not those of one whose name is longer, nor of one that stands further down.
+    // The files of a folder, without those of a folder with a longer name, or of one further below.
     (
         TREE,
         b"folder G src/graphics\nforbid G Heap\n",
@@ -104,13 +104,13 @@ const BROKEN: &[(&[u8], &[u8], &str)] = &[
         b"folder D src/graphics/deep\nforbid Tool D\nforbid Canvas D\n",
         "M.Mod:0:4: no 2 Tool Canvas Shapes\nM.Mod:6:4: no 2 Tool Shapes\nM.Mod:0:4: no 3 Canvas Shapes\n",
     ),
-    // A path has its blanks.
+    // A path may have spaces.
     (
         TREE,
         b"folder O src # old/my pad\nforbid O Heap\n",
         "M.Mod:3:1: no 2 Pad Heap\n",
     ),
-    // Sets that share modules, in several lines, behind the rules and before them.
+    // Sets with common modules, in several lines, before and after the rules.
     (
         TREE,
         b"set B Sync\nforbid A Net\nset A Tool\nset A Canvas\nset B Canvas\nforbid B Net\nset A Tool\n",
@@ -121,7 +121,7 @@ const BROKEN: &[(&[u8], &[u8], &str)] = &[
         b"folder A src/graphics\nset A Net\nfolder A net\nset A Heap\nforbid Sync A\nforbid A Heap\n",
         "M.Mod:5:2: no 5 Sync Net\nM.Mod:2:1: no 6 Net Heap\nM.Mod:4:1: no 6 Shapes Heap\n",
     ),
-    // One set from and to, and a module of both.
+    // A rule from a set to itself, and a module in both sets.
     (
         TREE,
         b"set A Net\nset A Canvas\nforbid A A\n",
@@ -132,25 +132,25 @@ const BROKEN: &[(&[u8], &[u8], &str)] = &[
         b"set A Canvas\nset B Canvas\nset B Shapes\nforbid A B\nforbid B A\n",
         "M.Mod:0:4: no 4 Canvas Shapes\n",
     ),
-    // A rule that is kept between two that aren't, and a rule twice.
+    // A satisfied rule between two violated ones, and a repeated rule.
     (
         TREE,
         b"forbid Sync Net\nforbid Heap Tool\nforbid Canvas Net\nforbid Sync Net\n",
         "M.Mod:5:2: no 1 Sync Net\nM.Mod:5:2: no 3 Canvas Sync Net\nM.Mod:5:2: no 4 Sync Net\n",
     ),
-    // Imports alone.
+    // Imports only.
     (
         TREE,
         b"forbid-import Tool Net\nforbid-import Canvas Shapes\n",
         "M.Mod:0:4: no 2 Canvas Shapes\n",
     ),
-    // The lines of a set together say what it may import.
+    // The lines of a set together list what it may import.
     (
         TREE,
         b"may Canvas Sync\nmay Tool Canvas\nmay Canvas Net\n",
         "M.Mod:0:4: no 1 Canvas Shapes\nM.Mod:6:4: no 2 Tool Shapes\n",
     ),
-    // Stale lines follow, and are enough to break the rules.
+    // Stale lines come last, and suffice for a violation.
     (
         TREE,
         b"allow Canvas Net\nforbid Tool Net\n",
@@ -163,7 +163,7 @@ const BROKEN: &[(&[u8], &[u8], &str)] = &[
     ),
 ];
 
-/// How many bytes a sink takes of a long line, which is put in two pieces, and what comes of it.
+/// The number of bytes that a sink takes of a long line, which is written in two pieces, with the result.
 const LONG: &[(u64, &str)] = &[
     (66015, "failed true 66015 1 0"),
     (66016, "failed true 66016 1 0"),
@@ -171,8 +171,8 @@ const LONG: &[(u64, &str)] = &[
     (66019, "broken true 66019 0 0"),
 ];
 
-/// Whether the rules are kept, or that the sink failed.
-fn told_kept(kept: Result<bool, SinkFault>) -> Result<&'static str, AllocError> {
+/// Whether the rules are satisfied, or that the sink failed.
+fn describe_verdict(kept: Result<bool, SinkFault>) -> Result<&'static str, AllocError> {
     match kept {
         Ok(true) => Ok("kept"),
         Ok(false) => Ok("broken"),
@@ -181,7 +181,7 @@ fn told_kept(kept: Result<bool, SinkFault>) -> Result<&'static str, AllocError> 
     }
 }
 
-/// A site for each import: its line and column are the numbers of the importing and of the imported module.
+/// A location for each import: its line and column are the numbers of the importing and of the imported module.
 fn sites_of(alloc: Global, net: &Net) -> Result<Vec<Site<'static>>, AllocError>
     ensures { IfOk result (λ sites. length sites.items ≡ length net.now.imports) }
 {
@@ -196,7 +196,7 @@ fn sites_of(alloc: Global, net: &Net) -> Result<Vec<Site<'static>>, AllocError>
     Ok(sites)
 }
 
-/// A network as that of a tree: its modules' files, and the sites of its imports.
+/// A network as that of a tree: the files of its modules, and the locations of its imports.
 #[derive(Drop)]
 struct RuledNet<'a> {
     net: &'a Net,
@@ -204,7 +204,7 @@ struct RuledNet<'a> {
     sites: &'a [Site<'a>],
 }
 
-/// How rules for a network end, of which the sink takes what is written.
+/// The result of rules for a network, with the output in the sink.
 fn ended<'a>(
     alloc: Global,
     tree: &RuledNet<'a>,
@@ -216,16 +216,21 @@ fn ended<'a>(
 {
     match Rules::read(alloc, tree.net, tree.files, rules) {
         Ok(rules) => {
-            let style = PlaceStyle::Plain;
+            let style = LocationStyle::Plain;
             let kept = write_verdict(alloc, tree.net, &rules, tree.sites, style, sink);
-            String::from_str(alloc, told_kept(kept)?)
+            String::from_str(alloc, describe_verdict(kept)?)
         }
         Err(fault) => fault_text(alloc, fault),
     }
 }
 
-/// The same of the network's text.
-fn told(alloc: Global, net: &[u8], rules: &[u8], sink: &mut ByOne) -> Result<String, AllocError> {
+/// The result of rules for a network's text.
+fn description(
+    alloc: Global,
+    net: &[u8],
+    rules: &[u8],
+    sink: &mut ByOne,
+) -> Result<String, AllocError> {
     let net = net_of(alloc, net, b"")?;
     let files = files_of(alloc, &net)?;
     let sites = sites_of(alloc, &net)?;
@@ -237,27 +242,27 @@ fn told(alloc: Global, net: &[u8], rules: &[u8], sink: &mut ByOne) -> Result<Str
     ended(alloc, &tree, rules, sink)
 }
 
-/// How they end, and what is put, in a sink that takes byte by byte.
-fn told_put(alloc: Global, net: &[u8], rules: &[u8]) -> Result<String, AllocError> {
+/// The result and the output to a sink that takes one byte at a time.
+fn describe_bytewise(alloc: Global, net: &[u8], rules: &[u8]) -> Result<String, AllocError> {
     let mut sink = ByOne::new(alloc, 1000);
-    let ended = told(alloc, net, rules, &mut sink)?;
+    let ended = description(alloc, net, rules, &mut sink)?;
     match str::from_utf8(sink.taken.as_slice()) {
         Ok(put) => format!(in alloc; "{ended} {put}"),
         Err(_) => String::from_str(alloc, "no text"),
     }
 }
 
-/// How they end in a sink that takes so many bytes: whether it has a front of the text, how long, and how often it failed and was put
-/// nothing.
-fn told_front(
+/// The result with a sink that takes this many bytes: whether it has a prefix of the output, its length, the number of failures, and of
+/// empty writes.
+fn describe_prefix(
     alloc: Global,
     net: &[u8],
     rules: &[u8],
     text: &[u8],
-    puts: u64,
+    writes: u64,
 ) -> Result<String, AllocError> {
-    let mut sink = ByOne::new(alloc, puts);
-    let ended = told(alloc, net, rules, &mut sink)?;
+    let mut sink = ByOne::new(alloc, writes);
+    let ended = description(alloc, net, rules, &mut sink)?;
     format!(in alloc;
         "{ended} {} {} {} {}",
         text.starts_with(sink.taken.as_slice()),
@@ -277,41 +282,41 @@ fn around_a_name(alloc: Global, front: &[u8], behind: &[u8]) -> Result<Vec<u8>, 
     Ok(text)
 }
 
-/// How a rule for that module ends in a sink that takes so many bytes.
-fn told_long(alloc: Global, puts: u64) -> Result<String, AllocError> {
+/// The result of a rule for that module with a sink that takes this many bytes.
+fn describe_long_name(alloc: Global, writes: u64) -> Result<String, AllocError> {
     let net = around_a_name(alloc, b"import ", b" B 1\n")?;
     let rules = around_a_name(alloc, b"forbid ", b" B\n")?;
     let text = around_a_name(alloc, b"M.Mod:1:0: no 1 ", b" B\n")?;
-    told_front(
+    describe_prefix(
         alloc,
         net.as_slice(),
         rules.as_slice(),
         text.as_slice(),
-        puts,
+        writes,
     )
 }
 
-/// Checks that a front of this text of so many bytes is put for the tree, where a sink takes fewer.
+/// Checks that a sink that takes this many bytes has that prefix of the output for the tree.
 fn stops<R: Abort + AllocGlobal>(
     rt: &R,
     rules: &[u8],
     text: &[u8],
     bytes: u64,
 ) -> Result<(), AllocError> {
-    for puts in 0..bytes {
-        let told = told_front(rt.alloc(), TREE, rules, text, puts)?;
-        let want = format!(in rt.alloc(); "failed true {puts} 1 0")?;
-        is_told(rt, told.as_str(), want.as_str());
+    for writes in 0..bytes {
+        let description = describe_prefix(rt.alloc(), TREE, rules, text, writes)?;
+        let want = format!(in rt.alloc(); "failed true {writes} 1 0")?;
+        expect(rt, description.as_str(), want.as_str());
     }
     Ok(())
 }
 
 #[test]
-fn rules_are_kept(rt: HostRuntime) -> Result<(), Fail> {
+fn rules_hold(rt: HostRuntime) -> Result<(), Fail> {
     for rules in KEPT {
-        is_told(
+        expect(
             &rt,
-            told_put(rt.alloc(), TREE, rules)?.as_str(),
+            describe_bytewise(rt.alloc(), TREE, rules)?.as_str(),
             "kept yes\n",
         );
     }
@@ -319,17 +324,17 @@ fn rules_are_kept(rt: HostRuntime) -> Result<(), Fail> {
 }
 
 #[test]
-fn broken_rules_are_told_by_their_imports(rt: HostRuntime) -> Result<(), Fail> {
+fn broken_rules_are_reported_by_import(rt: HostRuntime) -> Result<(), Fail> {
     for (net, rules, lines) in BROKEN {
         let want = format!(in rt.alloc(); "broken {lines}")?;
-        let told = told_put(rt.alloc(), net, rules)?;
-        is_told(&rt, told.as_str(), want.as_str());
+        let description = describe_bytewise(rt.alloc(), net, rules)?;
+        expect(&rt, description.as_str(), want.as_str());
     }
     Ok(())
 }
 
 #[test]
-fn a_verdict_stops_at_each_put(rt: HostRuntime) -> Result<(), Fail> {
+fn a_verdict_stops_at_each_write(rt: HostRuntime) -> Result<(), Fail> {
     stops(&rt, b"forbid Heap Net", b"yes\n", 4)?;
     stops(
         &rt,
@@ -342,24 +347,24 @@ fn a_verdict_stops_at_each_put(rt: HostRuntime) -> Result<(), Fail> {
 
 #[test]
 fn a_verdict_fills_its_sink(rt: HostRuntime) -> Result<(), Fail> {
-    let told = told_front(rt.alloc(), TREE, b"forbid Heap Net", b"yes\n", 4)?;
-    is_told(&rt, told.as_str(), "kept true 4 0 0");
-    let told = told_front(
+    let description = describe_prefix(rt.alloc(), TREE, b"forbid Heap Net", b"yes\n", 4)?;
+    expect(&rt, description.as_str(), "kept true 4 0 0");
+    let description = describe_prefix(
         rt.alloc(),
         TREE,
         b"forbid Sync Heap",
         b"M.Mod:2:1: no 1 Sync Net Heap\n",
         30,
     )?;
-    is_told(&rt, told.as_str(), "broken true 30 0 0");
+    expect(&rt, description.as_str(), "broken true 30 0 0");
     Ok(())
 }
 
 #[test]
-fn a_long_line_is_put_in_pieces(rt: HostRuntime) -> Result<(), Fail> {
-    for (puts, want) in LONG {
-        let told = told_long(rt.alloc(), *puts)?;
-        is_told(&rt, told.as_str(), want);
+fn a_long_line_is_written_in_pieces(rt: HostRuntime) -> Result<(), Fail> {
+    for (writes, want) in LONG {
+        let description = describe_long_name(rt.alloc(), *writes)?;
+        expect(&rt, description.as_str(), want);
     }
     Ok(())
 }

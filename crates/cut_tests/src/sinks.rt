@@ -1,19 +1,19 @@
-//! Sinks that take some and nothing.
+//! Sinks that take a part or nothing.
 
-use crate::told::is_told;
-use byte_sink::{Sink, SinkFault, ToWrite, put_all};
+use crate::description::expect;
+use byte_sink::{Sink, SinkFault, ToWrite, write_fully};
 use std::alloc::{AllocError, Global};
 use std::io;
 use std::test::Fail;
 use test_doubles::ByOne;
 
-/// Takes three bytes at a time, and none after its last call.
+/// A writer that takes three bytes at a time, and none from a certain call on.
 #[derive(Drop)]
-struct Narrow {
+struct ThreeByteWriter {
     calls: u8,
 }
 
-impl io::Write for Narrow {
+impl io::Write for ThreeByteWriter {
     fn write(&mut self, buf: &[u8]) -> io::Result<usize> {
         if self.calls == 0 {
             return Ok(0);
@@ -27,49 +27,53 @@ impl io::Write for Narrow {
     }
 }
 
-/// What is put, text by text, where the writer takes some in its first four calls.
+/// The bytes that are taken, text by text, if the writer takes some in its first four calls.
 const PUT: &[&[u8]] = &[b"r", b"re", b"rep", b"repo", b"more", b""];
 
-/// How much is taken of each text.
-fn told_puts(alloc: Global) -> Result<String, AllocError> {
-    let mut sink = ToWrite::new(Narrow { calls: 4 });
-    let mut told = String::new(alloc);
+/// The number of bytes that are taken of each text.
+fn describe_calls(alloc: Global) -> Result<String, AllocError> {
+    let mut sink = ToWrite::new(ThreeByteWriter { calls: 4 });
+    let mut description = String::new(alloc);
     for text in PUT {
         match sink.put(text) {
-            Ok(count) => write!(told, "{count} ")?,
-            Err(SinkFault::Device) => told.push_str("failed ")?,
+            Ok(count) => write!(description, "{count} ")?,
+            Err(SinkFault::Device) => description.push_str("failed ")?,
             Err(SinkFault::Memory) => return Err(AllocError),
         }
     }
-    Ok(told)
+    Ok(description)
 }
 
-/// Puts all of a text, and tells whether it was taken.
-fn tell_all<S: Sink>(told: &mut String, sink: &mut S, text: &[u8]) -> Result<(), AllocError> {
-    match put_all(sink, text) {
-        Ok(()) => told.push_str("all "),
-        Err(SinkFault::Device) => told.push_str("failed "),
+/// Writes a text, and appends whether all of it was taken.
+fn append_write<S: Sink>(
+    description: &mut String,
+    sink: &mut S,
+    text: &[u8],
+) -> Result<(), AllocError> {
+    match write_fully(sink, text) {
+        Ok(()) => description.push_str("all "),
+        Err(SinkFault::Device) => description.push_str("failed "),
         Err(SinkFault::Memory) => Err(AllocError),
     }
 }
 
-/// The same of two texts and of nothing, where the writer takes some in its first two calls.
-fn told_all(alloc: Global) -> Result<String, AllocError> {
-    let mut sink = ToWrite::new(Narrow { calls: 2 });
-    let mut told = String::new(alloc);
-    tell_all(&mut told, &mut sink, b"report")?;
-    tell_all(&mut told, &mut sink, b"more")?;
-    tell_all(&mut told, &mut sink, b"")?;
-    Ok(told)
+/// The bytes that are taken of two texts and an empty one, if the writer takes some in its first two calls.
+fn describe_writes(alloc: Global) -> Result<String, AllocError> {
+    let mut sink = ToWrite::new(ThreeByteWriter { calls: 2 });
+    let mut description = String::new(alloc);
+    append_write(&mut description, &mut sink, b"report")?;
+    append_write(&mut description, &mut sink, b"more")?;
+    append_write(&mut description, &mut sink, b"")?;
+    Ok(description)
 }
 
-/// What becomes of a text in a sink that fails after so many puts: whether it has a front, of how many bytes, how often it failed, and how
-/// often it was put nothing.
-fn tell_front(told: &mut String, alloc: Global, puts: u64) -> Result<(), AllocError> {
-    let mut sink = ByOne::new(alloc, puts);
-    tell_all(told, &mut sink, b"report")?;
+/// The state of a sink that fails after this many writes: whether it has a prefix of the text, its length, the number of failures, and of
+/// empty writes.
+fn append_prefix(description: &mut String, alloc: Global, writes: u64) -> Result<(), AllocError> {
+    let mut sink = ByOne::new(alloc, writes);
+    append_write(description, &mut sink, b"report")?;
     write!(
-        told,
+        description,
         "{} {} {} {}, ",
         b"report".starts_with(sink.taken.as_slice()),
         sink.taken.len(),
@@ -78,26 +82,34 @@ fn tell_front(told: &mut String, alloc: Global, puts: u64) -> Result<(), AllocEr
     )
 }
 
-fn told_fronts(alloc: Global) -> Result<String, AllocError> {
-    let mut told = String::new(alloc);
-    for puts in 0..8u64 {
-        tell_front(&mut told, alloc, puts)?;
+fn describe_prefixes(alloc: Global) -> Result<String, AllocError> {
+    let mut description = String::new(alloc);
+    for writes in 0..8u64 {
+        append_prefix(&mut description, alloc, writes)?;
     }
-    Ok(told)
+    Ok(description)
 }
 
 #[test]
 fn a_writer_that_takes_nothing_fails(rt: HostRuntime) -> Result<(), Fail> {
-    is_told(&rt, told_puts(rt.alloc())?.as_str(), "1 2 3 3 failed 0 ");
-    is_told(&rt, told_all(rt.alloc())?.as_str(), "all failed all ");
+    expect(
+        &rt,
+        describe_calls(rt.alloc())?.as_str(),
+        "1 2 3 3 failed 0 ",
+    );
+    expect(
+        &rt,
+        describe_writes(rt.alloc())?.as_str(),
+        "all failed all ",
+    );
     Ok(())
 }
 
 #[test]
-fn a_failure_at_each_put(rt: HostRuntime) -> Result<(), Fail> {
-    is_told(
+fn a_failure_at_each_write(rt: HostRuntime) -> Result<(), Fail> {
+    expect(
         &rt,
-        told_fronts(rt.alloc())?.as_str(),
+        describe_prefixes(rt.alloc())?.as_str(),
         "failed true 0 1 0, failed true 1 1 0, failed true 2 1 0, failed true 3 1 0, \
         failed true 4 1 0, failed true 5 1 0, all true 6 0 0, all true 6 0 0, ",
     );

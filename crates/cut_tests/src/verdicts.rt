@@ -1,22 +1,22 @@
-//! Verdicts on answers that no report says: with lines of numbers that no module has, out of order, twice, or of no flow, and chains of
-//! no module or of numbers that no module has.
+//! Verdicts on results that no report states: lines with unknown numbers, unsorted, repeated, or without flow, and paths that are empty or
+//! have unknown numbers.
 
-use crate::told::is_told;
+use crate::description::expect;
 use crate::worked::{DIAMOND, TWO_IMPORTS, TWO_WAYS, net_of};
 use cut_check::check;
 use cut_net::{Answer, Cut, Net, Priced};
 use std::alloc::{AllocError, Global};
 use std::test::Fail;
 
-/// A line of an import: the module that imports, the one that is imported, and an amount.
+/// A line of an import: the importing module, the imported one, and an amount.
 type Line = (u32, u32, u64);
 
-/// What is said of two modules.
+/// A claim about two modules.
 #[derive(Clone, Copy)]
-enum Said {
+enum Claim {
     /// The imports of a cut, its weight and its flow.
     Cut(&'static [Line], u64, &'static [Line]),
-    /// A chain of pins.
+    /// A path of pinned imports.
     Chain(&'static [u32]),
 }
 
@@ -27,55 +27,55 @@ const B: u32 = 1;
 
 const M: u32 = 2;
 
-/// A network, its prices, what is said of its first module and the one of this number, and the verdict.
-const ROWS: &[(&[u8], &[u8], u32, Said, &str)] = &[
+/// A network, its prices, a claim about its first module and the one with this number, and the verdict.
+const ROWS: &[(&[u8], &[u8], u32, Claim, &str)] = &[
     (
         TWO_IMPORTS,
         b"",
         B,
-        Said::Cut(&[(A, M, 2)], 2, &[(A, M, 2), (M, B, 2)]),
+        Claim::Cut(&[(A, M, 2)], 2, &[(A, M, 2), (M, B, 2)]),
         "Yes",
     ),
     (
         TWO_IMPORTS,
         b"",
         B,
-        Said::Cut(&[(A, M, 2)], 2, &[(A, M, 2), (A, M, 2), (M, B, 2)]),
+        Claim::Cut(&[(A, M, 2)], 2, &[(A, M, 2), (A, M, 2), (M, B, 2)]),
         "NoSuchImport { from: 0, to: 2 }",
     ),
     (
         TWO_IMPORTS,
         b"",
         B,
-        Said::Cut(&[(A, M, 2)], 2, &[(M, B, 2), (A, M, 2)]),
+        Claim::Cut(&[(A, M, 2)], 2, &[(M, B, 2), (A, M, 2)]),
         "NoSuchImport { from: 0, to: 2 }",
     ),
     (
         TWO_IMPORTS,
         b"",
         B,
-        Said::Cut(
+        Claim::Cut(
             &[(7, 9, 18446744073709551615)],
             2,
             &[(A, M, 2), (B, A, 1), (M, B, 2)],
         ),
         "NoSuchImport { from: 7, to: 9 }",
     ),
-    // A line of a flow of 0 is one too.
+    // A flow of 0 in a line counts too.
     (
         TWO_WAYS,
         b"",
         1,
-        Said::Cut(&[(2, 1, 1)], 1, &[(0, 2, 1), (0, 3, 0), (2, 1, 1)]),
+        Claim::Cut(&[(2, 1, 1)], 1, &[(0, 2, 1), (0, 3, 0), (2, 1, 1)]),
         "Yes",
     ),
-    // A chain has its ends, and there may be no module of a number.
-    (DIAMOND, b"", 3, Said::Chain(&[]), "StillChain"),
+    // A path needs its ends, and numbers may be unknown.
+    (DIAMOND, b"", 3, Claim::Chain(&[]), "StillChain"),
     (
         DIAMOND,
         b"pin A B\npin B D\n",
         3,
-        Said::Chain(&[0, 4294967295, 3]),
+        Claim::Chain(&[0, 4294967295, 3]),
         "NotPinned { from: 0, to: 4294967295 }",
     ),
 ];
@@ -92,9 +92,9 @@ fn lines_of(alloc: Global, rows: &[Line]) -> Result<Vec<Priced>, AllocError> {
     Ok(lines)
 }
 
-fn answer_of(alloc: Global, said: Said) -> Result<Answer, AllocError> {
-    match said {
-        Said::Cut(imports, weight, flow) => {
+fn answer_of(alloc: Global, claim: Claim) -> Result<Answer, AllocError> {
+    match claim {
+        Claim::Cut(imports, weight, flow) => {
             let imports = lines_of(alloc, imports)?;
             let flow = lines_of(alloc, flow)?;
             Ok(Answer::Cut(Cut {
@@ -103,27 +103,27 @@ fn answer_of(alloc: Global, said: Said) -> Result<Answer, AllocError> {
                 flow,
             }))
         }
-        Said::Chain(chain) => {
+        Claim::Chain(chain) => {
             let chain = chain.to_vec(alloc)?;
             Ok(Answer::Blocked { chain })
         }
     }
 }
 
-fn judged(alloc: Global, net: &Net, to: u32, said: Said) -> Result<String, AllocError> {
+fn judged(alloc: Global, net: &Net, to: u32, claim: Claim) -> Result<String, AllocError> {
     if to >= net.nodes() {
         return Err(AllocError);
     }
-    let verdict = check(alloc, net, 0, to, &answer_of(alloc, said)?)?;
+    let verdict = check(alloc, net, 0, to, &answer_of(alloc, claim)?)?;
     format!(in alloc; "{verdict:?}")
 }
 
 #[test]
 fn what_no_report_says_is_judged(rt: HostRuntime) -> Result<(), Fail> {
-    for (net, prices, to, said, want) in ROWS {
+    for (net, prices, to, claim, want) in ROWS {
         let net = net_of(rt.alloc(), net, prices)?;
-        let told = judged(rt.alloc(), &net, *to, *said)?;
-        is_told(&rt, told.as_str(), want);
+        let description = judged(rt.alloc(), &net, *to, *claim)?;
+        expect(&rt, description.as_str(), want);
     }
     Ok(())
 }

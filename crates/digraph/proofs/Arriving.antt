@@ -4,12 +4,12 @@ use Rattle.std.proofs.lemmas.Bool.{cases_eq, cases_lt}
 use Rattle.std.proofs.lemmas.List.{length_push}
 use Rattle.std.proofs.lemmas.List.Elements.{Contains-push, Contains-append_left}
 use Rattle.digraph.specs.declared.edge.Edge.{Edge}
-use Rattle.digraph.specs.Arrivals.{AreWaitingFrom, IsLastTo}
-use Rattle.digraph.specs.Marks.{edge_at, place_at}
+use Rattle.digraph.specs.Incoming.{AreDependentsFrom, IsLastTo}
+use Rattle.digraph.specs.Marks.{edge_at, index_at}
 
 module _ (edges : List Edge) (places : List ℕ) (v : ℕ) where
-  module _ (row : List ℕ) (number next : ℕ) (last : IsLastTo edges v number next) (w : AreWaitingFrom edges places v row (number + 1)) where
-    pub waiting_more : place_at places (edge_at edges number).from ≡ number → AreWaitingFrom edges places v (row ++ (edge_at edges number).from ∷ []) next
+  module _ (row : List ℕ) (number next : ℕ) (last : IsLastTo edges v number next) (w : AreDependentsFrom edges places v row (number + 1)) where
+    pub waiting_more : index_at places (edge_at edges number).from ≡ number → AreDependentsFrom edges places v (row ++ (edge_at edges number).from ∷ []) next
     waiting_more here = record {
       all = λ k le l is at. elim (cases_eq k number) [
         | inl e ↦ rw e (Contains-push row (edge_at edges number).from)
@@ -21,10 +21,10 @@ module _ (edges : List Edge) (places : List ℕ) (v : ℕ) where
       few = (let few = w.few in let low = last.within in let long = length_push row (edge_at edges number).from in omega arith);
     }
 
-    pub waiting_same : (place_at places (edge_at edges number).from ≡ number → ⊥) → AreWaitingFrom edges places v row next
+    pub waiting_same : (index_at places (edge_at edges number).from ≡ number → ⊥) → AreDependentsFrom edges places v row next
     waiting_same other = record {
       all = λ k le l is at. elim (cases_eq k number) [
-        | inl e ↦ absurd (other (ap (λ (j : ℕ). place_at places (edge_at edges j).from) (sym e) ∙ at ∙ e))
+        | inl e ↦ absurd (other (ap (λ (j : ℕ). index_at places (edge_at edges j).from) (sym e) ∙ at ∙ e))
         | inr ne ↦ elim (cases_lt k number) [
           | inl less ↦ absurd (last.none_after k le less is)
           | inr more ↦ w.all k (omega arith) l is at

@@ -54,8 +54,8 @@ module _ {X : Type 0} (R : X → X → Type 0) (apart : (x y : X) → R x y → 
 
 both_less : (x y : List ℕ) → slice_cmp nat_cmp x y ≡ Less → slice_cmp nat_cmp y x ≡ Less → ⊥
 both_less x y a b =
-    let turned : slice_cmp nat_cmp x y ≡ ordering_reverse (slice_cmp nat_cmp y x) = nat_list_cmp_total.antisymm x y in
-    let bad : Less ≡ Greater = sym a ∙ turned ∙ ap ordering_reverse b in
+    let rotated : slice_cmp nat_cmp x y ≡ ordering_reverse (slice_cmp nat_cmp y x) = nat_list_cmp_total.antisymm x y in
+    let bad : Less ≡ Greater = sym a ∙ rotated ∙ ap ordering_reverse b in
     cc
 
 both_before : (p q : Edge) → IsTrue (comes_before p q) → IsTrue (comes_before q p) → ⊥

@@ -5,7 +5,7 @@ use Rattle.std.proofs.lemmas.Bool.Decides.{nat_tests}
 use Rattle.std.proofs.lemmas.List.Elements.{Contains-get_or}
 use Rattle.digraph.specs.declared.edge.Edge.{Edge}
 use Rattle.digraph.specs.Edges.{AreBetween, IsAscending, comes_before}
-use Rattle.digraph.specs.Marks.{edge_at, none_there}
+use Rattle.digraph.specs.Marks.{edge_at, missing_item}
 
 module _ (edges : List Edge) (nodes : ℕ) (between : AreBetween edges nodes) (few : nodes ≤ 8192) (up : IsAscending edges) where
   above : (k : ℕ) → k < length edges → k ≤ (edge_at edges k).from * 8192 + (edge_at edges k).to
@@ -14,8 +14,8 @@ module _ (edges : List Edge) (nodes : ℕ) (between : AreBetween edges nodes) (f
       let p = edge_at edges k in
       let q = edge_at edges (suc k) in
       let low = above k (omega arith) in
-      let to : p.to < nodes = (between p (Contains-get_or edges k none_there (omega arith))).1 in
-      let less = less_by p q (up k (suc k) none_there (omega arith) l) (omega arith) in
+      let to : p.to < nodes = (between p (Contains-get_or edges k missing_item (omega arith))).1 in
+      let less = less_by p q (up k (suc k) missing_item (omega arith) l) (omega arith) in
       omega arith
     where
       less_by : (p q : Edge) → IsTrue (comes_before p q) → p.to < 8192 → p.from * 8192 + p.to < q.from * 8192 + q.to
@@ -29,7 +29,7 @@ module _ (edges : List Edge) (nodes : ℕ) (between : AreBetween edges nodes) (f
       by (suc k) l =
           let p = edge_at edges k in
           let low = above k l in
-          let known = between p (Contains-get_or edges k none_there l) in
+          let known = between p (Contains-get_or edges k missing_item l) in
           let from : p.from < nodes = known.0 in
           let to : p.to < nodes = known.1 in
           omega arith

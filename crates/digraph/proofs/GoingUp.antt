@@ -53,7 +53,7 @@ module _ (edges : List Edge) (starts : List ℕ) (barrier : List Bool) (search :
         let some = path_some (Leads edges) starts barrier at before shortest.is_chain in
         let whole = up.1 before shortest in
         let size = length-append before (reverse path) in
-        let turned = length-reverse path in
+        let rotated = length-reverse path in
         let within = long end (before ++ reverse path) whole in
         omega arith
       where

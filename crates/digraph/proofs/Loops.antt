@@ -4,7 +4,7 @@ use Rattle.std.specs.Prelude.{nat_eq}
 use Rattle.std.specs.List.{list_any}
 use Rattle.std.proofs.lemmas.Bool.{or_cases, or_left, or_right}
 use Rattle.digraph.specs.Chains.{IsAcyclic, IsChain}
-use Rattle.digraph.specs.Cycle.{EachLeadsToMember, IsEndless}
+use Rattle.digraph.specs.Cycle.{EachLeadsToMember, IsCycleCore}
 
 -- the number is one of these
 abbrev among : List ℕ → ℕ → Bool
@@ -40,6 +40,6 @@ each_on_chain Leads m n leads more chain v h = elim (goes_on Leads n more m chai
 ]
 
 -- where no node is endless, no chain comes back
-pub acyclic_without_endless : (Leads : ℕ → ℕ → Type 0) (s : ℕ → Bool) → IsEndless Leads s → ((v : ℕ) → s v ≡ true → ⊥) → IsAcyclic Leads
-acyclic_without_endless Leads s endless none m n leads (more, chain) =
-    none n (endless.greatest (among (n ∷ more)) (each_on_chain Leads m n leads more chain) n (first_among n more))
+pub acyclic_without_endless : (Leads : ℕ → ℕ → Type 0) (s : ℕ → Bool) → IsCycleCore Leads s → ((v : ℕ) → s v ≡ true → ⊥) → IsAcyclic Leads
+acyclic_without_endless Leads s core_nodes none m n leads (more, chain) =
+    none n (core_nodes.greatest (among (n ∷ more)) (each_on_chain Leads m n leads more chain) n (first_among n more))

@@ -9,17 +9,17 @@ use Rattle.std.proofs.lemmas.List.Elements.{All-append, All-from_get_or}
 use Rattle.std.proofs.lemmas.Map.Keys.{apart_from_distinct, IsDistinct-from_apart}
 use Rattle.std.proofs.Math.Seq.{drop-append_seam, take-append_seam}
 use Rattle.digraph.specs.Chains.{Chain, IsAcyclic}
-use Rattle.digraph.specs.Cycle.{ComesBack, IsEndless, IsLeast, IsNext, IsTurned, IsWalk, NamesCycle}
-use Rattle.digraph.proofs.Walks.{All-front, All-back}
+use Rattle.digraph.specs.Cycle.{ClosesAt, IsCycleCore, IsLeast, IsNext, IsRotated, IsWalk, IsCanonicalCycle}
+use Rattle.digraph.proofs.Walks.{All-prefix, All-back}
 
 -- the same nodes are members
 abbrev AreSame : (ℕ → Bool) → (ℕ → Bool) → Type 0
 AreSame s t = (v : ℕ) → s v ≡ t v
 
-flipped : (s t : ℕ → Bool) → AreSame s t → AreSame t s
-flipped s t e v = sym (e v)
+transposed : (s t : ℕ → Bool) → AreSame s t → AreSame t s
+transposed s t e v = sym (e v)
 
-same_endlesss : (G : ℕ → ℕ → Type 0) (s t : ℕ → Bool) → IsEndless G s → IsEndless G t → AreSame s t
+same_endlesss : (G : ℕ → ℕ → Type 0) (s t : ℕ → Bool) → IsCycleCore G s → IsCycleCore G t → AreSame s t
 same_endlesss G s t a b v = elim (cases_Bool (s v)) [
   | inl e ↦ e ∙ sym (b.greatest s a.each v e)
   | inr e ↦ e ∙ sym (false_from_ne_true (t v) (λ h. false≢true (sym e ∙ a.greatest t b.each v h)))
@@ -61,7 +61,7 @@ one_place xs once i j l m same = elim (cases_order i j) [
 ]
 
 -- a walk that came back doesn't go on
-not_shorter : (G : ℕ → ℕ → Type 0) (s t : ℕ → Bool) → AreSame s t → (xs ys : List ℕ) (p : ℕ) → ComesBack G s xs p → IsWalk G t ys → length xs < length ys → ⊥
+not_shorter : (G : ℕ → ℕ → Type 0) (s t : ℕ → Bool) → AreSame s t → (xs ys : List ℕ) (p : ℕ) → ClosesAt G s xs p → IsWalk G t ys → length xs < length ys → ⊥
 not_shorter G s t e xs ys p a b lt =
     let n = length xs - 1 in
     let within : p < length xs = a.place in
@@ -72,21 +72,21 @@ not_shorter G s t e xs ys p a b lt =
     let next : slice_index xs p ≡ slice_index ys (n + 1) = same_next G s t e (slice_index xs n) (slice_index xs p) (slice_index ys n) (slice_index ys (n + 1)) here (a.back n last) (b.goes_on n on) in
     two_places ys b.once p (n + 1) (omega arith) on (sym there ∙ next)
 
-same_length : (G : ℕ → ℕ → Type 0) (s t : ℕ → Bool) → AreSame s t → (xs ys : List ℕ) (p q : ℕ) → ComesBack G s xs p → ComesBack G t ys q → length xs ≡ length ys
+same_length : (G : ℕ → ℕ → Type 0) (s t : ℕ → Bool) → AreSame s t → (xs ys : List ℕ) (p q : ℕ) → ClosesAt G s xs p → ClosesAt G t ys q → length xs ≡ length ys
 same_length G s t e xs ys p q a b = elim (cases_order (length xs) (length ys)) [
   | inl same ↦ same
   | inr differs ↦ elim differs [
     | inl lt ↦ absurd (not_shorter G s t e xs ys p a b.walked lt)
-    | inr gt ↦ absurd (not_shorter G t s (flipped s t e) ys xs q b a.walked gt)
+    | inr gt ↦ absurd (not_shorter G t s (transposed s t e) ys xs q b a.walked gt)
   ]
 ]
 
-same_walks : (G : ℕ → ℕ → Type 0) (s t : ℕ → Bool) → AreSame s t → (xs ys : List ℕ) (p q : ℕ) → ComesBack G s xs p → ComesBack G t ys q → xs ≡ ys
+same_walks : (G : ℕ → ℕ → Type 0) (s t : ℕ → Bool) → AreSame s t → (xs ys : List ℕ) (p q : ℕ) → ClosesAt G s xs p → ClosesAt G t ys q → xs ≡ ys
 same_walks G s t e xs ys p q a b =
     let len : length xs ≡ length ys = same_length G s t e xs ys p q a b in
     same_number_lists xs ys len (λ k l. together G s t e xs ys a.walked b.walked k l (omega arith))
 
-same_places : (G : ℕ → ℕ → Type 0) (s t : ℕ → Bool) → AreSame s t → (xs ys : List ℕ) (p q : ℕ) → ComesBack G s xs p → ComesBack G t ys q → p ≡ q
+same_places : (G : ℕ → ℕ → Type 0) (s t : ℕ → Bool) → AreSame s t → (xs ys : List ℕ) (p q : ℕ) → ClosesAt G s xs p → ClosesAt G t ys q → p ≡ q
 same_places G s t e xs ys p q a b =
     let len : length xs ≡ length ys = same_length G s t e xs ys p q a b in
     let lists : xs ≡ ys = same_walks G s t e xs ys p q a b in
@@ -100,40 +100,40 @@ same_places G s t e xs ys p q a b =
     one_place xs a.walked.once p q within (omega arith) (back ∙ ap (λ (l : List ℕ). slice_index l q) (sym lists))
 
 -- where a list was turned
-record TurnedAt (loop turned : List ℕ) (place : ℕ) : Type 0 where
+record TurnedAt (loop rotated : List ℕ) (place : ℕ) : Type 0 where
   pub within : place < length loop
-  pub is : turned ≡ drop place loop ++ take place loop
+  pub is : rotated ≡ drop place loop ++ take place loop
 
-turned_by : (loop turned front rest : List ℕ) → 0 < length loop → loop ≡ front ++ rest → turned ≡ rest ++ front → (place : ℕ) × TurnedAt loop turned place
-turned_by loop turned front [] some whole turn =
-    let all : loop ≡ front = whole ∙ append-nil front in
-    (0, record { within = some; is = turn ∙ sym all ∙ sym (append-nil loop) })
-turned_by loop turned front (y ∷ ys) some whole turn =
-    let long : length loop ≡ length front + length (y ∷ ys) = ap length whole ∙ length-append front (y ∷ ys) in
-    let back : drop (length front) loop ≡ y ∷ ys = ap (drop (length front)) whole ∙ drop-append_seam front (y ∷ ys) in
-    let fore : take (length front) loop ≡ front = ap (take (length front)) whole ∙ take-append_seam front (y ∷ ys) in
-    (length front, record { within = omega arith; is = turn ∙ rw (back, fore) refl })
+turned_by : (loop rotated prefix rest : List ℕ) → 0 < length loop → loop ≡ prefix ++ rest → rotated ≡ rest ++ prefix → (place : ℕ) × TurnedAt loop rotated place
+turned_by loop rotated prefix [] some whole rotate_to_min =
+    let all : loop ≡ prefix = whole ∙ append-nil prefix in
+    (0, record { within = some; is = rotate_to_min ∙ sym all ∙ sym (append-nil loop) })
+turned_by loop rotated prefix (y ∷ ys) some whole rotate_to_min =
+    let long : length loop ≡ length prefix + length (y ∷ ys) = ap length whole ∙ length-append prefix (y ∷ ys) in
+    let back : drop (length prefix) loop ≡ y ∷ ys = ap (drop (length prefix)) whole ∙ drop-append_seam prefix (y ∷ ys) in
+    let fore : take (length prefix) loop ≡ prefix = ap (take (length prefix)) whole ∙ take-append_seam prefix (y ∷ ys) in
+    (length prefix, record { within = omega arith; is = rotate_to_min ∙ rw (back, fore) refl })
 
 -- the turned list begins with what stands at the place
-begins_at : (loop turned : List ℕ) (place : ℕ) → TurnedAt loop turned place → slice_index turned 0 ≡ slice_index loop place
-begins_at loop turned place t =
+begins_at : (loop rotated : List ℕ) (place : ℕ) → TurnedAt loop rotated place → slice_index rotated 0 ≡ slice_index loop place
+begins_at loop rotated place t =
     let within : place < length loop = t.within in
     let some : 0 < length (drop place loop) = (let e = length-drop place loop in omega arith) in
     ap (λ (l : List ℕ). slice_index l 0) t.is ∙ get_or_append_left (drop place loop) (take place loop) 0 0 some ∙ get_or-drop place loop 0 0 ∙ ap (slice_index loop) (omega arith)
 
 -- what holds of the turned list holds of the loop
-loop_has : (P : ℕ → Type 0) (loop turned : List ℕ) (place : ℕ) → TurnedAt loop turned place → All P turned → All P loop
-loop_has P loop turned place t all =
+loop_has : (P : ℕ → Type 0) (loop rotated : List ℕ) (place : ℕ) → TurnedAt loop rotated place → All P rotated → All P loop
+loop_has P loop rotated place t all =
     let parts : All P (drop place loop ++ take place loop) = subst (All P) t.is all in
-    let whole : All P (take place loop ++ drop place loop) = All-append P (take place loop) (drop place loop) (All-back P (drop place loop) (take place loop) parts) (All-front P (drop place loop) (take place loop) parts) in
+    let whole : All P (take place loop ++ drop place loop) = All-append P (take place loop) (drop place loop) (All-back P (drop place loop) (take place loop) parts) (All-prefix P (drop place loop) (take place loop) parts) in
     subst (All P) (take-append-drop place loop) whole
 
-least_in_loop : (loop turned : List ℕ) (place k : ℕ) → TurnedAt loop turned place → ((j : ℕ) → j < length turned → slice_index turned 0 ≤ slice_index turned j) → k < length loop
-    → slice_index turned 0 ≤ slice_index loop k
-least_in_loop loop turned place k t least l = loop_has (λ x. slice_index turned 0 ≤ x) loop turned place t (All-from_get_or (λ x. slice_index turned 0 ≤ x) turned 0 least) k 0 l
+least_in_loop : (loop rotated : List ℕ) (place k : ℕ) → TurnedAt loop rotated place → ((j : ℕ) → j < length rotated → slice_index rotated 0 ≤ slice_index rotated j) → k < length loop
+    → slice_index rotated 0 ≤ slice_index loop k
+least_in_loop loop rotated place k t least l = loop_has (λ x. slice_index rotated 0 ≤ x) loop rotated place t (All-from_get_or (λ x. slice_index rotated 0 ≤ x) rotated 0 least) k 0 l
 
-same_turns : (loop a b : List ℕ) → 0 < length loop → IsDistinct nat_eq loop → IsTurned loop a → IsTurned loop b → a ≡ b
-same_turns loop a b some once s t = by (turned_by loop a s.front s.rest some s.whole s.turn) (turned_by loop b t.front t.rest some t.whole t.turn)
+same_turns : (loop a b : List ℕ) → 0 < length loop → IsDistinct nat_eq loop → IsRotated loop a → IsRotated loop b → a ≡ b
+same_turns loop a b some once s t = by (turned_by loop a s.prefix s.rest some s.whole s.rotate_to_min) (turned_by loop b t.prefix t.rest some t.whole t.rotate_to_min)
   where
     by : (p : ℕ) × TurnedAt loop a p → (q : ℕ) × TurnedAt loop b q → a ≡ b
     by (p, at) (q, bt) =
@@ -151,15 +151,15 @@ rest_distinct xs p once = IsDistinct-from_apart nat_eq (drop p xs) (λ i j d lt 
     rw (get_or-drop p xs i d, get_or-drop p xs j d) (apart_from_distinct nat_eq xs (p + i) (p + j) d once (omega arith) inside))
 
 -- at most one cycle is named
-pub one_cycle : (G : ℕ → ℕ → Type 0) (a b : List ℕ) → NamesCycle G a → NamesCycle G b → a ≡ b
+pub one_cycle : (G : ℕ → ℕ → Type 0) (a b : List ℕ) → IsCanonicalCycle G a → IsCanonicalCycle G b → a ≡ b
 one_cycle G a b s t =
-    let e : AreSame s.endless t.endless = same_endlesss G s.endless t.endless s.is_endless t.is_endless in
-    let walks : s.walk ≡ t.walk = same_walks G s.endless t.endless e s.walk t.walk s.place t.place s.comes_back t.comes_back in
-    let places : s.place ≡ t.place = same_places G s.endless t.endless e s.walk t.walk s.place t.place s.comes_back t.comes_back in
+    let e : AreSame s.core_nodes t.core_nodes = same_endlesss G s.core_nodes t.core_nodes s.is_core t.is_core in
+    let walks : s.walk ≡ t.walk = same_walks G s.core_nodes t.core_nodes e s.walk t.walk s.place t.place s.closes_at t.closes_at in
+    let places : s.place ≡ t.place = same_places G s.core_nodes t.core_nodes e s.walk t.walk s.place t.place s.closes_at t.closes_at in
     let loops : drop t.place t.walk ≡ drop s.place s.walk = ap (λ (l : List ℕ). drop t.place l) (sym walks) ∙ ap (λ (k : ℕ). drop k s.walk) (sym places) in
-    let within : s.place < length s.walk = s.comes_back.place in
+    let within : s.place < length s.walk = s.closes_at.place in
     let some : 0 < length (drop s.place s.walk) = (let l = length-drop s.place s.walk in omega arith) in
-    same_turns (drop s.place s.walk) a b some (rest_distinct s.walk s.place s.comes_back.walked.once) s.turned (subst (λ (l : List ℕ). IsTurned l b) loops t.turned)
+    same_turns (drop s.place s.walk) a b some (rest_distinct s.walk s.place s.closes_at.walked.once) s.rotated (subst (λ (l : List ℕ). IsRotated l b) loops t.rotated)
 
 -- a walk is a chain
 walk_chain : (G : ℕ → ℕ → Type 0) (s : ℕ → Bool) (walk : List ℕ) → IsWalk G s walk → (d k : ℕ) → k + d < length walk
@@ -172,12 +172,12 @@ walk_chain G s walk w (suc d) k l =
     subst (λ (n : ℕ). Chain G (slice_index walk k) (slice_index walk n)) end (slice_index walk (k + 1) ∷ rest.0, (next.leads, rest.1))
 
 -- where a cycle is named, a chain comes back
-pub cyclic : (G : ℕ → ℕ → Type 0) (cycle : List ℕ) → NamesCycle G cycle → IsAcyclic G → ⊥
+pub cyclic : (G : ℕ → ℕ → Type 0) (cycle : List ℕ) → IsCanonicalCycle G cycle → IsAcyclic G → ⊥
 cyclic G cycle c acyclic =
     let n = length c.walk - 1 in
     let p = c.place in
-    let within : p < length c.walk = c.comes_back.place in
+    let within : p < length c.walk = c.closes_at.place in
     let last : n + 1 ≡ length c.walk = omega arith in
     let end : p + (n - p) ≡ n = omega arith in
-    acyclic (slice_index c.walk n) (slice_index c.walk p) (c.comes_back.back n last).leads
-    (subst (λ (m : ℕ). Chain G (slice_index c.walk p) (slice_index c.walk m)) end (walk_chain G c.endless c.walk c.comes_back.walked (n - p) p (omega arith)))
+    acyclic (slice_index c.walk n) (slice_index c.walk p) (c.closes_at.back n last).leads
+    (subst (λ (m : ℕ). Chain G (slice_index c.walk p) (slice_index c.walk m)) end (walk_chain G c.core_nodes c.walk c.closes_at.walked (n - p) p (omega arith)))

@@ -2,7 +2,7 @@
 use Rattle.std.proofs.Common.{ℕ, List, [], ◌∷◌, Bool}
 use Rattle.std.specs.Prelude.{◌↔◌}
 use Rattle.digraph.specs.Chains.{IsAcyclic, IsChain}
-use Rattle.digraph.specs.Cycle.{ComesBack, EachLeadsToMember, IsEndless, IsNext, IsWalk, NamesCycle}
+use Rattle.digraph.specs.Cycle.{ClosesAt, EachLeadsToMember, IsCycleCore, IsNext, IsWalk, IsCanonicalCycle}
 
 abbrev pub AreSame : (ℕ → ℕ → Type 0) → (ℕ → ℕ → Type 0) → Type 0
 AreSame G H = (m n : ℕ) → G m n ↔ H m n
@@ -11,7 +11,7 @@ each_as : (G H : ℕ → ℕ → Type 0) → ((m n : ℕ) → G m n → H m n) �
 each_as G H to s each v h = let w = each v h in (w.0, to v w.0 w.1, w.2)
 
 module _ (G H : ℕ → ℕ → Type 0) (same : AreSame G H) where
-  endless_as : (s : ℕ → Bool) → IsEndless G s → IsEndless H s
+  endless_as : (s : ℕ → Bool) → IsCycleCore G s → IsCycleCore H s
   endless_as s k = record {
     each = each_as G H (λ m n. (same m n).0) s k.each;
     greatest = λ t each. k.greatest t (each_as H G (λ m n. (same m n).1) t each);
@@ -31,21 +31,21 @@ module _ (G H : ℕ → ℕ → Type 0) (same : AreSame G H) where
     once = w.once;
   }
 
-  back_as : (s : ℕ → Bool) (walk : List ℕ) (place : ℕ) → ComesBack G s walk place → ComesBack H s walk place
+  back_as : (s : ℕ → Bool) (walk : List ℕ) (place : ℕ) → ClosesAt G s walk place → ClosesAt H s walk place
   back_as s walk place c = record {
     walked = walk_as s walk c.walked;
     place = c.place;
     back = λ n e. next_as s _ _ (c.back n e);
   }
 
-  pub names_as : (cycle : List ℕ) → NamesCycle G cycle → NamesCycle H cycle
+  pub names_as : (cycle : List ℕ) → IsCanonicalCycle G cycle → IsCanonicalCycle H cycle
   names_as cycle c = record {
-    endless = c.endless;
-    is_endless = endless_as c.endless c.is_endless;
+    core_nodes = c.core_nodes;
+    is_core = endless_as c.core_nodes c.is_core;
     walk = c.walk;
     place = c.place;
-    comes_back = back_as c.endless c.walk c.place c.comes_back;
-    turned = c.turned;
+    closes_at = back_as c.core_nodes c.walk c.place c.closes_at;
+    rotated = c.rotated;
   }
 
   pub chain_as : (m : ℕ) (more : List ℕ) (b : ℕ) → IsChain H m more b → IsChain G m more b

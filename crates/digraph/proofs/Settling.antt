@@ -7,8 +7,8 @@ use Rattle.std.proofs.lemmas.List.{get_or_default, get_or-set_same, get_or-set_o
 use Rattle.std.proofs.lemmas.List.Elements.{Contains-get_or, Contains-append_left, Contains-append_right, Contains-push_cases}
 use Rattle.digraph.specs.declared.edge.Edge.{Edge}
 use Rattle.digraph.specs.Cycle.{EachLeadsToMember, IsNext}
-use Rattle.digraph.specs.Marks.{none_there, edge_at, marked, mark_count, place_at, work_left, StartsFrom, ArePassed, LeadsToMarked, AreStarts, IsSettling}
-use Rattle.digraph.specs.Arrivals.{AreWaitingFor}
+use Rattle.digraph.specs.Marks.{missing_item, edge_at, marked, mark_count, index_at, work_left, StartsFrom, ArePassed, LeadsToMarked, AreStarts, IsPruning}
+use Rattle.digraph.specs.Incoming.{AreDependents}
 use Rattle.digraph.specs.Edges.{AreBetween, IsAscending, Leads, comes_before}
 
 -- the place of an edge between two nodes
@@ -21,11 +21,11 @@ pub record PlaceOf (edges : List Edge) (v w : ℕ) : Type 0 where
 pub place_of : (edges : List Edge) (v w : ℕ) → Leads edges v w → PlaceOf edges v w
 place_of edges v w (k, l, e) =
     let edge : Edge = record { from = v; to = w } in
-    let is : edge_at edges k ≡ edge = get_or_default edges k none_there edge l ∙ e in
+    let is : edge_at edges k ≡ edge = get_or_default edges k missing_item edge l ∙ e in
     record { place = k; within = l; from = ap (λ (j : Edge). j.from) is; to = ap (λ (j : Edge). j.to) is }
 
 pub leads_at : (edges : List Edge) (k : ℕ) → k < length edges → Leads edges (edge_at edges k).from (edge_at edges k).to
-leads_at edges k l = Contains-get_or edges k none_there l
+leads_at edges k l = Contains-get_or edges k missing_item l
 
 before_from : (i j : Edge) → comes_before i j ≡ true → i.from ≤ j.from
 before_from i j e = grind (arith, nat_tests)
@@ -36,12 +36,12 @@ before_to i j e same = grind (arith, nat_tests)
 pub from_ascends : (edges : List Edge) (j k : ℕ) → IsAscending edges → j ≤ k → k < length edges → (edge_at edges j).from ≤ (edge_at edges k).from
 from_ascends edges j k up le l = elim (cases_eq j k) [
   | inl e ↦ rw e (omega arith)
-  | inr ne ↦ before_from (edge_at edges j) (edge_at edges k) (up j k none_there (omega arith) l)
+  | inr ne ↦ before_from (edge_at edges j) (edge_at edges k) (up j k missing_item (omega arith) l)
 ]
 
 pub to_ascends : (edges : List Edge) (j k : ℕ) → IsAscending edges → j < k → k < length edges → (edge_at edges j).from ≡ (edge_at edges k).from
     → (edge_at edges j).to < (edge_at edges k).to
-to_ascends edges j k up lt l same = before_to (edge_at edges j) (edge_at edges k) (up j k none_there lt l) same
+to_ascends edges j k up lt l same = before_to (edge_at edges j) (edge_at edges k) (up j k missing_item lt l) same
 
 -- where another node's edge stands, the node has no more
 pub passed_beyond : (edges : List Edge) (marks : List Bool) (v start p : ℕ) → IsAscending edges → StartsFrom edges v start → start ≤ p → p < length edges
@@ -55,38 +55,38 @@ passed_beyond edges marks v start p up starts le l other passed k low _ inside i
 ]
 
 -- one more edge before those that are known
-pub starts_more : (edges : List Edge) (nodes : ℕ) (places : List ℕ) (p : ℕ) → IsAscending edges → p < length edges → ((v : ℕ) → v < nodes → StartsFrom edges v (place_at places v))
-    → (v : ℕ) → v < nodes → StartsFrom edges v (place_at (slice_set places (edge_at edges p).from p) v)
+pub starts_more : (edges : List Edge) (nodes : ℕ) (places : List ℕ) (p : ℕ) → IsAscending edges → p < length edges → ((v : ℕ) → v < nodes → StartsFrom edges v (index_at places v))
+    → (v : ℕ) → v < nodes → StartsFrom edges v (index_at (slice_set places (edge_at edges p).from p) v)
 starts_more edges nodes places p up l starts v in_nodes k low inside = elim (cases_eq v (edge_at edges p).from) [
   | inl e ↦ elim (cases_lt v (length places)) [
     | inl here ↦
-        let at : place_at (slice_set places (edge_at edges p).from p) v ≡ p = rw (← e) (get_or-set_same places v p 0 here) in
+        let at : index_at (slice_set places (edge_at edges p).from p) v ≡ p = rw (← e) (get_or-set_same places v p 0 here) in
         rw e (from_ascends edges p k up (omega arith) inside)
     | inr past ↦ starts v in_nodes k (past_places places v k past) inside
   ]
   | inr ne ↦
-      let at : place_at (slice_set places (edge_at edges p).from p) v ≡ place_at places v = get_or-set_other places (edge_at edges p).from v p 0 ne in
+      let at : index_at (slice_set places (edge_at edges p).from p) v ≡ index_at places v = get_or-set_other places (edge_at edges p).from v p 0 ne in
       starts v in_nodes k (omega arith) inside
 ]
   where
-    past_places : (places : List ℕ) (v k : ℕ) → length places ≤ v → place_at places v ≤ k
+    past_places : (places : List ℕ) (v k : ℕ) → length places ≤ v → index_at places v ≤ k
     past_places [] v k le = omega arith
     past_places (x ∷ xs) zero k le = absurd (omega arith)
     past_places (x ∷ xs) (suc v) k le = past_places xs v k (omega arith)
 
 pub above_more : (edges : List Edge) (places : List ℕ) (p : ℕ) → p < length edges → (edge_at edges p).from < length places
-    → ((k : ℕ) → p + 1 ≤ k → k < length edges → place_at places (edge_at edges k).from ≤ k)
-    → (k : ℕ) → p ≤ k → k < length edges → place_at (slice_set places (edge_at edges p).from p) (edge_at edges k).from ≤ k
+    → ((k : ℕ) → p + 1 ≤ k → k < length edges → index_at places (edge_at edges k).from ≤ k)
+    → (k : ℕ) → p ≤ k → k < length edges → index_at (slice_set places (edge_at edges p).from p) (edge_at edges k).from ≤ k
 above_more edges places p l here above k le inside = elim (cases_eq (edge_at edges k).from (edge_at edges p).from) [
   | inl e ↦
-      let at : place_at (slice_set places (edge_at edges p).from p) (edge_at edges k).from ≡ p = rw e (get_or-set_same places (edge_at edges p).from p 0 here) in
+      let at : index_at (slice_set places (edge_at edges p).from p) (edge_at edges k).from ≡ p = rw e (get_or-set_same places (edge_at edges p).from p 0 here) in
       omega arith
   | inr ne ↦
-      let at : place_at (slice_set places (edge_at edges p).from p) (edge_at edges k).from ≡ place_at places (edge_at edges k).from
+      let at : index_at (slice_set places (edge_at edges p).from p) (edge_at edges k).from ≡ index_at places (edge_at edges k).from
       = get_or-set_other places (edge_at edges p).from (edge_at edges k).from p 0 ne in
       elim (cases_eq k p) [
         | inl same ↦ absurd (ne (ap (λ (j : ℕ). (edge_at edges j).from) same))
-        | inr differs ↦ let old : place_at places (edge_at edges k).from ≤ k = above k (omega arith) inside in omega arith
+        | inr differs ↦ let old : index_at places (edge_at edges k).from ≤ k = above k (omega arith) inside in omega arith
       ]
 ]
 
@@ -111,7 +111,7 @@ inside_nodes edges nodes between t each v h =
     (between (record { from = v; to = m.0 }) m.1).0
 
 pub settling_first : (edges : List Edge) (nodes : ℕ) (marks : List Bool) (places again : List ℕ) → AreBetween edges nodes → marks ≡ replicate nodes true → length marks ≡ nodes
-    → AreStarts edges nodes places → ((v : ℕ) → v < nodes → Contains again v) → IsSettling edges nodes marks places again
+    → AreStarts edges nodes places → ((v : ℕ) → v < nodes → Contains again v) → IsPruning edges nodes marks places again
 settling_first edges nodes marks places again between full size starts all = record {
   size = size;
   placed = starts.size;
@@ -122,8 +122,8 @@ settling_first edges nodes marks places again between full size starts all = rec
 }
 
 -- a node without a mark need not be looked at again
-pub settling_unmarked : (edges : List Edge) (nodes : ℕ) (marks : List Bool) (places again : List ℕ) (v : ℕ) → IsSettling edges nodes marks places (again ++ v ∷ [])
-    → marked marks v ≡ false → IsSettling edges nodes marks places again
+pub settling_unmarked : (edges : List Edge) (nodes : ℕ) (marks : List Bool) (places again : List ℕ) (v : ℕ) → IsPruning edges nodes marks places (again ++ v ∷ [])
+    → marked marks v ≡ false → IsPruning edges nodes marks places again
 settling_unmarked edges nodes marks places again v s off = record {
   size = s.size;
   placed = s.placed;
@@ -140,15 +140,15 @@ settling_unmarked edges nodes marks places again v s off = record {
 }
 
 -- a node that leads on to a marked one from a later place need not either
-pub settling_placed : (edges : List Edge) (nodes : ℕ) (marks : List Bool) (places again : List ℕ) (v p : ℕ) → IsSettling edges nodes marks places (again ++ v ∷ [])
-    → marked marks v ≡ true → place_at places v ≤ p → LeadsToMarked edges marks v p → ArePassed edges marks v (place_at places v) p
-    → IsSettling edges nodes marks (slice_set places v p) again
+pub settling_placed : (edges : List Edge) (nodes : ℕ) (marks : List Bool) (places again : List ℕ) (v p : ℕ) → IsPruning edges nodes marks places (again ++ v ∷ [])
+    → marked marks v ≡ true → index_at places v ≤ p → LeadsToMarked edges marks v p → ArePassed edges marks v (index_at places v) p
+    → IsPruning edges nodes marks (slice_set places v p) again
 settling_placed edges nodes marks places again v p s on later leads passed =
     let in_marks : v < length marks = marked_below marks v on in
     let in_nodes : v < nodes = (let e = s.size in omega arith) in
     let here : v < length places = (let e = s.placed in omega arith) in
-    let own : place_at (slice_set places v p) v ≡ p = get_or-set_same places v p 0 here in
-    let other : (u : ℕ) → (u ≡ v → ⊥) → place_at (slice_set places v p) u ≡ place_at places u = λ u ne. get_or-set_other places v u p 0 ne in
+    let own : index_at (slice_set places v p) v ≡ p = get_or-set_same places v p 0 here in
+    let other : (u : ℕ) → (u ≡ v → ⊥) → index_at (slice_set places v p) u ≡ index_at places u = λ u ne. get_or-set_other places v u p 0 ne in
     record {
       size = s.size;
       placed = length-set places v p ∙ s.placed;
@@ -157,7 +157,7 @@ settling_placed edges nodes marks places again v p s on later leads passed =
         | inr ne ↦ rw (other u ne) (s.starts u l)
       ];
       passed = λ u l. elim (cases_eq u v) [
-        | inl e ↦ rw (e, own) (λ k low below inside is. elim (cases_lt k (place_at places v)) [
+        | inl e ↦ rw (e, own) (λ k low below inside is. elim (cases_lt k (index_at places v)) [
           | inl before ↦ s.passed v in_nodes k low before inside is
           | inr after ↦ passed k after below inside is
         ])
@@ -177,9 +177,9 @@ settling_placed edges nodes marks places again v p s on later leads passed =
     }
 
 -- a node that leads to no marked one loses its mark, and those that wait for it are looked at again
-pub settling_without : (edges : List Edge) (nodes : ℕ) (marks : List Bool) (places again row : List ℕ) (v : ℕ) → IsSettling edges nodes marks places (again ++ v ∷ [])
-    → AreWaitingFor edges places v row → marked marks v ≡ true → ArePassed edges marks v (place_at places v) (length edges)
-    → IsSettling edges nodes (slice_set marks v false) places (again ++ row)
+pub settling_without : (edges : List Edge) (nodes : ℕ) (marks : List Bool) (places again row : List ℕ) (v : ℕ) → IsPruning edges nodes marks places (again ++ v ∷ [])
+    → AreDependents edges places v row → marked marks v ≡ true → ArePassed edges marks v (index_at places v) (length edges)
+    → IsPruning edges nodes (slice_set marks v false) places (again ++ row)
 settling_without edges nodes marks places again row v s are on none =
     let in_marks : v < length marks = marked_below marks v on in
     let in_nodes : v < nodes = (let e = s.size in omega arith) in
@@ -189,7 +189,7 @@ settling_without edges nodes marks places again row v s are on none =
       | inl e ↦ ap (marked (slice_set marks v false)) e ∙ own
       | inr ne ↦ other u ne ∙ off
     ] in
-    let all_off : (k : ℕ) → k < length edges → (edge_at edges k).from ≡ v → marked marks (edge_at edges k).to ≡ false = λ k inside is. elim (cases_lt k (place_at places v)) [
+    let all_off : (k : ℕ) → k < length edges → (edge_at edges k).from ≡ v → marked marks (edge_at edges k).to ≡ false = λ k inside is. elim (cases_lt k (index_at places v)) [
       | inl before ↦ s.passed v in_nodes k (omega arith) before inside is
       | inr after ↦ none k after inside inside is
     ] in
@@ -206,10 +206,10 @@ settling_without edges nodes marks places again row v s are on none =
             | inr same ↦ absurd (ne (sym same))
           ]
           | inr old ↦
-              let p = place_at places u in
+              let p = index_at places u in
               let to = (edge_at edges p).to in
               elim (cases_eq to v) [
-                | inl e ↦ inl (Contains-append_right again row u (subst (Contains row) old.from (are.all p old.within e (ap (place_at places) old.from))))
+                | inl e ↦ inl (Contains-append_right again row u (subst (Contains row) old.from (are.all p old.within e (ap (index_at places) old.from))))
                 | inr differs ↦ inr (record { within = old.within; from = old.from; to = other to differs ∙ old.to })
               ]
         ]
@@ -225,18 +225,18 @@ settling_without edges nodes marks places again row v s are on none =
     }
 
 -- where none is to be looked at again, the marks are those of the endless nodes
-pub settled_leads : (edges : List Edge) (nodes : ℕ) (marks : List Bool) (places : List ℕ) → IsSettling edges nodes marks places [] → (v : ℕ) → marked marks v ≡ true
-    → LeadsToMarked edges marks v (place_at places v)
+pub settled_leads : (edges : List Edge) (nodes : ℕ) (marks : List Bool) (places : List ℕ) → IsPruning edges nodes marks places [] → (v : ℕ) → marked marks v ≡ true
+    → LeadsToMarked edges marks v (index_at places v)
 settled_leads edges nodes marks places s v h = elim (s.waits v h) [
   | inl listed ↦ absurd (let l : listed.0 < 0 = listed.1 in omega arith)
   | inr leads ↦ leads
 ]
 
-pub settled_next : (edges : List Edge) (nodes : ℕ) (marks : List Bool) (places : List ℕ) → IsAscending edges → IsSettling edges nodes marks places [] → (v : ℕ) → marked marks v ≡ true
-    → IsNext (Leads edges) (marked marks) v (edge_at edges (place_at places v)).to
+pub settled_next : (edges : List Edge) (nodes : ℕ) (marks : List Bool) (places : List ℕ) → IsAscending edges → IsPruning edges nodes marks places [] → (v : ℕ) → marked marks v ≡ true
+    → IsNext (Leads edges) (marked marks) v (edge_at edges (index_at places v)).to
 settled_next edges nodes marks places up s v h =
     let l = settled_leads edges nodes marks places s v h in
-    let p = place_at places v in
+    let p = index_at places v in
     let in_marks : v < length marks = marked_below marks v h in
     let in_nodes : v < nodes = (let e = s.size in omega arith) in
     record {
@@ -266,5 +266,5 @@ work_less edges marks again row v on few =
     omega arith
 
 -- what was read is what stands at the node's place
-pub read_place : (places : List ℕ) (v r : ℕ) → r ≡ slice_index_or places v r → v < length places → r ≡ place_at places v
+pub read_place : (places : List ℕ) (v r : ℕ) → r ≡ slice_index_or places v r → v < length places → r ≡ index_at places v
 read_place places v r is l = is ∙ get_or_default places v r 0 l

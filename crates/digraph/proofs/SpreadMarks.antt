@@ -7,7 +7,7 @@ use Rattle.std.proofs.lemmas.List.Elements.{Contains-push, Contains-push_cases, 
 use Rattle.std.proofs.lemmas.List.Sums.{sum_by-set}
 use Rattle.digraph.specs.Marks.{marked}
 use Rattle.digraph.specs.Spreading.{left_over, IsSpread, IsSpreadBut}
-use Rattle.digraph.specs.Trails.{IsLast}
+use Rattle.digraph.specs.LinkedLists.{IsLast}
 
 -- ---- one mark more
 

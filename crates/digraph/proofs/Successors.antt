@@ -8,7 +8,7 @@ use Rattle.std.proofs.lemmas.List.Kept.{AllPairs-filter}
 use Rattle.std.specs.Global.{Vec}
 use Rattle.digraph.specs.declared.edge.Edge.{Edge}
 use Rattle.digraph.specs.Edges.{comes_before, IsAscending, Leads, successors}
-use Rattle.digraph.specs.Marks.{lists, none_there, row_at}
+use Rattle.digraph.specs.Marks.{lists, missing_item, list_at}
 use Rattle.digraph.proofs.Members.{from_map, in_filter, in_map, of_filter}
 
 -- they are those that the node leads to
@@ -29,18 +29,18 @@ successors_ascend edges v up i j d less in_j =
     let long = length-map some (λ p. p.to) in
     let i_in : i < length some = omega arith in
     let j_in : j < length some = omega arith in
-    let i_from : (get_or some i none_there).from ≡ v = eqb-true (get_or some i none_there).from v (filter_passes (λ (p : Edge). p.from == v) edges i none_there i_in) in
-    let j_from : (get_or some j none_there).from ≡ v = eqb-true (get_or some j none_there).from v (filter_passes (λ (p : Edge). p.from == v) edges j none_there j_in) in
-    let before = AllPairs-filter (λ (p q : Edge). IsTrue (comes_before p q)) (λ p. p.from == v) edges up i j none_there less j_in in
-    rw (get_or-map (λ (p : Edge). p.to) some i none_there d i_in, get_or-map (λ (p : Edge). p.to) some j none_there d j_in)
+    let i_from : (get_or some i missing_item).from ≡ v = eqb-true (get_or some i missing_item).from v (filter_passes (λ (p : Edge). p.from == v) edges i missing_item i_in) in
+    let j_from : (get_or some j missing_item).from ≡ v = eqb-true (get_or some j missing_item).from v (filter_passes (λ (p : Edge). p.from == v) edges j missing_item j_in) in
+    let before = AllPairs-filter (λ (p q : Edge). IsTrue (comes_before p q)) (λ p. p.from == v) edges up i j missing_item less j_in in
+    rw (get_or-map (λ (p : Edge). p.to) some i missing_item d i_in, get_or-map (λ (p : Edge). p.to) some j missing_item d j_in)
     (elim (or_cases _ _ before) [
-      | inl l ↦ let low : (get_or some i none_there).from < (get_or some j none_there).from = ltb-true (get_or some i none_there).from (get_or some j none_there).from l in absurd (omega arith)
-      | inr r ↦ ltb-true (get_or some i none_there).to (get_or some j none_there).to (and_parts _ _ r).1
+      | inl l ↦ let low : (get_or some i missing_item).from < (get_or some j missing_item).from = ltb-true (get_or some i missing_item).from (get_or some j missing_item).from l in absurd (omega arith)
+      | inr r ↦ ltb-true (get_or some i missing_item).to (get_or some j missing_item).to (and_parts _ _ r).1
     ])
 
 -- the row of a node are its successors
 pub row_is : (edges : List Edge) (rows : List (Vec ℕ)) (at : ℕ) (row : Vec ℕ) (items : List ℕ) → items ≡ row.items → row ≡ get_or rows at row → at < length rows →
-    row_at (lists rows) at ≡ successors edges at → items ≡ successors edges at
+    list_at (lists rows) at ≡ successors edges at → items ≡ successors edges at
 row_is edges rows at row items value is in_rows same =
     let of : Vec ℕ → List ℕ = λ r. r.items in
     value ∙ ap of is ∙ sym (get_or-map of rows at row [] in_rows) ∙ same

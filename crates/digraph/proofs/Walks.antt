@@ -10,13 +10,13 @@ use Rattle.std.proofs.lemmas.Map.Steps.{length-le_from_distinct_below}
 use Rattle.std.proofs.lemmas.Map.Views.{exact_unsigned_eq, Contains-from_any}
 use Rattle.std.proofs.lemmas.Cmp.{nat_eq_equiv}
 use Rattle.std.proofs.Math.Seq.{get_or-append_seam}
-use Rattle.digraph.specs.Cycle.{ComesBack, IsLeast, IsNext, IsTurned, IsWalk}
+use Rattle.digraph.specs.Cycle.{ClosesAt, IsLeast, IsNext, IsRotated, IsWalk}
 use Rattle.digraph.specs.Marks.{marked}
 use Rattle.digraph.proofs.Settling.{marked_below}
 
 -- the place that the table has for a node
-abbrev pub place_in : List (Option ℕ) → ℕ → Option ℕ
-place_in table v = slice_index_or table v None
+abbrev pub index_in : List (Option ℕ) → ℕ → Option ℕ
+index_in table v = slice_index_or table v None
 
 -- a walk that goes on at a node which it hasn't met, with the places of those that it has
 pub record Walking (Leads : ℕ → ℕ → Type 0) (s : ℕ → Bool) (walk : List ℕ) (table : List (Option ℕ)) (at : ℕ) : Type 0 where
@@ -25,9 +25,9 @@ pub record Walking (Leads : ℕ → ℕ → Type 0) (s : ℕ → Bool) (walk : L
   pub first : length walk ≡ 0 → IsLeast s at
   pub next : (n : ℕ) → n + 1 ≡ length walk → IsNext Leads s (slice_index walk n) at
   pub member : s at ≡ true
-  pub placed : (k : ℕ) → k < length walk → place_in table (slice_index walk k) ≡ Some k
-  pub known : (v k : ℕ) → place_in table v ≡ Some k → (k < length walk) × (slice_index walk k ≡ v)
-  pub unmet : place_in table at ≡ None
+  pub placed : (k : ℕ) → k < length walk → index_in table (slice_index walk k) ≡ Some k
+  pub known : (v k : ℕ) → index_in table v ≡ Some k → (k < length walk) × (slice_index walk k ≡ v)
+  pub unmet : index_in table at ≡ None
 
 same_default : (xs : List ℕ) (k y : ℕ) → k < length xs → slice_index xs k ≡ slice_index_or xs k y
 same_default xs k y l = get_or_default xs k 0 y l
@@ -43,14 +43,14 @@ none_twice : IsDistinct nat_eq []
 unfolding IsDistinct
 none_twice = tt
 
-no_place : (n v : ℕ) → place_in (replicate n None) v ≡ None
+no_place : (n v : ℕ) → index_in (replicate n None) v ≡ None
 no_place zero v = refl
 no_place (suc n) zero = refl
 no_place (suc n) (suc v) = no_place n v
 
 pub walking_first : (Leads : ℕ → ℕ → Type 0) (s : ℕ → Bool) (table : List (Option ℕ)) (n v : ℕ) → table ≡ replicate n None → IsLeast s v → Walking Leads s [] table v
 walking_first Leads s table n v e least =
-    let unmet : (u : ℕ) → place_in table u ≡ None = λ u. ap (λ (t : List (Option ℕ)). place_in t u) e ∙ no_place n u in
+    let unmet : (u : ℕ) → index_in table u ≡ None = λ u. ap (λ (t : List (Option ℕ)). index_in t u) e ∙ no_place n u in
     record {
       walked = record {
         begins = λ l. absurd (omega arith);
@@ -70,7 +70,7 @@ walking_first Leads s table n v e least =
 new_node : (Leads : ℕ → ℕ → Type 0) (s : ℕ → Bool) (walk : List ℕ) (table : List (Option ℕ)) (at : ℕ) → Walking Leads s walk table at
     → (k : ℕ) → k < length walk → slice_index walk k ≡ at → ⊥
 new_node Leads s walk table at w k l is =
-    let bad : None ≡ Some k = sym w.unmet ∙ ap (place_in table) (sym is) ∙ w.placed k l in
+    let bad : None ≡ Some k = sym w.unmet ∙ ap (index_in table) (sym is) ∙ w.placed k l in
     cc
 
 module _ (Leads : ℕ → ℕ → Type 0) (s : ℕ → Bool) (walk : List ℕ) (table : List (Option ℕ)) (at : ℕ) (w : Walking Leads s walk table at) where
@@ -107,7 +107,7 @@ module _ (Leads : ℕ → ℕ → Type 0) (s : ℕ → Bool) (walk : List ℕ) (
         | inr le ↦ let e : k ≡ length walk = omega arith in rw (end k e) w.member
       ]
 
-  pub all_placed : at < length table → (k : ℕ) → k < length (walk ++ at ∷ []) → place_in (slice_set table at (Some (length walk))) (slice_index (walk ++ at ∷ []) k) ≡ Some k
+  pub all_placed : at < length table → (k : ℕ) → k < length (walk ++ at ∷ []) → index_in (slice_set table at (Some (length walk))) (slice_index (walk ++ at ∷ []) k) ≡ Some k
   all_placed here k h =
       let long : length (walk ++ at ∷ []) ≡ length walk + 1 = length-append walk (at ∷ []) in
       elim (cases_lt k (length walk)) [
@@ -115,12 +115,12 @@ module _ (Leads : ℕ → ℕ → Type 0) (s : ℕ → Bool) (walk : List ℕ) (
         | inr le ↦ let e : k ≡ length walk = omega arith in rw (end k e) (get_or-set_same table at (Some (length walk)) None here ∙ ap (λ (n : ℕ). Some n) (sym e))
       ]
 
-  pub all_known : at < length table → (v k : ℕ) → place_in (slice_set table at (Some (length walk))) v ≡ Some k → (k < length (walk ++ at ∷ [])) × (slice_index (walk ++ at ∷ []) k ≡ v)
+  pub all_known : at < length table → (v k : ℕ) → index_in (slice_set table at (Some (length walk))) v ≡ Some k → (k < length (walk ++ at ∷ [])) × (slice_index (walk ++ at ∷ []) k ≡ v)
   all_known here v k is =
       let long : length (walk ++ at ∷ []) ≡ length walk + 1 = length-append walk (at ∷ []) in
       elim (cases_eq v at) [
         | inl e ↦
-            let own : place_in (slice_set table at (Some (length walk))) v ≡ Some (length walk) = ap (place_in (slice_set table at (Some (length walk)))) e ∙ get_or-set_same table at (Some (length walk)) None here in
+            let own : index_in (slice_set table at (Some (length walk))) v ≡ Some (length walk) = ap (index_in (slice_set table at (Some (length walk)))) e ∙ get_or-set_same table at (Some (length walk)) None here in
             let both : Some (length walk) ≡ Some k = sym own ∙ is in
             let last : k ≡ length walk = cc in
             (omega arith, end k last ∙ sym e)
@@ -137,7 +137,7 @@ module _ (Leads : ℕ → ℕ → Type 0) (s : ℕ → Bool) (walk : List ℕ) (
       rw (end n last) next
 
   -- the walk goes on
-  pub walking_more : (y : ℕ) → at < length table → IsNext Leads s at y → place_in (slice_set table at (Some (length walk))) y ≡ None
+  pub walking_more : (y : ℕ) → at < length table → IsNext Leads s at y → index_in (slice_set table at (Some (length walk))) y ≡ None
       → Walking Leads s (walk ++ at ∷ []) (slice_set table at (Some (length walk))) y
   walking_more y here next unmet =
       let long : length (walk ++ at ∷ []) ≡ length walk + 1 = length-append walk (at ∷ []) in
@@ -153,7 +153,7 @@ module _ (Leads : ℕ → ℕ → Type 0) (s : ℕ → Bool) (walk : List ℕ) (
       }
 
   -- the walk comes back
-  pub walking_back : (y k : ℕ) → at < length table → IsNext Leads s at y → place_in (slice_set table at (Some (length walk))) y ≡ Some k → ComesBack Leads s (walk ++ at ∷ []) k
+  pub walking_back : (y k : ℕ) → at < length table → IsNext Leads s at y → index_in (slice_set table at (Some (length walk))) y ≡ Some k → ClosesAt Leads s (walk ++ at ∷ []) k
   walking_back y k here next met =
       let p = all_known here y k met in
       record {
@@ -173,7 +173,7 @@ walking_length marks walk once members = length-le_from_distinct_below walk (len
 pub rest_whole : (xs : List ℕ) (p : ℕ) → take (length xs - p) (drop p xs) ≡ drop p xs
 rest_whole xs p = rw (← length-drop p xs) (take_all (length (drop p xs)) (drop p xs) (omega arith))
 
-pub table_read : (table : List (Option ℕ)) (v : ℕ) (o : Option ℕ) → o ≡ slice_index_or table v o → v < length table → place_in table v ≡ o
+pub table_read : (table : List (Option ℕ)) (v : ℕ) (o : Option ℕ) → o ≡ slice_index_or table v o → v < length table → index_in table v ≡ o
 table_read table v o is l = get_or_default table v None o l ∙ sym is
 
 module _ (Leads : ℕ → ℕ → Type 0) (s : ℕ → Bool) (walk : List ℕ) (table : List (Option ℕ)) (at : ℕ) (w : Walking Leads s walk table at) where
@@ -182,18 +182,18 @@ module _ (Leads : ℕ → ℕ → Type 0) (s : ℕ → Bool) (walk : List ℕ) (
       → r ≡ slice_index_or (slice_set table at (Some n)) y r → r ≡ None → Walking Leads s new (slice_set table at (Some n)) y
   step_more new n y r pushed counted here there next read is =
       let in_table : y < length (slice_set table at (Some n)) = (let e = length-set table at (Some n) in omega arith) in
-      let unmet : place_in (slice_set table at (Some n)) y ≡ None = table_read (slice_set table at (Some n)) y r read in_table ∙ is in
+      let unmet : index_in (slice_set table at (Some n)) y ≡ None = table_read (slice_set table at (Some n)) y r read in_table ∙ is in
       subst (λ (ws : List ℕ). Walking Leads s ws (slice_set table at (Some n)) y) (sym pushed)
       (subst (λ (m : ℕ). Walking Leads s (walk ++ at ∷ []) (slice_set table at (Some m)) y) (sym counted)
-      (walking_more Leads s walk table at w y here next (subst (λ (m : ℕ). place_in (slice_set table at (Some m)) y ≡ None) counted unmet)))
+      (walking_more Leads s walk table at w y here next (subst (λ (m : ℕ). index_in (slice_set table at (Some m)) y ≡ None) counted unmet)))
 
   pub step_back : (new : List ℕ) (n y k : ℕ) (r : Option ℕ) → new ≡ walk ++ at ∷ [] → n ≡ length walk → at < length table → y < length table → IsNext Leads s at y
-      → r ≡ slice_index_or (slice_set table at (Some n)) y r → r ≡ Some k → ComesBack Leads s new k
+      → r ≡ slice_index_or (slice_set table at (Some n)) y r → r ≡ Some k → ClosesAt Leads s new k
   step_back new n y k r pushed counted here there next read is =
       let in_table : y < length (slice_set table at (Some n)) = (let e = length-set table at (Some n) in omega arith) in
-      let met : place_in (slice_set table at (Some n)) y ≡ Some k = table_read (slice_set table at (Some n)) y r read in_table ∙ is in
-      subst (λ (ws : List ℕ). ComesBack Leads s ws k) (sym pushed)
-      (walking_back Leads s walk table at w y k here next (subst (λ (m : ℕ). place_in (slice_set table at (Some m)) y ≡ Some k) counted met))
+      let met : index_in (slice_set table at (Some n)) y ≡ Some k = table_read (slice_set table at (Some n)) y r read in_table ∙ is in
+      subst (λ (ws : List ℕ). ClosesAt Leads s ws k) (sym pushed)
+      (walking_back Leads s walk table at w y k here next (subst (λ (m : ℕ). index_in (slice_set table at (Some m)) y ≡ Some k) counted met))
 
   pub new_members : (new : List ℕ) → new ≡ walk ++ at ∷ [] → All (λ m. s m ≡ true) new
   new_members new pushed = rw pushed (All-from_get_or (λ m. s m ≡ true) (walk ++ at ∷ []) 0 (all_members Leads s walk table at w))
@@ -210,33 +210,33 @@ none_cloned table n Cloned all differs = all (λ y. from_clone Cloned differs y)
     from_clone Cloned differs (Some x) h = absurd (differs x h)
 
 -- what holds of a list holds of its parts
-pub All-front : (P : ℕ → Type 0) (xs ys : List ℕ) → All P (xs ++ ys) → All P xs
-All-front P xs ys all k d l = subst P (get_or_append_left xs ys d k l) (all k d (let e = length-append xs ys in omega arith))
+pub All-prefix : (P : ℕ → Type 0) (xs ys : List ℕ) → All P (xs ++ ys) → All P xs
+All-prefix P xs ys all k d l = subst P (get_or_append_left xs ys d k l) (all k d (let e = length-append xs ys in omega arith))
 
 pub All-back : (P : ℕ → Type 0) (xs ys : List ℕ) → All P (xs ++ ys) → All P ys
 All-back P [] ys all = all
 All-back P (x ∷ xs) ys all = All-back P xs ys (All-tail P x (xs ++ ys) all)
 
 -- what holds of a list holds when it is turned
-pub All-turned : (P : ℕ → Type 0) (loop turned : List ℕ) → IsTurned loop turned → All P loop → All P turned
-All-turned P loop turned t all =
-    let whole : All P (t.front ++ t.rest) = subst (All P) t.whole all in
-    subst (All P) (sym t.turn) (All-append P t.rest t.front (All-back P t.front t.rest whole) (All-front P t.front t.rest whole))
+pub All-rotated : (P : ℕ → Type 0) (loop rotated : List ℕ) → IsRotated loop rotated → All P loop → All P rotated
+All-rotated P loop rotated t all =
+    let whole : All P (t.prefix ++ t.rest) = subst (All P) t.whole all in
+    subst (All P) (sym t.rotate_to_min) (All-append P t.rest t.prefix (All-back P t.prefix t.rest whole) (All-prefix P t.prefix t.rest whole))
 
 -- the list turned at the place of its least number
-pub turned_at : (loop turned : List ℕ) (place : ℕ) → place < length loop → ((k : ℕ) → k < length loop → slice_index loop place ≤ slice_index loop k) → turned ≡ drop place loop ++ take place loop
-    → IsTurned loop turned
-turned_at loop turned place within least is =
+pub turned_at : (loop rotated : List ℕ) (place : ℕ) → place < length loop → ((k : ℕ) → k < length loop → slice_index loop place ≤ slice_index loop k) → rotated ≡ drop place loop ++ take place loop
+    → IsRotated loop rotated
+turned_at loop rotated place within least is =
     let P : ℕ → Type 0 = λ x. slice_index loop place ≤ x in
     let some : 0 < length (drop place loop) = (let e = length-drop place loop in omega arith) in
-    let first : slice_index turned 0 ≡ slice_index loop place =
+    let first : slice_index rotated 0 ≡ slice_index loop place =
     ap (λ (l : List ℕ). slice_index l 0) is ∙ get_or_append_left (drop place loop) (take place loop) 0 0 some ∙ get_or-drop place loop 0 0 ∙ ap (slice_index loop) (omega arith) in
     let all : All P loop = All-from_get_or P loop 0 least in
-    let each : All P turned = subst (All P) (sym is) (All-append P (drop place loop) (take place loop) (All-drop P place loop all) (All-take P place loop all)) in
+    let each : All P rotated = subst (All P) (sym is) (All-append P (drop place loop) (take place loop) (All-drop P place loop all) (All-take P place loop all)) in
     record {
-      front = take place loop;
+      prefix = take place loop;
       rest = drop place loop;
       whole = sym (take-append-drop place loop);
-      turn = is;
-      least = λ k l. subst (λ (n : ℕ). n ≤ slice_index turned k) (sym first) (each k 0 l);
+      rotate_to_min = is;
+      least = λ k l. subst (λ (n : ℕ). n ≤ slice_index rotated k) (sym first) (each k 0 l);
     }

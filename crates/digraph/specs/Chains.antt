@@ -1,13 +1,13 @@
--- Chains of edges. A graph is given by what leads: there is an edge from the one node to the other.
+-- Paths, and acyclic graphs. A graph is given by its edge relation.
 use Rattle.std.specs.Prelude.{◌≡◌, List, [], ◌∷◌}
 
 module _ {M : Type 0} (Leads : M → M → Type 0) where
-  -- each node leads to the next: the first, those of the list, and the list's last is the end
+  -- a path from m over the nodes of the list: each has an edge to the next, and the last one is b
   abbrev pub IsChain : M → List M → M → Type 0
   IsChain m [] b = m ≡ b
   IsChain m (n ∷ more) b = Leads m n × IsChain n more b
 
-  -- a chain leads from the one node to the other; each node is a chain to itself
+  -- a path leads from m to b; a node is a path to itself
   abbrev pub Chain : M → M → Type 0
   Chain m b = (more : List M) × IsChain m more b
 

@@ -1,55 +1,54 @@
--- The cycle that is named. Nodes are numbers.
+-- The canonical cycle. Nodes are numbers.
 use Rattle.std.specs.Prelude.{◌≡◌, ℕ, ◌+◌, ◌<◌, ◌≤◌, List, ◌++◌, length, drop, slice_index, Bool, true, nat_eq}
 use Rattle.std.specs.List.{IsDistinct}
 
--- A graph is given by what leads: there is an edge from the one node to the other.
+-- a graph is given by its edge relation
 module _ (Leads : ℕ → ℕ → Type 0) where
-  -- each member of the set leads to a member
+  -- each member of the set has an edge to a member
   abbrev pub EachLeadsToMember : (ℕ → Bool) → Type 0
   EachLeadsToMember s = (v : ℕ) → s v ≡ true → (w : ℕ) × Leads v w × (s w ≡ true)
 
-  -- the greatest set of nodes each of which leads to a member
-  pub record IsEndless (s : ℕ → Bool) : Type 0 where
+  -- the largest set of nodes that each have an edge to a member
+  pub record IsCycleCore (s : ℕ → Bool) : Type 0 where
     pub each : EachLeadsToMember s
     pub greatest : (t : ℕ → Bool) → EachLeadsToMember t → (v : ℕ) → t v ≡ true → s v ≡ true
 
-  -- the least member that v leads to
+  -- w is the smallest member that v has an edge to
   pub record IsNext (s : ℕ → Bool) (v w : ℕ) : Type 0 where
     pub leads : Leads v w
     pub member : s w ≡ true
     pub least : (u : ℕ) → Leads v u → s u ≡ true → w ≤ u
 
--- the least member
+-- v is the smallest member
 pub record IsLeast (s : ℕ → Bool) (v : ℕ) : Type 0 where
   pub member : s v ≡ true
   pub least : (u : ℕ) → s u ≡ true → v ≤ u
 
--- a walk through the set: it begins at the least member, goes on to the least one that is led to, and meets none twice
+-- a walk through the set: from its smallest member, on to the smallest successor in the set, without a repeated node
 pub record IsWalk (Leads : ℕ → ℕ → Type 0) (s : ℕ → Bool) (walk : List ℕ) : Type 0 where
   pub begins : 0 < length walk → IsLeast s (slice_index walk 0)
   pub goes_on : (k : ℕ) → k + 1 < length walk → IsNext Leads s (slice_index walk k) (slice_index walk (k + 1))
   pub once : IsDistinct nat_eq walk
 
--- the walk comes back to the node at the k-th place
-pub record ComesBack (Leads : ℕ → ℕ → Type 0) (s : ℕ → Bool) (walk : List ℕ) (k : ℕ) : Type 0 where
+-- after the walk the next node is the one at index k of the walk
+pub record ClosesAt (Leads : ℕ → ℕ → Type 0) (s : ℕ → Bool) (walk : List ℕ) (k : ℕ) : Type 0 where
   pub walked : IsWalk Leads s walk
   pub place : k < length walk
   pub back : (n : ℕ) → n + 1 ≡ length walk → IsNext Leads s (slice_index walk n) (slice_index walk k)
 
--- the list turned to begin at its least number
-pub record IsTurned (loop turned : List ℕ) : Type 0 where
-  pub front : List ℕ
+-- a rotation of the list that begins with its smallest number
+pub record IsRotated (loop rotated : List ℕ) : Type 0 where
+  pub prefix : List ℕ
   pub rest : List ℕ
-  pub whole : loop ≡ front ++ rest
-  pub turn : turned ≡ rest ++ front
-  pub least : (k : ℕ) → k < length turned → slice_index turned 0 ≤ slice_index turned k
+  pub whole : loop ≡ prefix ++ rest
+  pub rotate_to_min : rotated ≡ rest ++ prefix
+  pub least : (k : ℕ) → k < length rotated → slice_index rotated 0 ≤ slice_index rotated k
 
--- the named cycle: in the greatest set of nodes each of which leads to a member, the walk from the place on
--- that it comes back to, turned
-pub record NamesCycle (Leads : ℕ → ℕ → Type 0) (cycle : List ℕ) : Type 0 where
-  pub endless : ℕ → Bool
-  pub is_endless : IsEndless Leads endless
+-- the canonical cycle: the part of the walk from its repeated node on, rotated
+pub record IsCanonicalCycle (Leads : ℕ → ℕ → Type 0) (cycle : List ℕ) : Type 0 where
+  pub core_nodes : ℕ → Bool
+  pub is_core : IsCycleCore Leads core_nodes
   pub walk : List ℕ
   pub place : ℕ
-  pub comes_back : ComesBack Leads endless walk place
-  pub turned : IsTurned (drop place walk) cycle
+  pub closes_at : ClosesAt Leads core_nodes walk place
+  pub rotated : IsRotated (drop place walk) cycle

@@ -1,4 +1,4 @@
-pub mod Arrivals
+pub mod Incoming
 pub mod Chains
 pub mod Cycle
 pub mod Edges
@@ -8,4 +8,4 @@ pub mod Ranks
 pub mod Search
 pub mod ShortestPaths
 pub mod Spreading
-pub mod Trails
+pub mod LinkedLists

@@ -1,4 +1,4 @@
--- A breadth-first search by the parent of each node, and one step of it.
+-- A breadth-first tree, given by the parent of each node, and one step of the search.
 use Rattle.std.specs.Prelude.{◌≡◌, ◌≢◌, ◌⊎◌, ℕ, ◌+◌, ◌<◌, ◌≤◌, if◌then◌else◌, List, [], ◌∷◌, ◌++◌, length, Bool, false, Option, Some, None, is_some, sum_by, slice_index_or, AllPairs, Contains}
 use Rattle.digraph.specs.declared.edge.Edge.{Edge}
 use Rattle.digraph.specs.declared.search.Search.{Search}
@@ -19,7 +19,8 @@ IsPredecessor parents v None = (u : ℕ) → parent_of parents v ≡ Some u → 
 abbrev pub undiscovered : List (Option ℕ) → ℕ
 undiscovered parents = sum_by (λ o. if is_some o then 0 else 1) parents
 
--- exactly the nodes with a parent have a path, and the shortest path of a node is that of its parent, followed by the node; a start is its own parent
+-- exactly the nodes with a parent have a path, and the shortest path of a node is that of its parent, followed by the node; a start is
+-- its own parent
 pub record IsSearch (edges : List Edge) (starts : List ℕ) (barrier : List Bool) (search : Search) : Type 0 where
   pub shortest : (v u : ℕ) → parent_of search.parents.items v ≡ Some u → (path : List ℕ) × IsShortestPath (Leads edges) starts barrier v path × (length path ≤ length search.parents.items)
   pub none : (v : ℕ) (path : List ℕ) → parent_of search.parents.items v ≡ None → IsPathAround (Leads edges) starts barrier v path → ⊥

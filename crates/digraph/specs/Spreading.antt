@@ -1,18 +1,18 @@
--- How marks spread over numbered steps, each of which leads from a node of its own to another.
+-- The worklist of a reachability search: steps are numbered, and each leads from a node of its own to another node.
 use Rattle.std.specs.Prelude.{◌≡◌, ◌⊎◌, ℕ, ◌+◌, ◌<◌, not, Bool, true, List, length, count_by, Contains}
 use Rattle.digraph.specs.Marks.{marked}
 
--- those that wait have a mark, and what the steps of a marked node lead to has one too, unless the node waits
+-- each waiting node is flagged, and each step of a flagged node that doesn't wait leads to a flagged node
 pub record IsSpread (leaves : ℕ → ℕ → Type 0) (to : ℕ → ℕ) (count : ℕ) (marks : List Bool) (waiting : List ℕ) : Type 0 where
   pub waits : (v : ℕ) → Contains waiting v → marked marks v ≡ true
   pub followed : (k v : ℕ) → k < count → leaves v k → marked marks v ≡ true → (marked marks (to k) ≡ true) ⊎ Contains waiting v
 
--- the same, while the steps of one more node are followed: those whose number plus one is at most this are still left
+-- as `IsSpread`, while the steps of one node are followed in descending order: those with a number below next are left
 pub record IsSpreadBut (leaves : ℕ → ℕ → Type 0) (to : ℕ → ℕ) (count : ℕ) (marks : List Bool) (waiting : List ℕ) (one next : ℕ) : Type 0 where
   pub waits : (v : ℕ) → Contains waiting v → marked marks v ≡ true
   pub own : marked marks one ≡ true
   pub followed : (k v : ℕ) → k < count → leaves v k → marked marks v ≡ true → (marked marks (to k) ≡ true) ⊎ (Contains waiting v ⊎ ((v ≡ one) × (k < next)))
 
--- how many nodes wait or have no mark
+-- the number of nodes that wait or aren't flagged
 abbrev pub left_over : List Bool → List ℕ → ℕ
 left_over marks waiting = count_by (λ mark. not mark) marks + length waiting

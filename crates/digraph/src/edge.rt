@@ -1,10 +1,10 @@
-//! Edges without what they carry.
+//! Edges without weights.
 
-/// An edge by the numbers of its nodes.
+/// An edge, given by the numbers of its two nodes.
 #[derive(Clone, Copy, Debug, PartialEq, Eq)]
 pub struct Edge {
-    /// The number of the node that it leads from.
+    /// The number of the source node.
     pub from: u32,
-    /// The number of the node that it leads to.
+    /// The number of the target node.
     pub to: u32,
 }

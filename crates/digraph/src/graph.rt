@@ -1,40 +1,47 @@
-//! Graphs by the successors of each node.
+//! Graphs with a list of successors for each node.
 ghost use Rattle.std.specs.Prelude.{◌≡◌, ◌≤◌, IfOk, vec_len, ℕ};
 ghost use Rattle.digraph.specs.Edges.{successors, AreBetween, IsAscending};
 ghost use Rattle.digraph.specs.Graphs.{IsGraph};
-ghost use Rattle.digraph.specs.Marks.{lists, row_at};
+ghost use Rattle.digraph.specs.Marks.{lists, list_at};
 
 use crate::Edge;
-use crate::rows::{flipped, rows_of};
+use crate::rows::{predecessors_of, transposed};
 use std::alloc::{AllocError, Global};
 
-/// The edges of a graph, with the successors of each node, so that it is searched more than once.
+/// A graph with its adjacency lists, so that it can be searched more than once.
 #[derive(Drop)]
 pub struct Graph<'a> {
-    /// The edges, in ascending order.
+    /// The edges, strictly sorted by source and then by target.
     pub edges: &'a [Edge],
-    /// Per node those to which it has an edge.
+    /// For each node its successors.
     pub after: Vec<Vec<u32>>,
 }
 
-/// Per node those to which it has an edge, in the order of the edges.
+/// For each node its successors, in the order of the edges.
 fn successors_of(alloc: Global, edges: &[Edge], nodes: usize) -> Result<Vec<Vec<u32>>, AllocError>
+    // Both ends of each edge are below `nodes`.
     requires between { AreBetween edges.now nodes }
     ensures size { IfOk result (λ rows. vec_len rows ≡ nodes) }
-    ensures rows { IfOk result (λ rows. (v : ℕ) → row_at (lists rows.items) v ≡ successors edges.now v) }
+    ensures rows { IfOk result (λ rows. (v : ℕ) → list_at (lists rows.items) v ≡ successors edges.now v) }
 {
-    let turned = flipped(alloc, edges)?;
-    let rows = rows_of(alloc, turned.as_slice(), nodes)?;
+    let rotated = transposed(alloc, edges)?;
+    let rows = predecessors_of(alloc, rotated.as_slice(), nodes)?;
     Ok(rows)
 }
 
-/// The graph of the edges, which ascend and lead between the first `nodes` nodes. Fails where memory is refused.
+/// The graph of strictly sorted edges between the first `nodes` nodes. Fails if an allocation fails.
 pub fn graph_of(alloc: Global, edges: &[Edge], nodes: usize) -> Result<Graph<'_>, AllocError>
+    // Both ends of each edge are below `nodes`.
     requires between { AreBetween edges.now nodes }
+    // The edges are strictly sorted.
     requires ascending { IsAscending edges.now }
+    // There are at most 8,192 nodes.
     requires few_nodes { nodes ≤ 8192 }
+    // The graph has the successors of each node, and can be searched.
     ensures graph { IfOk result IsGraph }
+    // Its edges are the given ones.
     ensures edges { IfOk result (λ graph. graph.edges.now ≡ edges.now) }
+    // It has `nodes` nodes.
     ensures nodes { IfOk result (λ graph. vec_len graph.after ≡ nodes) }
 {
     let after = successors_of(alloc, edges, nodes)?;

@@ -1,4 +1,4 @@
-//! The least of the chains with the fewest edges.
+//! The lexicographically smallest of the shortest paths between two nodes.
 ghost use Rattle.std.specs.Prelude.{◌<◌, ◌≤◌, IfNone, IfOk, IfSome};
 ghost use Rattle.digraph.specs.Chains.{Chain};
 ghost use Rattle.digraph.specs.Edges.{AreBetween, IsAscending, Leads};
@@ -8,8 +8,8 @@ use crate::Edge;
 use crate::graph::graph_of;
 use std::alloc::{AllocError, Global};
 
-/// The chain of edges with the fewest, and of those the one with the least nodes from the first on; none where no chain leads from the one node to
-/// the other. The edges ascend and lead between the first `nodes` nodes.
+/// The shortest path between two nodes, as its nodes; of several the lexicographically smallest. None if no path leads from `from` to
+/// `to`. The edges are strictly sorted and lead between the first `nodes` nodes. Fails if an allocation fails.
 pub fn least_chain(
     alloc: Global,
     edges: &[Edge],
@@ -17,12 +17,19 @@ pub fn least_chain(
     from: u32,
     to: u32,
 ) -> Result<Option<Vec<u32>>, AllocError>
+    // Both ends of each edge are below `nodes`.
     requires between { AreBetween edges.now nodes }
+    // The edges are strictly sorted.
     requires ascending { IsAscending edges.now }
+    // There are at most 8,192 nodes.
     requires few_nodes { nodes ≤ 8192 }
+    // `from` is a node.
     requires from { from < nodes }
+    // `to` is a node.
     requires to { to < nodes }
+    // The path has the fewest edges, and of those the smallest nodes, from the first on.
     ensures found { IfOk result (λ answer. IfSome answer (λ chain. IsLeastChain (Leads edges.now) from to chain.items)) }
+    // Without a result no path leads from `from` to `to`.
     ensures none { IfOk result (λ answer. IfNone answer (Chain (Leads edges.now) from to → ⊥)) }
 {
     let graph = graph_of(alloc, edges, nodes)?;

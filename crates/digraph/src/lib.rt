@@ -1,29 +1,28 @@
-//! Directed graphs: edges between numbered nodes, breadth-first search from some nodes around others, the least chain between two nodes, the one cycle that
-//! is named where a chain comes back, and trails of what stands at a node.
-//! Stands on std alone.
-//! Its contract: a cycle is named exactly where a chain of edges comes back, and at most one is; a search finds a path exactly where one leads, and no path
-//! is shorter; a trail has exactly the things that stand on it.
+//! Directed graphs: breadth-first search around barriers, shortest paths, the canonical cycle, adjacency lists and node renumbering.
+//! The cycle search removes nodes without an edge to a remaining node, by a worklist. Depends on std alone.
+//! The main calls are `graph_of`, `Graph::search_from` and `cycle`. A search finds a path exactly if one exists, and no path is shorter;
+//! a cycle is returned exactly if the graph has one, and it is unique.
 #![tactic(auto)]
 
-mod arrivals;
+mod core_nodes;
 mod edge;
-mod endless;
 mod graph;
+mod incoming;
 pub mod laws;
 mod least;
+mod linked_lists;
 mod named;
-mod on_trails;
 mod ranks;
 mod rows;
 mod search;
 mod walk;
 
+pub use core_nodes::is_marked;
 pub use edge::Edge;
-pub use endless::is_marked;
 pub use graph::{Graph, graph_of};
 pub use least::least_chain;
+pub use linked_lists::{LinkedLists, link_by_key};
 pub use named::cycle;
-pub use on_trails::{Trails, trails_of};
-pub use ranks::{put_in_order, ranks_of, renumbered};
-pub use rows::{flipped, rows_of};
+pub use ranks::{ranks_of, renumbered, sort_all};
+pub use rows::{predecessors_of, transposed};
 pub use search::Search;

@@ -1,17 +1,17 @@
-//! The named cycle of edges.
+//! The canonical cycle of a graph.
 ghost use Rattle.std.specs.Prelude.{ℕ, ◌≡◌, ◌<◌, ◌≤◌, length, true, vec_len, All, IfOk, IfSome, IfNone, slice_index};
-ghost use Rattle.digraph.specs.Cycle.{IsEndless, IsLeast, IsNext, IsTurned, NamesCycle};
-ghost use Rattle.digraph.specs.Marks.{edge_at, marked, place_at};
+ghost use Rattle.digraph.specs.Cycle.{IsCycleCore, IsLeast, IsNext, IsRotated, IsCanonicalCycle};
+ghost use Rattle.digraph.specs.Marks.{edge_at, marked, index_at};
 ghost use Rattle.digraph.specs.Edges.{AreBetween, IsAscending, Leads};
 ghost use Rattle.digraph.specs.Chains.{IsAcyclic};
 
 use crate::Edge;
-use crate::endless::{Endless, endless_of};
+use crate::core_nodes::{CycleCore, core_of};
 use crate::walk::{first_marked, walk};
 use std::alloc::{AllocError, Global};
 
-/// The place of the least number.
-fn place_of_least(numbers: &[u32]) -> usize
+/// The index of the first smallest number.
+fn index_of_min(numbers: &[u32]) -> usize
     requires { 0 < length numbers.now }
     ensures within { result < length numbers.now }
     ensures least { (k : ℕ) → k < length numbers.now → slice_index numbers.now result ≤ slice_index numbers.now k }
@@ -25,51 +25,58 @@ fn place_of_least(numbers: &[u32]) -> usize
     least
 }
 
-/// Turns the list to begin at its least number.
-fn turn(numbers: &mut [u32])
+/// Rotates the list so that it begins with its smallest number.
+fn rotate_to_min(numbers: &mut [u32])
     requires { 0 < length numbers.old }
-    ensures { IsTurned numbers.old numbers.new }
+    ensures { IsRotated numbers.old numbers.new }
 {
-    let least = place_of_least(numbers);
+    let least = index_of_min(numbers);
     numbers.rotate_left(least);
 }
 
-/// The cycle to which the walk from the least endless node on comes back.
+/// The cycle that the walk from the smallest candidate enters, rotated to begin with its smallest node.
 fn cycle_from(
     alloc: Global,
     edges: &[Edge],
-    endless: &Endless,
+    core_nodes: &CycleCore,
     first: u32,
 ) -> Result<Vec<u32>, AllocError>
-    requires sizes { vec_len endless.now.places ≡ vec_len endless.now.marks }
-    requires within { (v : ℕ) → marked endless.now.marks.items v ≡ true → place_at endless.now.places.items v < length edges.now }
-    requires next { (v : ℕ) → marked endless.now.marks.items v ≡ true →
-        IsNext (Leads edges.now) (marked endless.now.marks.items) v (edge_at edges.now (place_at endless.now.places.items v)).to }
-    requires first { IsLeast (marked endless.now.marks.items) first }
-    requires endless { IsEndless (Leads edges.now) (marked endless.now.marks.items) }
-    ensures named { IfOk result (λ cycle. NamesCycle (Leads edges.now) cycle.items) }
-    ensures members { IfOk result (λ cycle. All (λ m. marked endless.now.marks.items m ≡ true) cycle.items) }
+    requires sizes { vec_len core_nodes.now.places ≡ vec_len core_nodes.now.marks }
+    requires within { (v : ℕ) → marked core_nodes.now.marks.items v ≡ true → index_at core_nodes.now.places.items v < length edges.now }
+    requires next { (v : ℕ) → marked core_nodes.now.marks.items v ≡ true →
+        IsNext (Leads edges.now) (marked core_nodes.now.marks.items) v (edge_at edges.now (index_at core_nodes.now.places.items v)).to }
+    requires first { IsLeast (marked core_nodes.now.marks.items) first }
+    requires core_nodes { IsCycleCore (Leads edges.now) (marked core_nodes.now.marks.items) }
+    ensures named { IfOk result (λ cycle. IsCanonicalCycle (Leads edges.now) cycle.items) }
+    ensures members { IfOk result (λ cycle. All (λ m. marked core_nodes.now.marks.items m ≡ true) cycle.items) }
 {
-    let (walk, place) = walk(alloc, edges, endless, first)?;
+    let (walk, place) = walk(alloc, edges, core_nodes, first)?;
     let mut cycle = Vec::from_slice(alloc, &walk.as_slice()[place..])?;
-    turn(cycle.as_mut_slice());
+    rotate_to_min(cycle.as_mut_slice());
     Ok(cycle)
 }
 
-/// The named cycle, or none where no node comes back to itself. The edges ascend and lead between the first `nodes`
-/// nodes.
+/// The canonical cycle, as its nodes; none if the graph is acyclic. From the smallest node from which a cycle is reachable, walk on to
+/// the smallest successor from which one is, until a node repeats; the cycle begins with its smallest node. The edges are strictly sorted
+/// and lead between the first `nodes` nodes. Fails if an allocation fails.
 pub fn cycle(alloc: Global, edges: &[Edge], nodes: usize) -> Result<Option<Vec<u32>>, AllocError>
+    // Both ends of each edge are below `nodes`.
     requires between { AreBetween edges.now nodes }
+    // The edges are strictly sorted.
     requires ascending { IsAscending edges.now }
+    // There are at most 8,192 nodes.
     requires few_nodes { nodes ≤ 8192 }
-    ensures named { IfOk result (λ answer. IfSome answer (λ cycle. NamesCycle (Leads edges.now) cycle.items)) }
+    // It is the canonical cycle.
+    ensures named { IfOk result (λ answer. IfSome answer (λ cycle. IsCanonicalCycle (Leads edges.now) cycle.items)) }
+    // Its nodes are below `nodes`.
     ensures within { IfOk result (λ answer. IfSome answer (λ cycle. All (λ m. m < nodes) cycle.items)) }
+    // Without a result the graph is acyclic.
     ensures none { IfOk result (λ answer. IfNone answer (IsAcyclic (Leads edges.now))) }
 {
-    let endless = endless_of(alloc, edges, nodes)?;
-    let Some(first) = first_marked(endless.marks.as_slice()) else {
+    let core_nodes = core_of(alloc, edges, nodes)?;
+    let Some(first) = first_marked(core_nodes.marks.as_slice()) else {
         return Ok(None);
     };
-    let cycle = cycle_from(alloc, edges, &endless, first)?;
+    let cycle = cycle_from(alloc, edges, &core_nodes, first)?;
     Ok(Some(cycle))
 }

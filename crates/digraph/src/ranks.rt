@@ -1,4 +1,4 @@
-//! Edges by other numbers of their nodes.
+//! Renumbering of nodes.
 ghost use Rattle.std.specs.Prelude.{◌≡◌, ◌≤◌, ◌<◌, ◌↔◌, All, Contains, IfOk, length, map};
 ghost use Rattle.digraph.specs.declared.edge.Edge.{Edge as GraphEdge};
 ghost use Rattle.digraph.specs.Edges.{AreBetween, IsAscending};
@@ -7,19 +7,24 @@ ghost use Rattle.digraph.specs.Ranks.{by_ranks, AreRanks};
 use crate::Edge;
 use std::alloc::{AllocError, Global};
 
-/// Puts the edges in ascending order, each once.
-pub fn put_in_order(edges: &mut Vec<Edge>)
+/// Sorts the edges by source and then by target, and removes duplicates.
+pub fn sort_all(edges: &mut Vec<Edge>)
+    // They are strictly sorted.
     ensures ascending { IsAscending edges.new.items }
+    // No edge is added or lost.
     ensures same { (p : GraphEdge) → Contains edges.new.items p ↔ Contains edges.old.items p }
 {
     edges.sort_unstable_by_key(|edge| (edge.from, edge.to));
     edges.dedup();
 }
 
-/// For each node of the order the place where it stands.
+/// The inverse of an order: for each node its index in it. Fails if an allocation fails.
 pub fn ranks_of(alloc: Global, order: &[u32]) -> Result<Vec<u32>, AllocError>
+    // There are at most 8,192 nodes.
     requires few { length order.now ≤ 8192 }
+    // Each node is a number below the length.
     requires within { All (λ v. v < length order.now) order.now }
+    // It is the inverse of the order.
     ensures { IfOk result (λ ranks. AreRanks order.now ranks.items) }
 {
     let mut ranks = vec![in alloc; 0; order.len()]?;
@@ -29,10 +34,13 @@ pub fn ranks_of(alloc: Global, order: &[u32]) -> Result<Vec<u32>, AllocError>
     Ok(ranks)
 }
 
-/// The edges between the ranks of their nodes: ascending, each once.
+/// The edges with each node replaced by its rank, strictly sorted. Fails if an allocation fails.
 pub fn renumbered(alloc: Global, edges: &[Edge], ranks: &[u32]) -> Result<Vec<Edge>, AllocError>
+    // Each node has a rank.
     requires between { AreBetween edges.now (length ranks.now) }
+    // They are strictly sorted.
     ensures ascending { IfOk result (λ others. IsAscending others.items) }
+    // They are exactly the renumbered edges.
     ensures same { IfOk result (λ others. (p : GraphEdge) → Contains others.items p ↔ Contains (map (by_ranks ranks.now) edges.now) p) }
 {
     let mut others = Vec::new(alloc);
@@ -42,6 +50,6 @@ pub fn renumbered(alloc: Global, edges: &[Edge], ranks: &[u32]) -> Result<Vec<Ed
             to: ranks[edge.to as usize],
         })?;
     }
-    put_in_order(&mut others);
+    sort_all(&mut others);
     Ok(others)
 }

@@ -1,7 +1,7 @@
-//! Per node those with an edge to it.
+//! Lists of predecessors.
 ghost use Rattle.std.specs.Prelude.{◌≡◌, ◌<◌, ◌++◌, ◌∷◌, [], slice_set, IfOk, OnOk, map, vec_len, ℕ};
-ghost use Rattle.digraph.specs.Edges.{flipped as flip, predecessors, AreBetween};
-ghost use Rattle.digraph.specs.Marks.{lists, row_at};
+ghost use Rattle.digraph.specs.Edges.{transposed as flip, predecessors, AreBetween};
+ghost use Rattle.digraph.specs.Marks.{lists, list_at};
 
 use crate::Edge;
 use std::alloc::{AllocError, Global};
@@ -9,16 +9,16 @@ use std::alloc::{AllocError, Global};
 fn add(predecessors: &mut Vec<Vec<u32>>, edge: Edge) -> Result<(), AllocError>
     requires { edge.to < vec_len predecessors.old }
     ensures size { OnOk result (vec_len predecessors.new ≡ vec_len predecessors.old) }
-    ensures rows { OnOk result (lists predecessors.new.items ≡ slice_set (lists predecessors.old.items) edge.to (row_at (lists predecessors.old.items) edge.to ++ edge.from ∷ [])) }
+    ensures rows { OnOk result (lists predecessors.new.items ≡ slice_set (lists predecessors.old.items) edge.to (list_at (lists predecessors.old.items) edge.to ++ edge.from ∷ [])) }
 {
     predecessors[edge.to as usize].push(edge.from)?;
     Ok(())
 }
 
-/// So many lists of nothing.
-fn empty_rows(alloc: Global, nodes: usize) -> Result<Vec<Vec<u32>>, AllocError>
+/// As many empty lists as nodes.
+fn empty_lists(alloc: Global, nodes: usize) -> Result<Vec<Vec<u32>>, AllocError>
     ensures size { IfOk result (λ rows. vec_len rows ≡ nodes) }
-    ensures none { IfOk result (λ rows. (v : ℕ) → row_at (lists rows.items) v ≡ []) }
+    ensures none { IfOk result (λ rows. (v : ℕ) → list_at (lists rows.items) v ≡ []) }
 {
     let mut rows = Vec::new(alloc);
     for _ in 0..nodes {
@@ -28,8 +28,9 @@ fn empty_rows(alloc: Global, nodes: usize) -> Result<Vec<Vec<u32>>, AllocError>
     Ok(rows)
 }
 
-/// The edges the other way round.
-pub fn flipped(alloc: Global, edges: &[Edge]) -> Result<Vec<Edge>, AllocError>
+/// The reversed edges, in the order of the given ones. Fails if an allocation fails.
+pub fn transposed(alloc: Global, edges: &[Edge]) -> Result<Vec<Edge>, AllocError>
+    // Each edge is reversed.
     ensures { IfOk result (λ others. others.items ≡ map flip edges.now) }
 {
     let mut others = Vec::new(alloc);
@@ -42,13 +43,20 @@ pub fn flipped(alloc: Global, edges: &[Edge]) -> Result<Vec<Edge>, AllocError>
     Ok(others)
 }
 
-/// Per node those with an edge to it, in the order of the edges.
-pub fn rows_of(alloc: Global, edges: &[Edge], nodes: usize) -> Result<Vec<Vec<u32>>, AllocError>
+/// For each node its predecessors, in the order of the edges. Fails if an allocation fails.
+pub fn predecessors_of(
+    alloc: Global,
+    edges: &[Edge],
+    nodes: usize,
+) -> Result<Vec<Vec<u32>>, AllocError>
+    // Both ends of each edge are below `nodes`.
     requires between { AreBetween edges.now nodes }
+    // There is a list for each node.
     ensures size { IfOk result (λ rows. vec_len rows ≡ nodes) }
-    ensures rows { IfOk result (λ rows. (v : ℕ) → row_at (lists rows.items) v ≡ predecessors edges.now v) }
+    // It has the node's predecessors.
+    ensures rows { IfOk result (λ rows. (v : ℕ) → list_at (lists rows.items) v ≡ predecessors edges.now v) }
 {
-    let mut rows = empty_rows(alloc, nodes)?;
+    let mut rows = empty_lists(alloc, nodes)?;
     for edge in edges {
         add(&mut rows, *edge)?;
     }

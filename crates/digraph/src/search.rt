@@ -7,13 +7,13 @@ ghost use Rattle.digraph.specs.Search.{parent_of, AreDiscovered, IsPredecessor, 
 ghost use Rattle.digraph.specs.ShortestPaths.{IsPathAround, IsShortestPath};
 
 use crate::Graph;
-use crate::endless::is_marked;
+use crate::core_nodes::is_marked;
 use std::alloc::{AllocError, Global};
 
-/// What a breadth-first search from some nodes reached, and by which paths.
+/// The breadth-first tree of a search: which nodes it reached, and by which paths.
 #[derive(Drop)]
 pub struct Search {
-    /// Per node the one that it was discovered from; a start is its own parent.
+    /// For each node the one that it was discovered from; a start is its own parent.
     pub(crate) parents: Vec<Option<u32>>,
 }
 
@@ -27,7 +27,7 @@ fn parent_at(parents: &[Option<u32>], node: u32) -> Option<u32>
     }
 }
 
-/// Gives those of the nodes that are unmarked and have no parent this one, or themselves if it is none, and appends them to the queue.
+/// Sets the parent of each unflagged node without one, to `parent` or without it to the node itself, and appends the node to the queue.
 fn discover(
     parents: &mut Vec<Option<u32>>,
     queue: &mut Vec<u32>,
@@ -49,16 +49,19 @@ fn discover(
 }
 
 impl Graph<'_> {
-    /// Searches breadth-first from the starts, in ascending order, around the nodes that the barrier marks; a start may be marked, and nodes past the
-    /// barrier's end are not. Takes time linear in the nodes and edges. Fails if an allocation fails.
+    /// Searches breadth-first from the starts, in ascending order, around the nodes that the barrier flags; a start may be flagged, and
+    /// nodes past the end of the barrier aren't. Takes time linear in nodes and edges. Fails if an allocation fails.
     pub fn search_from(
         &self,
         alloc: Global,
         starts: &[u32],
         barrier: &[bool],
     ) -> Result<Search, AllocError>
+        // The graph is one of `graph_of`.
         requires graph { IsGraph self.now }
+        // The starts are strictly sorted.
         requires ascending { AllPairs (λ v w. v < w) starts.now }
+        // They are nodes.
         requires within { All (λ v. v < vec_len self.now.after) starts.now }
         // The result has a path to each node that one leads to, and it is the shortest one.
         ensures { IfOk result (IsSearch self.now.edges.now starts.now barrier.now) }
@@ -97,9 +100,10 @@ impl Search {
         }
     }
 
-    /// The nodes of the path from a start around the barrier to the node, both included, that has the fewest edges, and of those the smallest nodes from
-    /// the first on; none if no such path leads there. Fails if an allocation fails.
+    /// The nodes of the path from a start around the barrier to the node, both included, that has the fewest edges, and of those the
+    /// smallest nodes from the first on; none if no such path leads there. Fails if an allocation fails.
     pub fn path_to(&self, alloc: Global, node: u32) -> Result<Option<Vec<u32>>, AllocError>
+        // The result is one of a search.
         requires search { (edges : List GraphEdge) × (starts : List ℕ) × (barrier : List Bool) × IsSearch edges starts barrier self.now }
         // The path is the shortest one.
         ensures found { IfOk result (λ answer. IfSome answer (λ path. (edges : List GraphEdge) (starts : List ℕ) (barrier : List Bool) → IsSearch edges starts barrier self.now →

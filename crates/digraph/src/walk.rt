@@ -1,14 +1,14 @@
-//! The walk from the least endless node on, back to one that it has met.
+//! The walk that finds the canonical cycle.
 ghost use Rattle.std.specs.Prelude.{ℕ, ◌≡◌, ◌<◌, ◌≤◌, ◌+◌, length, true, false, vec_len, IfOk, IfSome, IfNone, All, slice_index};
-ghost use Rattle.digraph.specs.Cycle.{ComesBack, IsLeast, IsNext};
-ghost use Rattle.digraph.specs.Marks.{edge_at, marked, place_at};
+ghost use Rattle.digraph.specs.Cycle.{ClosesAt, IsLeast, IsNext};
+ghost use Rattle.digraph.specs.Marks.{edge_at, marked, index_at};
 ghost use Rattle.digraph.specs.Edges.{Leads};
 
 use crate::Edge;
-use crate::endless::Endless;
+use crate::core_nodes::CycleCore;
 use std::alloc::{AllocError, Global};
 
-/// The least node with a mark.
+/// The smallest node whose flag is set.
 pub(crate) fn first_marked(marks: &[bool]) -> Option<u32>
     requires { length marks.now ≤ 8192 }
     ensures found { IfSome result (IsLeast (marked marks.now)) }
@@ -22,29 +22,29 @@ pub(crate) fn first_marked(marks: &[bool]) -> Option<u32>
     None
 }
 
-/// The nodes that are met from the least one on, each by the least edge to a marked one, and the place of the one
-/// that comes after the last.
+/// The nodes of the walk from `first` on, each followed by its smallest successor among the candidates, until a node repeats; and the
+/// index of that node.
 pub(crate) fn walk(
     alloc: Global,
     edges: &[Edge],
-    endless: &Endless,
+    core_nodes: &CycleCore,
     first: u32,
 ) -> Result<(Vec<u32>, usize), AllocError>
-    requires sizes { vec_len endless.now.places ≡ vec_len endless.now.marks }
-    requires within { (v : ℕ) → marked endless.now.marks.items v ≡ true → place_at endless.now.places.items v < length edges.now }
-    requires next { (v : ℕ) → marked endless.now.marks.items v ≡ true →
-        IsNext (Leads edges.now) (marked endless.now.marks.items) v (edge_at edges.now (place_at endless.now.places.items v)).to }
-    requires first { IsLeast (marked endless.now.marks.items) first }
-    ensures back { IfOk result (λ found. ComesBack (Leads edges.now) (marked endless.now.marks.items) found.0.items found.1) }
-    ensures members { IfOk result (λ found. All (λ m. marked endless.now.marks.items m ≡ true) found.0.items) }
+    requires sizes { vec_len core_nodes.now.places ≡ vec_len core_nodes.now.marks }
+    requires within { (v : ℕ) → marked core_nodes.now.marks.items v ≡ true → index_at core_nodes.now.places.items v < length edges.now }
+    requires next { (v : ℕ) → marked core_nodes.now.marks.items v ≡ true →
+        IsNext (Leads edges.now) (marked core_nodes.now.marks.items) v (edge_at edges.now (index_at core_nodes.now.places.items v)).to }
+    requires first { IsLeast (marked core_nodes.now.marks.items) first }
+    ensures back { IfOk result (λ found. ClosesAt (Leads edges.now) (marked core_nodes.now.marks.items) found.0.items found.1) }
+    ensures members { IfOk result (λ found. All (λ m. marked core_nodes.now.marks.items m ≡ true) found.0.items) }
 {
     let mut walk = Vec::new(alloc);
-    let mut place_of_node = vec![in alloc; None; endless.marks.len()]?;
+    let mut place_of_node = vec![in alloc; None; core_nodes.marks.len()]?;
     let mut at = first;
     'steps: loop {
         place_of_node[at as usize] = Some(walk.len());
         walk.push(at)?;
-        at = edges[endless.places[at as usize]].to;
+        at = edges[core_nodes.places[at as usize]].to;
         if let Some(place) = place_of_node[at as usize] {
             return Ok((walk, place));
         }

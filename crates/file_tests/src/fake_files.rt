@@ -1,4 +1,4 @@
-//! A file system with three paths that refuses one of the steps that it is asked for.
+//! A fake file system with three paths, in which one operation fails.
 ghost use Rattle.std.specs.Prelude.{◌≡◌};
 
 use atomic_file::{FileFault, FileKind, FileSystem};
@@ -10,10 +10,10 @@ use std::sync::atomic::{AtomicU64, Ordering};
 pub const OUT: &str = "out";
 /// The path of a file.
 pub const TARGET: &str = "file";
-/// The path of the new file that is to replace the file.
+/// The path of the new file.
 pub const PARTIAL: &str = "file.oscip-partial";
 
-/// The file system. No other path names anything.
+/// The file system. Other paths name nothing.
 #[derive(Drop)]
 pub struct FakeFiles {
     pub alloc: Global,
@@ -25,22 +25,22 @@ pub struct FakeFiles {
     pub target: Option<Vec<u8>>,
     /// The content of `PARTIAL`.
     pub partial: Option<Vec<u8>>,
-    /// How many writes a new file takes before its device fails.
+    /// The number of writes that a new file takes before its device fails.
     pub writes: u64,
-    /// The step before which another process gives `PARTIAL` to a file of its own.
+    /// The operation before which another process replaces `PARTIAL` by a file of its own.
     pub stolen: u64,
-    /// Whether a rename found `PARTIAL` given away, more than one step ago.
+    /// Whether a rename came more than one operation after that replacement of `PARTIAL`.
     pub renames_stolen: bool,
     /// Whether an allocation failed.
     pub is_out_of_memory: bool,
-    /// How many steps were asked for.
+    /// The number of operations so far.
     pub steps: AtomicU64,
-    /// The step that is refused.
+    /// The operation that fails.
     pub refused: u64,
 }
 
 impl FakeFiles {
-    /// Counts a step. Returns an error if it is to be refused.
+    /// Counts an operation, and fails if it is the one that is to fail.
     fn step(&self) -> Result<(), FileFault> {
         if self.steps.fetch_add(1, Ordering::SeqCst) == self.refused {
             Err(FileFault::System)
@@ -53,15 +53,15 @@ impl FakeFiles {
 /// A new file.
 #[derive(Drop)]
 pub struct FakeFile {
-    /// What was written since it was emptied.
+    /// The bytes that were written since it was truncated.
     pub bytes: Vec<u8>,
     /// Whether it was synced after the last write.
     pub is_synced: bool,
     /// Whether it has the mode of `TARGET`.
     pub is_like: bool,
-    /// How many writes it takes before its device fails.
+    /// The number of writes that it takes before its device fails.
     pub writes: u64,
-    /// How often its device failed.
+    /// The number of failed writes.
     pub failures: u64,
 }
 

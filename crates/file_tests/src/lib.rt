@@ -1,6 +1,5 @@
-//! Tests of the replacement of a file's content, on a file system that refuses one step.
-//! Depends on `atomic_file`, whose file system it plays, and on `byte_sink`.
-//! Its contract: none; it has nothing but tests.
+//! Tests of the replacement of a file's content, on a fake file system in which one operation fails.
+//! Depends on `atomic_file` and `byte_sink`, whose traits the fakes implement. It has nothing but tests.
 #![tactic(auto)]
 
 #[cfg(test)]

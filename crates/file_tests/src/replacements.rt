@@ -1,8 +1,8 @@
-//! One step of a replacement is refused, and the next replacement succeeds.
+//! One operation of a replacement fails, and the next replacement succeeds.
 
 use crate::fake_files::{FakeFile, FakeFiles, OUT, PARTIAL, TARGET};
 use atomic_file::{ContentFault, ReplaceFault, replace_file};
-use byte_sink::{SinkFault, put_all};
+use byte_sink::{SinkFault, write_fully};
 use std::alloc::{AllocError, Global};
 use std::sync::atomic::{AtomicU64, Ordering};
 use std::test::Fail;
@@ -10,8 +10,8 @@ use std::test::Fail;
 const WHOLE: &[u8] = b"new";
 
 /// Writes a content, which may fail once it is written.
-fn write_whole(file: &mut FakeFile, fails: bool) -> Result<(), ContentFault<SinkFault>> {
-    match put_all(file, WHOLE) {
+fn write_content(file: &mut FakeFile, fails: bool) -> Result<(), ContentFault<SinkFault>> {
+    match write_fully(file, WHOLE) {
         Ok(()) if fails => Err(ContentFault::Other(SinkFault::Device)),
         Ok(()) => Ok(()),
         Err(SinkFault::Device) => Err(ContentFault::Device),
@@ -19,10 +19,10 @@ fn write_whole(file: &mut FakeFile, fails: bool) -> Result<(), ContentFault<Sink
     }
 }
 
-/// More steps and writes than there are.
+/// More operations and writes than occur.
 const NEVER: u64 = 100;
 
-/// What may be there: whether the path is a link, the content of the file, and that of a new file that a killed run left.
+/// The initial state: whether the path is a link, the content of the file, and that of a new file that a killed run left.
 const STATES: [(bool, Option<&[u8]>, Option<&[u8]>); 6] = [
     (false, None, None),
     (false, None, Some(b"left")),
@@ -39,7 +39,7 @@ fn copy_of(alloc: Global, bytes: Option<&[u8]>) -> Result<Option<Vec<u8>>, Alloc
     }
 }
 
-/// The files, of which nothing is refused.
+/// The files, without a failure.
 fn files_of(
     alloc: Global,
     (is_link, target, partial): (bool, Option<&[u8]>, Option<&[u8]>),
@@ -67,14 +67,14 @@ fn is_content(content: &Option<Vec<u8>>, wanted: Option<&[u8]>) -> bool {
     }
 }
 
-/// Replaces the file, by its path or by the link. How it ended.
+/// Replaces the file, by its path or by the link, and returns the result.
 fn replace(files: &mut FakeFiles, fails: bool) -> &'static str {
     let (alloc, path) = (files.alloc, if files.is_link { OUT } else { TARGET });
     match replace_file(
         alloc,
         files,
         path,
-        |file: &mut FakeFile| write_whole(file, fails),
+        |file: &mut FakeFile| write_content(file, fails),
     ) {
         Ok(()) => "written",
         Err(ReplaceFault::Target) if !files.is_out_of_memory => "target",
@@ -85,8 +85,8 @@ fn replace(files: &mut FakeFiles, fails: bool) -> &'static str {
     }
 }
 
-/// How the next run ends, of which nothing is refused: it writes the whole content and leaves no new file.
-fn replace_next(files: &mut FakeFiles) -> &'static str {
+/// The result of the next run, without a failure: it writes the whole content and leaves no new file.
+fn replace_again(files: &mut FakeFiles) -> &'static str {
     files.refused = NEVER;
     files.writes = NEVER;
     match replace(files, false) {
@@ -96,13 +96,13 @@ fn replace_next(files: &mut FakeFiles) -> &'static str {
     }
 }
 
-/// Whether the file has the whole content after this end, and otherwise what it had.
-fn is_whole_or_kept(files: &FakeFiles, old: Option<&[u8]>, ended: &str) -> bool {
+/// Whether the file has the whole content after this result, and otherwise the content before.
+fn is_new_or_old(files: &FakeFiles, old: Option<&[u8]>, ended: &str) -> bool {
     let wanted = if ended == "written" { Some(WHOLE) } else { old };
     is_content(&files.target, wanted)
 }
 
-/// Each step is refused in turn. The run succeeds exactly if it didn't ask for the step.
+/// Each operation fails in turn. The run succeeds if and only if it didn't use the operation.
 #[test]
 fn refused_steps(rt: HostRuntime) -> Result<(), Fail> {
     for state in STATES {
@@ -113,9 +113,9 @@ fn refused_steps(rt: HostRuntime) -> Result<(), Fail> {
             let is_refused = files.steps.load(Ordering::SeqCst) > refused;
             let is_right = (ended == "written") != is_refused;
             assert!(rt; is_right, "step {refused}: {ended}");
-            let is_right = is_whole_or_kept(&files, state.1, ended);
+            let is_right = is_new_or_old(&files, state.1, ended);
             assert!(rt; is_right, "step {refused}: {ended}");
-            assert_eq!(rt; replace_next(&mut files), "written");
+            assert_eq!(rt; replace_again(&mut files), "written");
         }
     }
     Ok(())
@@ -130,14 +130,14 @@ fn failed_contents(rt: HostRuntime) -> Result<(), Fail> {
             files.writes = writes;
             let ended = replace(&mut files, fails);
             assert!(rt; ended == wanted && files.partial.is_none(), "{ended}");
-            assert!(rt; is_whole_or_kept(&files, state.1, ended), "{ended}");
-            assert_eq!(rt; replace_next(&mut files), "written");
+            assert!(rt; is_new_or_old(&files, state.1, ended), "{ended}");
+            assert_eq!(rt; replace_again(&mut files), "written");
         }
     }
     Ok(())
 }
 
-/// Another process's file stays, and the file is as it was, unless it took the path after the last look at it.
+/// Another process's file is left alone, and the file is unchanged, unless that process took the path after the last check.
 #[test]
 fn stolen_path(rt: HostRuntime) -> Result<(), Fail> {
     for state in STATES {
@@ -156,7 +156,7 @@ fn stolen_path(rt: HostRuntime) -> Result<(), Fail> {
     Ok(())
 }
 
-/// A folder, a link to one, and a link that leads nowhere: nothing is made.
+/// A folder, a link to one, and a dangling link: nothing is created.
 #[test]
 fn unreplaced(rt: HostRuntime) -> Result<(), Fail> {
     for (is_link, is_folder) in [(false, true), (true, true), (true, false)] {

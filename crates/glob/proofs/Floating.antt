@@ -136,7 +136,7 @@ next_piece A items i d last rest middle after at lt same none occurs_there e f =
     let whole : A ↔ Floats (qs ++ last ∷ []) (drop (length p) (drop at rest)) = (λ a. step.0 (now.0 a), λ g. now.1 (step.1 g)) in
     subst (λ (z : List ℕ). A ↔ Floats (qs ++ last ∷ []) z) (ap (λ (z : List ℕ). drop (length p) z) (sym e) ∙ sym f) whole
 
--- behind all others the last piece ends the text
+-- after all others the last piece ends the text
 pub at_end : (A : Type 0) (items : List (Bor (List ℕ))) (i : ℕ) (last rest : List ℕ) (r : Bool) (front : List ℕ) → length items ≤ i →
     A ↔ Floats (map (λ (p : Bor (List ℕ)). p.now) (drop i items) ++ last ∷ []) rest → (r ≡ true → rest ≡ front ++ last) → ((b : List ℕ) → rest ≡ b ++ last → r ≡ true) → (IsTrue r → A) × (A → IsTrue r)
 at_end A items i last rest r front over same ends ended =

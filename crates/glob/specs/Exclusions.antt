@@ -1,4 +1,4 @@
--- Which files and folders patterns exclude. A path is a list of bytes; its names are separated by slashes.
+-- Exclusion of files and folders by patterns. A path is a list of bytes, and slashes separate its names.
 use Rattle.std.specs.Prelude.{◌≡◌, ◌↔◌, ◌⊎◌, ℕ, ◌==◌, List, [], ◌∷◌, ◌++◌, map, Contains}
 use Rattle.std.specs.List.{slice_split}
 use Rattle.glob.specs.Globs.{Fits, Matches}
@@ -10,7 +10,7 @@ use Rattle.glob.specs.declared.exclusion.PathGlob.TheVariants.{Name, Path}
 abbrev pub names_of : List ℕ → List (List ℕ)
 names_of path = slice_split (λ c. c == 47) path
 
--- as many names as patterns, each of which matches its pattern
+-- there are as many names as patterns, and each matches the pattern of its index
 abbrev pub MatchEach : List (List ℕ) → List (List ℕ) → Type 0
 MatchEach [] [] = Unit {0}
 MatchEach [] (name ∷ names) = ⊥
@@ -25,7 +25,8 @@ HasSlash pattern = Contains pattern 47
 abbrev pub MatchesLast : List ℕ → List (List ℕ) → Type 0
 MatchesLast pattern names = (before : List (List ℕ)) × (name : List ℕ) × (names ≡ before ++ name ∷ []) × Matches pattern name
 
--- the pattern matches the file or folder with these names: with a slash name by name, so that `*` matches no slash; without one the last name
+-- the pattern matches the file or folder with these names: with a slash name by name, so that `*` matches no slash, and without one its
+-- last name
 abbrev pub MatchesPath : List ℕ → List (List ℕ) → Type 0
 MatchesPath pattern names = (HasSlash pattern × MatchEach (names_of pattern) names) ⊎ ((HasSlash pattern → ⊥) × MatchesLast pattern names)
 
@@ -33,34 +34,34 @@ MatchesPath pattern names = (HasSlash pattern × MatchEach (names_of pattern) na
 abbrev pub Excludes : List ℕ → List ℕ → Type 0
 Excludes pattern path = (names rest : List (List ℕ)) × (names_of path ≡ names ++ rest) × MatchesPath pattern names
 
--- one of the patterns does
+-- one of the patterns excludes the path
 abbrev pub IsExcluded : List (List ℕ) → List ℕ → Type 0
 IsExcluded patterns path = (pattern : List ℕ) × Contains patterns pattern × Excludes pattern path
 
--- ---- how it is found out
+-- ---- parsed patterns
 
--- the same names fit each pattern that was read and match its text
+-- each parsed pattern fits exactly the names that match its source
 abbrev pub AreGlobs : List (List ℕ) → List Glob → Type 0
 AreGlobs [] [] = Unit {0}
 AreGlobs [] (glob ∷ globs) = ⊥
 AreGlobs (pattern ∷ patterns) [] = ⊥
 AreGlobs (pattern ∷ patterns) (glob ∷ globs) = ((name : List ℕ) → Matches pattern name ↔ Fits glob name) × AreGlobs patterns globs
 
--- the names begin with ones that fit the patterns
+-- there are as many names as patterns or more, and each of the first names fits the pattern of its index
 abbrev pub FitEach : List Glob → List (List ℕ) → Type 0
 FitEach [] names = Unit {0}
 FitEach (glob ∷ globs) [] = ⊥
 FitEach (glob ∷ globs) (name ∷ names) = Fits glob name × FitEach globs names
 
--- the pattern excludes a path of these names
+-- the parsed pattern excludes a path of these names
 abbrev pub ExcludesBy : PathGlob → List (List ℕ) → Type 0
 ExcludesBy (Name glob) names = (name : List ℕ) × Contains names name × Fits glob name
 ExcludesBy (Path globs) names = FitEach globs.items names
 
--- one of the patterns does
+-- one of the parsed patterns excludes a path of these names
 abbrev pub IsExcludedBy : List PathGlob → List (List ℕ) → Type 0
 IsExcludedBy globs names = (glob : PathGlob) × Contains globs glob × ExcludesBy glob names
 
--- the patterns were read: they exclude exactly the paths that the texts do
+-- the parsed patterns exclude exactly the paths that their sources exclude
 abbrev pub AreRead : List (List ℕ) → List PathGlob → Type 0
 AreRead patterns globs = (path : List ℕ) → IsExcluded patterns path ↔ IsExcludedBy globs (names_of path)

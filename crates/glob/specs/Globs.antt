@@ -4,7 +4,7 @@ use Rattle.std.specs.List.{slice_split}
 use Rattle.glob.specs.declared.pattern.Floating.{Floating}
 use Rattle.glob.specs.declared.pattern.Glob.{Glob}
 
--- the name consists of these pieces in order, with any bytes between each two
+-- the name consists of these pieces in order, with any bytes between two of them
 abbrev pub Interleaves : List (List ℕ) → List ℕ → Type 0
 Interleaves [] name = ⊥
 Interleaves (piece ∷ []) name = name ≡ piece
@@ -18,17 +18,17 @@ is_star byte = byte == 42
 abbrev pub Matches : List ℕ → List ℕ → Type 0
 Matches pattern name = Interleaves (slice_split is_star pattern) name
 
--- ---- how it is found out
+-- ---- parsed patterns
 
--- after any bytes the text consists of these pieces
+-- the text is any bytes followed by these pieces in order
 abbrev pub Floats : List (List ℕ) → List ℕ → Type 0
 Floats pieces text = (between rest : List ℕ) × (text ≡ between ++ rest) × Interleaves pieces rest
 
--- the pieces after the first star
+-- the pieces after the first `*`
 abbrev pub pieces_of : Floating → List (List ℕ)
 pieces_of floating = map (λ piece. piece.now) floating.inner.items ++ floating.last.now ∷ []
 
--- what is left of a text after its first piece: nothing without a star, and else the pieces after the star
+-- the rest of a name after the first piece: empty if the pattern has no `*`, else the other pieces
 abbrev pub FitsRest : Option Floating → List ℕ → Type 0
 FitsRest None rest = rest ≡ []
 FitsRest (Some floating) rest = Floats (pieces_of floating) rest

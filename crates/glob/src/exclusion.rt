@@ -1,4 +1,4 @@
-//! Which files and folders patterns exclude.
+//! Exclusion of files and folders by patterns of paths.
 ghost use Rattle.std.specs.Prelude.{◌≡◌, ◌↔◌, Contains, IfOk, IsTrue, map};
 ghost use Rattle.std.specs.String.{string_bytes};
 ghost use Rattle.glob.specs.Exclusions.{names_of, AreGlobs, AreRead, Excludes, ExcludesBy, FitEach, IsExcludedBy};
@@ -7,12 +7,12 @@ ghost use Rattle.glob.specs.declared.exclusion.PathGlob.TheVariants.{Name};
 use crate::Glob;
 use std::alloc::{AllocError, Global};
 
-/// A pattern of paths.
+/// A pattern of paths, split at its slashes.
 #[derive(Drop)]
 pub(crate) enum PathGlob<'a> {
-    /// Of any name of a path.
+    /// Matches any single name of a path.
     Name(Glob<'a>),
-    /// Of the first names of a path, one for each.
+    /// Matches the first names of a path, one pattern for each.
     Path(Vec<Glob<'a>>),
 }
 
@@ -23,7 +23,7 @@ pub struct Exclusion<'a> {
     pub(crate) globs: Vec<PathGlob<'a>>,
 }
 
-/// The names of a path.
+/// The names of a path, which slashes separate.
 fn names_in(alloc: Global, path: &[u8]) -> Result<Vec<&[u8]>, AllocError>
     ensures { IfOk result (λ names. map (λ n. n.now) names.items ≡ names_of path.now) }
 {
@@ -34,7 +34,7 @@ fn names_in(alloc: Global, path: &[u8]) -> Result<Vec<&[u8]>, AllocError>
     Ok(names)
 }
 
-/// The patterns of names.
+/// The patterns of names, parsed.
 fn globs_of<'a>(alloc: Global, patterns: &[&'a [u8]]) -> Result<Vec<Glob<'a>>, AllocError>
     ensures { IfOk result (λ globs. AreGlobs (map (λ p. p.now) patterns.now) globs.items) }
 {
@@ -45,7 +45,7 @@ fn globs_of<'a>(alloc: Global, patterns: &[&'a [u8]]) -> Result<Vec<Glob<'a>>, A
     Ok(globs)
 }
 
-/// Whether one of the names matches.
+/// Whether the pattern matches one of the names.
 fn has_match(glob: &Glob<'_>, names: &[&[u8]]) -> bool
     ensures { IsTrue result ↔ ExcludesBy (Name glob.now) (map (λ n. n.now) names.now) }
 {
@@ -57,7 +57,7 @@ fn has_match(glob: &Glob<'_>, names: &[&[u8]]) -> bool
     false
 }
 
-/// Whether the names begin with ones that match.
+/// Whether there are as many names as patterns or more, and each pattern matches the name of its index.
 fn begins_with(globs: &[Glob<'_>], names: &[&[u8]]) -> bool
     ensures { IsTrue result ↔ FitEach globs.now (map (λ n. n.now) names.now) }
 {
@@ -73,6 +73,7 @@ fn begins_with(globs: &[Glob<'_>], names: &[&[u8]]) -> bool
 }
 
 impl<'a> PathGlob<'a> {
+    /// Parses a pattern: with a slash name by name, without one as a pattern of single names.
     fn new(alloc: Global, pattern: &'a [u8]) -> Result<PathGlob<'a>, AllocError>
         ensures { IfOk result (λ glob. (path : _) → Excludes pattern.now path ↔ ExcludesBy glob (names_of path)) }
     {
@@ -83,6 +84,7 @@ impl<'a> PathGlob<'a> {
         Ok(PathGlob::Path(globs_of(alloc, names.as_slice())?))
     }
 
+    /// Whether the pattern excludes the path of these names.
     fn excludes(&self, names: &[&[u8]]) -> bool
         ensures { IsTrue result ↔ ExcludesBy self.now (map (λ n. n.now) names.now) }
     {
@@ -93,7 +95,7 @@ impl<'a> PathGlob<'a> {
     }
 }
 
-/// The patterns of paths.
+/// The patterns of paths, parsed.
 fn path_globs_of<'a>(alloc: Global, patterns: &'a [String]) -> Result<Vec<PathGlob<'a>>, AllocError>
     ensures { IfOk result (λ globs. AreRead (map string_bytes patterns.now) globs.items) }
 {
@@ -105,7 +107,7 @@ fn path_globs_of<'a>(alloc: Global, patterns: &'a [String]) -> Result<Vec<PathGl
 }
 
 impl<'a> Exclusion<'a> {
-    /// Reads the patterns. Fails if an allocation does.
+    /// Parses the patterns. Fails if an allocation does.
     pub fn new(alloc: Global, patterns: &'a [String]) -> Result<Exclusion<'a>, AllocError>
         // It excludes exactly the paths that the patterns exclude.
         ensures { IfOk result (λ exclusion. AreRead (map string_bytes patterns.now) exclusion.globs.items) }
@@ -114,7 +116,7 @@ impl<'a> Exclusion<'a> {
         Ok(Exclusion { globs })
     }
 
-    /// Whether a pattern matches the path, or a folder on it. Fails if an allocation does.
+    /// Whether a pattern matches the path or a folder on it. Fails if an allocation does.
     pub fn excludes(&self, alloc: Global, path: &str) -> Result<bool, AllocError>
         // Exactly if one of the patterns excludes it.
         ensures { IfOk result (λ excludes. IsTrue excludes ↔ IsExcludedBy self.now.globs.items (names_of path.now)) }

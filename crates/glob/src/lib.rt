@@ -1,7 +1,7 @@
-//! Patterns of names, and of paths that a walk excludes: `*` matches any bytes of a name, also none.
-//! Depends on `memchr` to search for the pieces between the stars.
-//! Its contract: a name matches exactly if its pattern's pieces occur in it in order, the first at its start and the last at its end; a path is
-//! excluded exactly if a pattern matches it or a folder on it.
+//! Patterns of file names, and exclusion of files and folders by them: `*` matches any bytes of a name, also none.
+//! Depends on `texts` to split at the first `*`, and on `memchr` to search for the pieces between the others.
+//! Main calls: `Glob::matches` is true exactly if the pieces of the pattern occur in the name in order, the first one as its prefix and
+//! the last one as its suffix. `Exclusion::excludes` is true exactly if a pattern matches the path or a folder on it.
 #![tactic(auto)]
 
 mod exclusion;

@@ -1,4 +1,4 @@
-//! Patterns of names.
+//! Patterns of single names.
 ghost use Rattle.std.specs.Prelude.{◌≡◌, ◌↔◌, IfOk, IsTrue, ℕ, List};
 ghost use Rattle.std.specs.List.{slice_split};
 ghost use Rattle.glob.specs.Globs.{is_star, pieces_of, Fits, FitsRest, Floats, Matches};
@@ -7,26 +7,26 @@ use memchr::memmem;
 use std::alloc::{AllocError, Global};
 use texts::fields::cut_at_byte;
 
-/// The pieces of a pattern after its first star.
+/// The pieces of a pattern after its first `*`.
 #[derive(Drop)]
 pub(crate) struct Floating<'a> {
-    /// Those before the last star, in order. None of them is empty.
+    /// The pieces before the last `*`, in order. None of them is empty.
     pub(crate) inner: Vec<&'a [u8]>,
-    /// What a name ends with.
+    /// The suffix of each matching name.
     pub(crate) last: &'a [u8],
 }
 
-/// A pattern of names, cut at its stars.
+/// A pattern of names, split at each `*`.
 #[derive(Drop)]
 pub struct Glob<'a> {
-    /// What a name begins with.
+    /// The prefix of each matching name.
     pub(crate) first: &'a [u8],
-    /// The other pieces, if it has a star.
+    /// The other pieces, if the pattern has a `*`.
     pub(crate) floating: Option<Floating<'a>>,
 }
 
 impl<'a> Floating<'a> {
-    /// Cuts what follows the first star of a pattern.
+    /// Splits the part of a pattern after its first `*`.
     fn new(alloc: Global, rest: &'a [u8]) -> Result<Floating<'a>, AllocError>
         ensures { IfOk result (λ floating. (text : List ℕ) → Floats (slice_split is_star rest.now) text ↔ Floats (pieces_of floating) text) }
     {
@@ -47,7 +47,7 @@ impl<'a> Floating<'a> {
     {
         let mut rest = text;
         for piece in &self.inner {
-            // So that a pattern longer than the name costs no more than the name.
+            // Without this test `find` would prepare a search for a piece longer than the rest of the name.
             if piece.len() > rest.len() {
                 return false;
             }
@@ -63,9 +63,9 @@ impl<'a> Floating<'a> {
 }
 
 impl<'a> Glob<'a> {
-    /// Cuts a pattern. Fails if an allocation does.
+    /// Splits a pattern at each `*`. Fails if an allocation does.
     pub fn new(alloc: Global, pattern: &'a [u8]) -> Result<Glob<'a>, AllocError>
-        // The same names fit it that match the pattern: `*` matches any bytes, also none, and every other byte itself.
+        // Exactly the names that match the pattern fit: `*` matches any bytes, also none, and every other byte itself.
         ensures { IfOk result (λ glob. (name : List ℕ) → Matches pattern.now name ↔ Fits glob name) }
     {
         let Some((first, rest)) = cut_at_byte(pattern, b'*') else {
@@ -81,9 +81,9 @@ impl<'a> Glob<'a> {
         })
     }
 
-    /// Whether the name matches the pattern. Takes time in proportion to the name and the pieces that fit in it.
+    /// Whether the name matches the pattern. Takes time linear in the length of the name, however long the pattern is.
     pub fn matches(&self, name: &[u8]) -> bool
-        // Exactly if it fits.
+        // True exactly if it fits.
         ensures { IsTrue result ↔ Fits self.now name.now }
     {
         let Some(rest) = name.strip_prefix(self.first) else {

@@ -6,10 +6,10 @@ use Rattle.index_run.specs.IndexRuns.{IsHexText, IsIndexingRun, IsIndexText, IsR
 use Rattle.oscip_job.specs.declared.job.Indexing.{Indexing}
 use Rattle.oscip_job.specs.declared.job.Output.{Output}
 use Rattle.oscip_job.specs.declared.job.Output.TheVariants as outputs
-use Rattle.oscip_tree.proofs.OneParting.{one_accepted}
-use Rattle.oscip_tree.specs.OwnFaults.{ArePartedFiles}
-use Rattle.oscip_tree.specs.declared.source.Source.{Source}
-use Rattle.oscip_tree.specs.declared.tree_fault.TreeFault.{TreeFault}
+use Rattle.source_tree.proofs.OneParting.{one_accepted}
+use Rattle.source_tree.specs.OwnFaults.{ArePartitionedFiles}
+use Rattle.source_tree.specs.declared.source.Source.{Source}
+use Rattle.source_tree.specs.declared.tree_fault.TreeFault.{TreeFault}
 
 -- two runs on the same files that end well put the same bytes
 runs_same : (output : Output) (sources : List Source) (package_name root before : List ℕ) (new other : Option (List ℕ))
@@ -19,7 +19,7 @@ runs_same outputs.Hex sources package_name root before new other = puts_same (Is
 
 -- and so do two that leave files out, which leave out the same ones
 pub accepted_same : (sources accepted others : List Source) (faults more : List TreeFault) (it : Indexing) (workers : ℕ) (before : List ℕ) (new other : Option (List ℕ))
-    → ArePartedFiles sources accepted faults → ArePartedFiles sources others more
+    → ArePartitionedFiles sources accepted faults → ArePartitionedFiles sources others more
     → IsIndexingRun accepted it (Some before) new (Ok tt) → IsIndexingRun others (record it { workers = workers }) (Some before) other (Ok tt) → new ≡ other
 accepted_same sources accepted others faults more it workers before new other a b run again =
     runs_same it.output others (string_bytes it.package) (string_bytes it.root) before new other

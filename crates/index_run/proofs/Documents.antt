@@ -6,15 +6,15 @@ use Rattle.proto_wire.specs.Writers.{answer_of}
 use Rattle.scip_index.specs.declared.index.Document.{Document}
 use Rattle.scip_index.specs.declared.index.Index.{Index}
 use Rattle.scip_index.specs.declared.index.Metadata.{Metadata}
-use Rattle.scip_index.specs.Plain.{plain_document, plain_index, plain_metadata, plain_symbol, PlainIndex}
+use Rattle.scip_index.specs.Plain.{document_model, index_model, metadata_model, symbol_model, IndexModel}
 use Rattle.scip_index.specs.Written.{document_part, documents_part, externals_part, metadata_part, written}
 
 -- the part of a document, and those of these documents
 abbrev pub part : Document → List ℕ
-part d = document_part (plain_document d)
+part d = document_part (document_model d)
 
 abbrev pub parts : List Document → List ℕ
-parts documents = documents_part (map plain_document documents)
+parts documents = documents_part (map document_model documents)
 
 -- a writer that has answered Ok has refused nothing
 pub nothing_refused : (o : Option SinkFault) → Ok tt ≡ answer_of o → o ≡ None
@@ -22,7 +22,7 @@ nothing_refused None e = refl
 nothing_refused (Some fault) e = absurd cc
 
 -- an index in its parts, with the metadata that it has
-pub index_parts : ((i : PlainIndex) → written i ≡ metadata_part i.metadata ++ documents_part i.documents ++ externals_part i.external_symbols) → (index : Index) (m : Metadata) → index.metadata ≡ Some m
-    → written (plain_index index) ≡ metadata_part (Some (plain_metadata m)) ++ parts index.documents.items ++ externals_part (map plain_symbol index.external_symbols.items)
+pub index_parts : ((i : IndexModel) → written i ≡ metadata_part i.metadata ++ documents_part i.documents ++ externals_part i.external_symbols) → (index : Index) (m : Metadata) → index.metadata ≡ Some m
+    → written (index_model index) ≡ metadata_part (Some (metadata_model m)) ++ parts index.documents.items ++ externals_part (map symbol_model index.external_symbols.items)
 index_parts law index m e =
-    law (plain_index index) ∙ ap (λ (o : Option Metadata). metadata_part (option_map plain_metadata o) ++ parts index.documents.items ++ externals_part (map plain_symbol index.external_symbols.items)) e
+    law (index_model index) ∙ ap (λ (o : Option Metadata). metadata_part (option_map metadata_model o) ++ parts index.documents.items ++ externals_part (map symbol_model index.external_symbols.items)) e

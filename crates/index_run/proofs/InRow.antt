@@ -5,10 +5,10 @@ use Rattle.std.specs.Io.KnownBytes.{Appends}
 use Rattle.std.proofs.KnownBytes.{Appends-trans}
 use Rattle.std.proofs.lemmas.Grind.{flat_map-append}
 use Rattle.std.proofs.lemmas.List.{flat_map_more}
-use Rattle.byte_sink.specs.Sinks.{AppendsFront, PutsBy}
+use Rattle.byte_sink.specs.Sinks.{AppendsPrefix, WritesBy}
 
 -- what was put, and then a front of what is next, is a front of all
-pub front_then : (start now new : Option (List ℕ)) (all done next rest : List ℕ) → all ≡ done ++ (next ++ rest) → Appends start now done → AppendsFront now new next → AppendsFront start new all
+pub front_then : (start now new : Option (List ℕ)) (all done next rest : List ℕ) → all ≡ done ++ (next ++ rest) → Appends start now done → AppendsPrefix now new next → AppendsPrefix start new all
 front_then start now new all done next rest e p q = (
   done ++ q.0,
   q.1 ++ rest,
@@ -17,8 +17,8 @@ front_then start now new all done next rest e p q = (
 )
 
 -- what was put, and then what a call puts at its end
-pub puts_then : {E : Type 0} (start now new : Option (List ℕ)) (all done last : List ℕ) (result : Result (Unit {0}) E) → all ≡ done ++ last → Appends start now done → PutsBy (λ _. true) now new result last →
-    PutsBy (λ _. true) start new result all
+pub puts_then : {E : Type 0} (start now new : Option (List ℕ)) (all done last : List ℕ) (result : Result (Unit {0}) E) → all ≡ done ++ last → Appends start now done → WritesBy (λ _. true) now new result last →
+    WritesBy (λ _. true) start new result all
 puts_then start now new all done last (Ok x) e p q = rw e (Appends-trans start now new done last p q)
 puts_then start now new all done last (Err fault) e p q = front_then start now new all done last [] (e ∙ ap (λ (t : List ℕ). done ++ t) (sym (append-nil last))) p q
 
@@ -31,7 +31,7 @@ module _ {X : Type 0} (bytes_of : X → List ℕ) (start now : Option (List ℕ)
 
   module _ (all left : List X) (whole : done ++ left ≡ all) (bytes : List ℕ) (are : bytes ≡ flat_map bytes_of all) where
     -- a front of the next one is put
-    pub front_put : (new : Option (List ℕ)) (x : X) (rest : List X) → left ≡ x ∷ rest → AppendsFront now new (bytes_of x) → AppendsFront start new bytes
+    pub front_put : (new : Option (List ℕ)) (x : X) (rest : List X) → left ≡ x ∷ rest → AppendsPrefix now new (bytes_of x) → AppendsPrefix start new bytes
     front_put new x rest e q =
         front_then start now new bytes (flat_map bytes_of done) (bytes_of x) (flat_map bytes_of rest)
         (are ∙ ap (flat_map bytes_of) (sym whole ∙ ap (λ (l : List X). done ++ l) e) ∙ flat_map-append bytes_of done (x ∷ rest)) taken q

@@ -4,12 +4,12 @@ use Rattle.std.specs.Prelude.{codes}
 use Rattle.hex.specs.Hex.{encode_lower}
 use Rattle.ob_board.proofs.OneIndex.{one_index, one_unresolved}
 use Rattle.text_escape.specs.Places.{Style}
-use Rattle.index_run.specs.IndexRuns.{unresolved_lines, IsHexText, IsIndexText, IsUnresolvedText, PutsText}
-use Rattle.oscip_tree.specs.declared.source.Source.{Source}
+use Rattle.index_run.specs.IndexRuns.{unresolved_lines, IsHexText, IsIndexText, IsUnresolvedText, WritesText}
+use Rattle.source_tree.specs.declared.source.Source.{Source}
 use Rattle.scip_index.specs.Written.{written}
 
 pub puts_same : (IsText : List ℕ → Type 0) → ((text other : List ℕ) → IsText text → IsText other → text ≡ other) → (before : List ℕ) (new other : Option (List ℕ))
-    → PutsText IsText (Some before) new → PutsText IsText (Some before) other → new ≡ other
+    → WritesText IsText (Some before) new → WritesText IsText (Some before) other → new ≡ other
 puts_same IsText one before None other (t, is, bad) b = absurd bad
 puts_same IsText one before (Some xs) None a (u, is, bad) = absurd bad
 puts_same IsText one before (Some xs) (Some ys) (t, is_t, e) (u, is_u, f) = ap Some (e ∙ ap (λ (z : List ℕ). before ++ z) (one t u is_t is_u) ∙ sym f)

@@ -1,13 +1,12 @@
 //! Bytes as a line of hexadecimal digits.
 ghost use Rattle.std.specs.Prelude.{◌≡◌, ◌++◌, codes, IfErr, OnOk};
 ghost use Rattle.std.specs.String.{string_bytes};
-ghost use Rattle.byte_sink.specs.Sinks.{failures_after, AppendsFront, Puts};
+ghost use Rattle.byte_sink.specs.Sinks.{failures_after, AppendsPrefix, Writes};
 ghost use Rattle.hex.specs.Hex.{encode_lower};
-ghost use Rattle.text_pieces.specs.Pieces.{PutsAllBut};
+ghost use Rattle.byte_sink.specs.Pieces.{WritesAllBut};
 
-use byte_sink::{Sink, SinkFault, put_all};
+use byte_sink::{Sink, SinkFault, flush_if_full, write_fully};
 use std::alloc::Global;
-use text_pieces::put_enough;
 
 /// The number of bytes that are converted at once.
 const CHUNK: usize = 32768;
@@ -19,9 +18,9 @@ fn push_digits<S: Sink>(
     bytes: &[u8],
     sink: &mut S,
 ) -> Result<(), SinkFault>
-    ensures gathered { OnOk result (PutsAllBut (S.taken sink.old) (S.taken sink.new)
+    ensures gathered { OnOk result (WritesAllBut (S.taken sink.old) (S.taken sink.new)
         (string_bytes text.old ++ encode_lower bytes.now) (string_bytes text.new)) }
-    ensures broken { IfErr result (λ _. AppendsFront (S.taken sink.old) (S.taken sink.new)
+    ensures error_prefix { IfErr result (λ _. AppendsPrefix (S.taken sink.old) (S.taken sink.new)
         (string_bytes text.old ++ encode_lower bytes.now)) }
     ensures failures { S.failures sink.new ≡ failures_after result (S.failures sink.old) }
 {
@@ -30,14 +29,14 @@ fn push_digits<S: Sink>(
     };
     text.push_str(digits.as_str())
         .map_err(|_| SinkFault::Memory)?;
-    put_enough(text, sink)
+    flush_if_full(text, sink)
 }
 
 /// Writes the bytes as a line: two lower-case hexadecimal digits for each byte, and an LF. Fails with the fault of the sink, `Device` or
 /// `Memory`; the sink then has a prefix of the line.
 pub fn hex_line<S: Sink>(alloc: Global, bytes: &[u8], sink: &mut S) -> Result<(), SinkFault>
     // With `Ok` the sink took the whole line, otherwise a prefix of it.
-    ensures puts { Puts (S.taken sink.old) (S.taken sink.new) result (encode_lower bytes.now ++ codes "\n") }
+    ensures writes { Writes (S.taken sink.old) (S.taken sink.new) result (encode_lower bytes.now ++ codes "\n") }
     // The sink counts a failure if and only if the result is `Device`.
     ensures failures { S.failures sink.new ≡ failures_after result (S.failures sink.old) }
 {
@@ -51,5 +50,5 @@ pub fn hex_line<S: Sink>(alloc: Global, bytes: &[u8], sink: &mut S) -> Result<()
     let Ok(()) = text.push_str("\n") else {
         return Err(SinkFault::Memory);
     };
-    put_all(sink, text.as_bytes())
+    write_fully(sink, text.as_bytes())
 }

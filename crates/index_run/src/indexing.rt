@@ -1,30 +1,29 @@
 //! The engines of `index` and `unresolved`, over any sink.
 ghost use Rattle.std.specs.Prelude.{◌≡◌, ◌++◌, IfErr, IfOk, OnOk, false, map};
 ghost use Rattle.std.specs.String.{string_bytes};
-ghost use Rattle.byte_sink.specs.Sinks.{failures_after, failures_by, AppendsFront, Puts};
-ghost use Rattle.ob_board.specs.Unresolved.{plain_unresolved};
-ghost use Rattle.oscip_job.specs.Jobs.{IsPackage, MayWork};
+ghost use Rattle.byte_sink.specs.Sinks.{failures_after, failures_by, AppendsPrefix, Writes};
+ghost use Rattle.ob_board.specs.Unresolved.{unresolved_model};
+ghost use Rattle.oscip_job.specs.Jobs.{IsPackage, IsWorkerCount};
 ghost use Rattle.oscip_run.specs.Faults.{is_device};
 ghost use Rattle.index_run.specs.IndexRuns.{unresolved_line, unresolved_lines, IsHexRun, IsIndexingRun, IsIndexRun, IsUnresolvedRun};
-ghost use Rattle.oscip_tree.specs.Sources.{ArePathsInOrder};
+ghost use Rattle.source_tree.specs.Sources.{ArePathsInOrder};
 ghost use Rattle.scip_symbol.specs.Outcomes.{is_wrong_part};
 ghost use Rattle.text_escape.specs.Places.{style_of, writer_style};
-ghost use Rattle.text_pieces.specs.Pieces.{PutsAllBut};
+ghost use Rattle.byte_sink.specs.Pieces.{WritesAllBut};
 
-use crate::{hex_line, put_written};
-use byte_sink::{Sink, SinkFault, put_all};
+use crate::{hex_line, write_encoded};
+use byte_sink::{Sink, SinkFault, flush_if_full, write_fully};
 use ob_board::{
-    BoardGate, IndexOptions, Unresolved, WrittenIndex, unresolved_in_tree, written_index,
+    BoardGate, EncodedIndex, IndexOptions, Unresolved, unresolved_in_tree, written_index,
 };
 use oscip_job::{Indexing, Output};
 use oscip_run::{READERS, RunFault};
-use oscip_tree::Source;
 use scip_index::laws::in_parts;
+use source_tree::Source;
 use std::alloc::{AllocError, Global};
 use std::sync::Wait;
 use std::thread::Threads;
-use text_escape::{PlaceStyle, PlaceWriter};
-use text_pieces::put_enough;
+use text_escape::{LocationStyle, LocationWriter};
 
 /// A gate of the scheduler that never makes a worker wait.
 #[derive(Drop)]
@@ -52,7 +51,7 @@ pub fn index_to<R: Threads + Wait + Sync, G: BoardGate + Sync, S: Sink>(
     // The package isn't `.` and doesn't begin with a space.
     requires package { is_wrong_part (string_bytes options.now.package) ≡ false }
     // The number of workers is 1 to 64.
-    requires workers { MayWork workers }
+    requires workers { IsWorkerCount workers }
     // With `Ok` the sink took exactly the written form of the tree's index. After `Device` or `Memory` it has at most a prefix of it, after
     // `Tree` none.
     ensures run { IsIndexRun sources.now (string_bytes options.now.package) (string_bytes options.now.root) (S.taken sink.old) (S.taken sink.new) result }
@@ -61,12 +60,12 @@ pub fn index_to<R: Threads + Wait + Sync, G: BoardGate + Sync, S: Sink>(
 {
     in_parts();
     let parts = written_index(rt, alloc, sources, options, workers, gate)?;
-    let WrittenIndex {
+    let EncodedIndex {
         metadata,
         records,
         external_symbols,
     } = parts;
-    put_written(alloc, &metadata, records, external_symbols.as_slice(), sink)?;
+    write_encoded(alloc, &metadata, records, external_symbols.as_slice(), sink)?;
     Ok(())
 }
 
@@ -85,7 +84,7 @@ pub fn index_hex_to<R: Threads + Wait + Sync, G: BoardGate + Sync, S: Sink>(
     // The package isn't `.` and doesn't begin with a space.
     requires package { is_wrong_part (string_bytes options.now.package) ≡ false }
     // The number of workers is 1 to 64.
-    requires workers { MayWork workers }
+    requires workers { IsWorkerCount workers }
     // With `Ok` the sink took exactly the digits of the index's written form, and an LF. After `Device` or `Memory` it has at most a prefix
     // of this line, after `Tree` none.
     ensures run { IsHexRun sources.now (string_bytes options.now.package) (string_bytes options.now.root) (S.taken sink.old) (S.taken sink.new) result }
@@ -126,7 +125,7 @@ pub fn answer_index<R: Threads + Wait + Sync, G: BoardGate + Sync, S: Sink>(
     // The package isn't `.` and doesn't begin with a space.
     requires package { IsPackage (string_bytes indexing.now.package) }
     // The number of workers is 1 to 64.
-    requires workers { MayWork indexing.now.workers }
+    requires workers { IsWorkerCount indexing.now.workers }
     // With the job's own package and root, `index_to` runs if the output is a file, and `index_hex_to` if it is standard output.
     ensures run { IsIndexingRun sources.now indexing.now (S.taken sink.old) (S.taken sink.new) result }
     // The sink counts a failure if and only if the result is `Device`.
@@ -141,11 +140,11 @@ pub fn answer_index<R: Threads + Wait + Sync, G: BoardGate + Sync, S: Sink>(
 
 /// Appends the line of an unresolved identifier to the text.
 fn push_line<'a>(
-    writer: &mut PlaceWriter<'a>,
+    writer: &mut LocationWriter<'a>,
     text: &mut String,
     row: &'a Unresolved,
 ) -> Result<(), AllocError>
-    ensures appended { IfOk result (λ _. string_bytes text.new ≡ string_bytes text.old ++ unresolved_line (writer_style writer.old) (plain_unresolved row.now)) }
+    ensures appended { IfOk result (λ _. string_bytes text.new ≡ string_bytes text.old ++ unresolved_line (writer_style writer.old) (unresolved_model row.now)) }
     ensures style { writer_style writer.new ≡ writer_style writer.old }
 {
     let (at, name) = (row.at, &row.name);
@@ -155,38 +154,38 @@ fn push_line<'a>(
 
 /// Appends the line of an unresolved identifier to the text, and writes the text if it is long.
 fn gather_line<'a, S: Sink>(
-    writer: &mut PlaceWriter<'a>,
+    writer: &mut LocationWriter<'a>,
     text: &mut String,
     row: &'a Unresolved,
     sink: &mut S,
 ) -> Result<(), SinkFault>
-    ensures gathered { OnOk result (PutsAllBut (S.taken sink.old) (S.taken sink.new)
-        (string_bytes text.old ++ unresolved_line (writer_style writer.old) (plain_unresolved row.now)) (string_bytes text.new)) }
-    ensures broken { IfErr result (λ _. AppendsFront (S.taken sink.old) (S.taken sink.new)
-        (string_bytes text.old ++ unresolved_line (writer_style writer.old) (plain_unresolved row.now))) }
+    ensures gathered { OnOk result (WritesAllBut (S.taken sink.old) (S.taken sink.new)
+        (string_bytes text.old ++ unresolved_line (writer_style writer.old) (unresolved_model row.now)) (string_bytes text.new)) }
+    ensures error_prefix { IfErr result (λ _. AppendsPrefix (S.taken sink.old) (S.taken sink.new)
+        (string_bytes text.old ++ unresolved_line (writer_style writer.old) (unresolved_model row.now))) }
     ensures style { writer_style writer.new ≡ writer_style writer.old }
     ensures failures { S.failures sink.new ≡ failures_after result (S.failures sink.old) }
 {
     push_line(writer, text, row).map_err(|_| SinkFault::Memory)?;
-    put_enough(text, sink)
+    flush_if_full(text, sink)
 }
 
 /// Writes the lines of unresolved identifiers, in their order. After an error the sink has a prefix of the lines.
-fn put_lines<S: Sink>(
+fn write_lines<S: Sink>(
     alloc: Global,
-    style: PlaceStyle<'_>,
+    style: LocationStyle<'_>,
     rows: &[Unresolved],
     sink: &mut S,
 ) -> Result<(), SinkFault>
-    ensures puts { Puts (S.taken sink.old) (S.taken sink.new) result (unresolved_lines (style_of style.entry) (map plain_unresolved rows.now)) }
+    ensures writes { Writes (S.taken sink.old) (S.taken sink.new) result (unresolved_lines (style_of style.entry) (map unresolved_model rows.now)) }
     ensures failures { S.failures sink.new ≡ failures_after result (S.failures sink.old) }
 {
-    let mut writer = PlaceWriter::new(style);
+    let mut writer = LocationWriter::new(style);
     let mut text = String::new(alloc);
     for row in rows {
         gather_line(&mut writer, &mut text, row, sink)?;
     }
-    put_all(sink, text.as_bytes())
+    write_fully(sink, text.as_bytes())
 }
 
 /// Writes a line `PATH:LINE:COL NAME` for each identifier of a tree that can't be resolved and isn't predeclared.
@@ -196,7 +195,7 @@ pub fn unresolved_to<R: Threads + Sync, S: Sink>(
     rt: &R,
     alloc: Global,
     sources: &[Source],
-    style: PlaceStyle<'_>,
+    style: LocationStyle<'_>,
     sink: &mut S,
 ) -> Result<(), RunFault>
     // The files are sorted by path, each path once.
@@ -207,6 +206,6 @@ pub fn unresolved_to<R: Threads + Sync, S: Sink>(
     ensures failures { S.failures sink.new ≡ failures_by is_device result (S.failures sink.old) }
 {
     let rows = unresolved_in_tree(rt, alloc, sources, READERS)?;
-    put_lines(alloc, style, rows.as_slice(), sink)?;
+    write_lines(alloc, style, rows.as_slice(), sink)?;
     Ok(())
 }

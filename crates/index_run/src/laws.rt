@@ -2,15 +2,15 @@
 ghost use Rattle.std.specs.Prelude.{◌≡◌, ℕ, List, Ok, Option, Some};
 ghost use Rattle.index_run.specs.IndexRuns.{IsHexRun, IsIndexingRun, IsIndexRun, IsUnresolvedRun};
 ghost use Rattle.oscip_job.specs.declared.job.Indexing.{Indexing};
-ghost use Rattle.oscip_tree.specs.OwnFaults.{ArePartedFiles};
-ghost use Rattle.oscip_tree.specs.declared.source.Source.{Source};
-ghost use Rattle.oscip_tree.specs.declared.tree_fault.TreeFault.{TreeFault};
+ghost use Rattle.source_tree.specs.OwnFaults.{ArePartitionedFiles};
+ghost use Rattle.source_tree.specs.declared.source.Source.{Source};
+ghost use Rattle.source_tree.specs.declared.tree_fault.TreeFault.{TreeFault};
 ghost use Rattle.text_escape.specs.Places.{Style};
 
 /// Two runs on one tree that succeed leave a sink of known bytes with the same bytes.
 /// The runs of `index_to`, `index_hex_to` and `unresolved_to` mention no workers, so this holds for every two numbers of workers and every
 /// schedule.
-pub fn same_bytes()
+pub fn equal_bytes()
     // Two runs of `index_to` with one package and root write the same bytes.
     ensures index { (sources : List Source) (package_name root before : List ℕ) (new other : Option (List ℕ)) →
         IsIndexRun sources package_name root (Some before) new (Ok tt) → IsIndexRun sources package_name root (Some before) other (Ok tt) → new ≡ other }
@@ -24,10 +24,10 @@ pub fn same_bytes()
 
 /// Two runs of a job on one tree that leave out the files with faults of their own write the same bytes.
 /// It holds for runs that succeed, on a sink of known bytes, for every two numbers of workers.
-pub fn same_accepted_bytes()
+pub fn equal_accepted_bytes()
     // Two runs of `answer_index` on the files without faults of their own write the same bytes if their jobs differ only in the number of
     // workers.
     ensures { (sources accepted others : List Source) (faults more : List TreeFault) (it : Indexing) (workers : ℕ) (before : List ℕ) (new other : Option (List ℕ)) →
-        ArePartedFiles sources accepted faults → ArePartedFiles sources others more →
+        ArePartitionedFiles sources accepted faults → ArePartitionedFiles sources others more →
         IsIndexingRun accepted it (Some before) new (Ok tt) → IsIndexingRun others (record it { workers = workers }) (Some before) other (Ok tt) → new ≡ other }
 {}

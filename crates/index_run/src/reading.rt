@@ -4,8 +4,8 @@ ghost use Rattle.byte_sink.specs.Sinks.{failures_by};
 ghost use Rattle.index_run.specs.FolderRuns.{IsUnresolvedRunOn};
 ghost use Rattle.index_run.specs.IndexRuns.{IsUnresolvedRun};
 ghost use Rattle.oscip_run.specs.JobRuns.{without_answer};
-ghost use Rattle.oscip_run.specs.TreeQuestionRuns.{NeverSaysNo};
-ghost use Rattle.oscip_tree.specs.Sources.{ArePathsInOrder};
+ghost use Rattle.oscip_run.specs.TreeQuestionRuns.{IsNeverFalse};
+ghost use Rattle.source_tree.specs.Sources.{ArePathsInOrder};
 ghost use Rattle.text_escape.specs.Places.{style_of};
 ghost use Rattle.oscip_run.specs.Faults.{is_device};
 
@@ -13,22 +13,22 @@ use crate::unresolved_to;
 use byte_sink::Sink;
 use oscip_job::SourceTree;
 use oscip_run::{READERS, Reader, RunFault, TreeRun, style_of_tree, tree_files};
-use oscip_tree::{PartedFiles, Source};
+use source_tree::{PartitionedFiles, Source};
 use std::alloc::Global;
 use std::thread::Threads;
-use text_escape::PlaceStyle;
+use text_escape::LocationStyle;
 
 /// Lists the unresolved identifiers of these modules.
 fn ask_unresolved<R: Threads + Sync, S: Sink>(
     rt: &R,
     alloc: Global,
     sources: &[Source],
-    style: PlaceStyle<'_>,
+    style: LocationStyle<'_>,
     sink: &mut S,
 ) -> Result<bool, RunFault>
     requires { ArePathsInOrder sources.now }
     ensures run { IsUnresolvedRun (style_of style.entry) sources.now (S.taken sink.old) (S.taken sink.new) (without_answer result) }
-    ensures answer { NeverSaysNo result }
+    ensures answer { IsNeverFalse result }
     ensures failures { S.failures sink.new ≡ failures_by is_device result (S.failures sink.old) }
 {
     unresolved_to(rt, alloc, sources, style, sink)?;
@@ -52,7 +52,7 @@ pub fn run_unresolved<R: Threads + Sync, F: Reader, S: Sink>(
     // Without a run the sink counts no failure.
     ensures failed { IfErr result (λ _. S.failures sink.new ≡ S.failures sink.old) }
 {
-    let PartedFiles { accepted, faults } = tree_files(rt, alloc, reader, tree, READERS)?;
+    let PartitionedFiles { accepted, faults } = tree_files(rt, alloc, reader, tree, READERS)?;
     let ended = ask_unresolved(rt, alloc, accepted.as_slice(), style_of_tree(tree), sink);
     Ok(TreeRun { faults, ended })
 }

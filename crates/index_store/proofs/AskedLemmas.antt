@@ -8,15 +8,15 @@ use Rattle.std.proofs.lemmas.Bool.Decides.{nat_tests}
 use Rattle.std.proofs.lemmas.Grind.{flat_map-append}
 use Rattle.std.proofs.lemmas.List.{append-nil, append_assoc}
 use Rattle.std.proofs.lemmas.List.Elements.{Contains-append_cases, Contains-push_cases}
-use Rattle.scip_index.specs.Plain.{PlainIndex}
+use Rattle.scip_index.specs.Plain.{IndexModel}
 use Rattle.std.proofs.lemmas.Option.{none-some, same_Some}
-use Rattle.index_store.specs.declared.place.Position.{Position}
-use Rattle.index_store.specs.declared.row.Covering.{Covering}
+use Rattle.index_store.specs.declared.location.Position.{Position}
+use Rattle.index_store.specs.declared.row.PathEntry.{PathEntry}
 use Rattle.index_store.specs.declared.span.Span.{Span}
-use Rattle.index_store.specs.Asked.{covering_span, nearer, nearer_of, nearest, place_asked, places_wanted}
-use Rattle.index_store.specs.Queries.{Covers, PlacedOccurrence, HasPath, IsNearest, IsSymbolAt, NoneCovers, PlainPlace, all_found, is_definition, is_local, is_sought, place_given, place_of, places_of}
+use Rattle.index_store.specs.TableLookup.{covering_span, nearer, nearer_of, nearest, requested_location, wanted_locations}
+use Rattle.index_store.specs.Queries.{Covers, PlacedOccurrence, HasPath, IsNearest, IsSymbolAt, NoneCovers, LocationModel, all_occurrences, is_definition, is_local, matches_lookup, location_at, location_of, locations_of}
 use Rattle.index_store.specs.Spans.{is_before, is_in, is_nearer, span_of}
-use Rattle.index_store.specs.Stores.{AreWhole, IsStoreOf, Tables, covering_in, coverings_under, mention_given, mention_of, mentions_under, said_covering, said_mention}
+use Rattle.index_store.specs.Stores.{AreComplete, IsStoreOf, Tables, covering_in, coverings_under, mention_with_span, mention_of, mentions_under, covering_model, mention_model}
 use Rattle.index_store.specs.Tables.{text_number, rows_at, rows_under, text_at}
 use Rattle.index_store.proofs.TableLemmas.{bytes_same, same_bytes, text_among, under_number}
 
@@ -115,15 +115,15 @@ newest path at found f span covers nearer_than = record {
 }
 
 -- nearer than the nearest is nearer than each
-than_each : (path : List ℕ) (at : Position) (found : List PlacedOccurrence) (g : PlacedOccurrence) (near span : Span) → IsNearest found path at g near → is_nearer span near ≡ true → (h : PlacedOccurrence) (other : Span) → Contains found h → Covers path at h other → is_nearer span other ≡ true
-than_each path at found g near span n e h other has covers =
-    ⊎_elim (λ (early : Contains n.before h). nearer_trans span near other e (n.first h other early covers))
+than_each : (path : List ℕ) (at : Position) (found : List PlacedOccurrence) (g : PlacedOccurrence) (symbol_span span : Span) → IsNearest found path at g symbol_span → is_nearer span symbol_span ≡ true → (h : PlacedOccurrence) (other : Span) → Contains found h → Covers path at h other → is_nearer span other ≡ true
+than_each path at found g symbol_span span n e h other has covers =
+    ⊎_elim (λ (early : Contains n.before h). nearer_trans span symbol_span other e (n.first h other early covers))
     (λ (late : Contains (g ∷ n.after) h). rest late)
     (Contains-append_cases n.before (g ∷ n.after) h (subst (λ (fs : List PlacedOccurrence). Contains fs h) n.among has))
   where
     rest : Contains (g ∷ n.after) h → is_nearer span other ≡ true
-    rest (zero, l, is) = let same : other ≡ near = one_span path at h other near covers (subst (λ (x : PlacedOccurrence). Covers path at x near) is n.covers) in subst (λ (x : Span). is_nearer span x ≡ true) (sym same) e
-    rest (suc k, l, is) = nearer_between span near other e (n.latest h other (k, omega (arith, l), is) covers)
+    rest (zero, l, is) = let same : other ≡ symbol_span = one_span path at h other symbol_span covers (subst (λ (x : PlacedOccurrence). Covers path at x symbol_span) is n.covers) in subst (λ (x : Span). is_nearer span x ≡ true) (sym same) e
+    rest (suc k, l, is) = nearer_between span symbol_span other e (n.latest h other (k, omega (arith, l), is) covers)
 
 abbrev pair_span : Span × List ℕ → Span
 pair_span x = x.0
@@ -132,7 +132,7 @@ best_takes : (path : List ℕ) (at : Position) (found : List PlacedOccurrence) (
     → IsBest path at (found ++ f ∷ []) (Some (nearer_of pair_span best (span, f.occurrence.symbol)))
 best_takes path at found None f span none covers = (f, newest path at found f span covers (λ g other has h. absurd (none g other has h)), refl)
 best_takes path at found (Some x) f span (g, n, is) covers = elim (cases_Bool (is_nearer span x.0)) [
-  | inl near ↦ rw near (f, newest path at found f span covers (than_each path at found g x.0 span n near), refl)
+  | inl symbol_span ↦ rw symbol_span (f, newest path at found f span covers (than_each path at found g x.0 span n symbol_span), refl)
   | inr far ↦ rw far (
     g,
     record {
@@ -186,13 +186,13 @@ best_of_all path at done (f ∷ found) best h =
     let whole : (done ++ f ∷ []) ++ found ≡ done ++ f ∷ found = append_assoc done (f ∷ []) found in
     elim (kept_of path at f) [
       | inl nothing ↦ rw nothing.0 (subst (λ (fs : List PlacedOccurrence). IsBest path at fs (fold (nearer pair_span at) best rest)) whole (best_of_all path at (done ++ f ∷ []) found best (best_skips path at done best f h nothing.1)))
-      | inr kept ↦ let next : Option (Span × List ℕ) = nearer pair_span at best (kept.0, f.occurrence.symbol) in
-          rw kept.1 (subst (λ (fs : List PlacedOccurrence). IsBest path at fs (fold (nearer pair_span at) next rest)) whole (best_of_all path at (done ++ f ∷ []) found next (best_more path at done best f kept.0 h kept.2 kept.3)))
+      | inr retained ↦ let next : Option (Span × List ℕ) = nearer pair_span at best (retained.0, f.occurrence.symbol) in
+          rw retained.1 (subst (λ (fs : List PlacedOccurrence). IsBest path at fs (fold (nearer pair_span at) next rest)) whole (best_of_all path at (done ++ f ∷ []) found next (best_more path at done best f retained.0 h retained.2 retained.3)))
     ]
 
 -- ---- rows as what they say
 
-step_said : (symbols : List (List ℕ)) (at : Position) (best : Option Covering) (c : Covering) → option_map (said_covering symbols) (nearer covering_span at best c) ≡ nearer pair_span at (option_map (said_covering symbols) best) (said_covering symbols c)
+step_said : (symbols : List (List ℕ)) (at : Position) (best : Option PathEntry) (c : PathEntry) → option_map (covering_model symbols) (nearer covering_span at best c) ≡ nearer pair_span at (option_map (covering_model symbols) best) (covering_model symbols c)
 step_said symbols at None c = elim (cases_Bool (is_in at c.span)) [
   | inl inside ↦ rw inside refl
   | inr outside ↦ rw outside refl
@@ -200,15 +200,15 @@ step_said symbols at None c = elim (cases_Bool (is_in at c.span)) [
 step_said symbols at (Some b) c = elim (cases_Bool (is_in at c.span)) [
   | inr outside ↦ rw outside refl
   | inl inside ↦ elim (cases_Bool (is_nearer c.span b.span)) [
-    | inl near ↦ rw (inside, near) refl
+    | inl symbol_span ↦ rw (inside, symbol_span) refl
     | inr far ↦ rw (inside, far) refl
   ]
 ]
 
-fold_said : (symbols : List (List ℕ)) (at : Position) (best : Option Covering) (rows : List Covering) → option_map (said_covering symbols) (fold (nearer covering_span at) best rows) ≡ fold (nearer pair_span at) (option_map (said_covering symbols) best) (map (said_covering symbols) rows)
+fold_said : (symbols : List (List ℕ)) (at : Position) (best : Option PathEntry) (rows : List PathEntry) → option_map (covering_model symbols) (fold (nearer covering_span at) best rows) ≡ fold (nearer pair_span at) (option_map (covering_model symbols) best) (map (covering_model symbols) rows)
 fold_said symbols at best [] = refl
 fold_said symbols at best (c ∷ rows) =
-    fold_said symbols at (nearer covering_span at best c) rows ∙ ap (λ (o : Option (Span × List ℕ)). fold (nearer pair_span at) o (map (said_covering symbols) rows)) (step_said symbols at best c)
+    fold_said symbols at (nearer covering_span at best c) rows ∙ ap (λ (o : Option (Span × List ℕ)). fold (nearer pair_span at) o (map (covering_model symbols) rows)) (step_said symbols at best c)
 
 symbol_of : (path : List ℕ) (at : Position) (found : List PlacedOccurrence) (best : Option (Span × List ℕ)) → IsBest path at found best → IsSymbolAt found path at (option_map (λ x. x.1) best)
 symbol_of path at found None h = h
@@ -222,46 +222,46 @@ found_symbol path at found = symbol_of path at found (fold (nearer pair_span at)
     none_yet = λ g other (k, l, is) covers. omega (arith, l)
 
 -- the symbol of the nearest row is that at the position
-pub nearest_symbol : (path : List ℕ) (at : Position) (found : List PlacedOccurrence) (symbols : List (List ℕ)) (rows : List Covering) → map (said_covering symbols) rows ≡ flat_map (covering_in path) found
+pub nearest_symbol : (path : List ℕ) (at : Position) (found : List PlacedOccurrence) (symbols : List (List ℕ)) (rows : List PathEntry) → map (covering_model symbols) rows ≡ flat_map (covering_in path) found
     → IsSymbolAt found path at (option_map (λ c. text_at symbols c.symbol) (nearest rows at))
 nearest_symbol path at found symbols rows e =
     let best = symbol_of path at found (fold (nearer pair_span at) None (flat_map (covering_in path) found)) (best_of_all path at [] found None none_yet) in
-    let said : option_map (said_covering symbols) (nearest rows at) ≡ fold (nearer pair_span at) None (flat_map (covering_in path) found) = fold_said symbols at None rows ∙ ap (fold (nearer pair_span at) None) e in
-    subst (IsSymbolAt found path at) (ap (option_map (λ (x : Span × List ℕ). x.1)) (sym said) ∙ seen (nearest rows at)) best
+    let index_is : option_map (covering_model symbols) (nearest rows at) ≡ fold (nearer pair_span at) None (flat_map (covering_in path) found) = fold_said symbols at None rows ∙ ap (fold (nearer pair_span at) None) e in
+    subst (IsSymbolAt found path at) (ap (option_map (λ (x : Span × List ℕ). x.1)) (sym index_is) ∙ seen (nearest rows at)) best
   where
     none_yet : IsBest path at [] None
     none_yet = λ g other (k, l, is) covers. omega (arith, l)
 
-    seen : (o : Option Covering) → option_map (λ (x : Span × List ℕ). x.1) (option_map (said_covering symbols) o) ≡ option_map (λ (c : Covering). text_at symbols c.symbol) o
+    seen : (o : Option PathEntry) → option_map (λ (x : Span × List ℕ). x.1) (option_map (covering_model symbols) o) ≡ option_map (λ (c : PathEntry). text_at symbols c.symbol) o
     seen None = refl
     seen (Some c) = refl
 
 -- the nearest row is one of them
-nearer_is : (P : Covering → Type 0) (at : Position) (best : Option Covering) (row c : Covering) → ((b : Covering) → best ≡ Some b → P b) → P row → nearer covering_span at best row ≡ Some c → P c
+nearer_is : (P : PathEntry → Type 0) (at : Position) (best : Option PathEntry) (row c : PathEntry) → ((b : PathEntry) → best ≡ Some b → P b) → P row → nearer covering_span at best row ≡ Some c → P c
 nearer_is P at best row c h r e = elim (cases_Bool (is_in at row.span)) [
   | inr outside ↦ h c (rw outside at e)
   | inl inside ↦ chosen best h (rw inside at e)
 ]
   where
-    chosen : (o : Option Covering) → ((b : Covering) → o ≡ Some b → P b) → Some (nearer_of covering_span o row) ≡ Some c → P c
+    chosen : (o : Option PathEntry) → ((b : PathEntry) → o ≡ Some b → P b) → Some (nearer_of covering_span o row) ≡ Some c → P c
     chosen None k f = subst P (same_Some row c f) r
     chosen (Some b) k f = elim (cases_Bool (is_nearer row.span b.span)) [
-      | inl near ↦ subst P (same_Some row c (rw near at f)) r
+      | inl symbol_span ↦ subst P (same_Some row c (rw symbol_span at f)) r
       | inr far ↦ subst P (same_Some b c (rw far at f)) (k b refl)
     ]
 
-pub nearest_is : (P : Covering → Type 0) (at : Position) (best : Option Covering) (rows : List Covering) (c : Covering) → ((b : Covering) → best ≡ Some b → P b) → All P rows → fold (nearer covering_span at) best rows ≡ Some c → P c
+pub nearest_is : (P : PathEntry → Type 0) (at : Position) (best : Option PathEntry) (rows : List PathEntry) (c : PathEntry) → ((b : PathEntry) → best ≡ Some b → P b) → All P rows → fold (nearer covering_span at) best rows ≡ Some c → P c
 nearest_is P at best [] c h all e = h c e
 nearest_is P at best (r ∷ rows) c h all e =
     nearest_is P at (nearer covering_span at best r) rows c (λ b. nearer_is P at best r b h (all 0 r (omega arith))) (λ k d l. all (suc k) d (omega (arith, l))) e
 
 -- what a store of the index answers, where it has the path
-pub nearest_here : (index : PlainIndex) (t : Tables) (path : List ℕ) (at : Position) (n : ℕ) (near : Option Covering) → AreWhole t → IsStoreOf index t → text_number t.paths path ≡ Some n → near ≡ nearest (rows_at t.coverings n) at
-    → HasPath index path × IsSymbolAt (all_found index) path at (option_map (λ c. text_at t.symbols c.symbol) near)
-nearest_here index t path at n near whole store there is =
-    let under : rows_under t.paths t.coverings path ≡ rows_at t.coverings n = under_number t.paths t.coverings path n whole.of_paths there in (
-      (store.named path).0 (text_among t.paths path n there),
-      rw (is, ← under) (nearest_symbol path at (all_found index) t.symbols (coverings_under t path) (store.coverings path)),
+pub nearest_here : (index : IndexModel) (t : Tables) (path : List ℕ) (at : Position) (n : ℕ) (symbol_span : Option PathEntry) → AreComplete t → IsStoreOf index t → text_number t.paths path ≡ Some n → symbol_span ≡ nearest (rows_at t.coverings n) at
+    → HasPath index path × IsSymbolAt (all_occurrences index) path at (option_map (λ c. text_at t.symbols c.symbol) symbol_span)
+nearest_here index t path at n symbol_span whole store in_range is =
+    let under : rows_under t.paths t.coverings path ≡ rows_at t.coverings n = under_number t.paths t.coverings path n whole.of_paths in_range in (
+      (store.named path).0 (text_among t.paths path n in_range),
+      rw (is, ← under) (nearest_symbol path at (all_occurrences index) t.symbols (coverings_under t path) (store.coverings path)),
     )
 
 -- ---- places
@@ -274,7 +274,7 @@ eq_flip a b = elim (cases_Bool (bytes_eq b a)) [
 
 -- whether an occurrence is wanted
 abbrev pub is_wanted : Bool → List ℕ → List ℕ → PlacedOccurrence → Bool
-is_wanted defines path symbol f = is_sought path symbol f && (if defines then is_definition f.occurrence else not (is_definition f.occurrence))
+is_wanted defines path symbol f = matches_lookup path symbol f && (if defines then is_definition f.occurrence else not (is_definition f.occurrence))
 
 swap : (a b : Bool) → (a && b) ≡ (b && a)
 swap true true = refl
@@ -282,38 +282,38 @@ swap true false = refl
 swap false true = refl
 swap false false = refl
 
-given_asked : (defines local : Bool) (path : List ℕ) (o : Option Span) (here : List ℕ) (d : Bool) → flat_map (place_asked defines local path) (mention_given o here d)
-    ≡ (if ((if defines then d else not d) && (not local || bytes_eq here path)) then place_given here o else [])
+given_asked : (defines local : Bool) (path : List ℕ) (o : Option Span) (here : List ℕ) (d : Bool) → flat_map (requested_location defines local path) (mention_with_span o here d)
+    ≡ (if ((if defines then d else not d) && (not local || bytes_eq here path)) then location_at here o else [])
 given_asked defines local path None here d = elim (cases_Bool ((if defines then d else not d) && (not local || bytes_eq here path))) [
-  | inl asked ↦ rw asked refl
+  | inl requested ↦ rw requested refl
   | inr other ↦ rw other refl
 ]
 given_asked defines local path (Some span) here d = elim (cases_Bool ((if defines then d else not d) && (not local || bytes_eq here path))) [
-  | inl asked ↦ rw asked refl
+  | inl requested ↦ rw requested refl
   | inr other ↦ rw other refl
 ]
 
-one_asked : (defines : Bool) (path symbol : List ℕ) (f : PlacedOccurrence) → flat_map (place_asked defines (is_local symbol) path) (mention_of symbol f) ≡ (if is_wanted defines path symbol f then place_of f else [])
+one_asked : (defines : Bool) (path symbol : List ℕ) (f : PlacedOccurrence) → flat_map (requested_location defines (is_local symbol) path) (mention_of symbol f) ≡ (if is_wanted defines path symbol f then location_of f else [])
 one_asked defines path symbol f = elim (cases_Bool (bytes_eq symbol f.occurrence.symbol)) [
   | inr apart ↦ let other : bytes_eq f.occurrence.symbol symbol ≡ false = eq_flip f.occurrence.symbol symbol ∙ apart in
       rw (apart, other) refl
   | inl same ↦ let here : bytes_eq f.occurrence.symbol symbol ≡ true = eq_flip f.occurrence.symbol symbol ∙ same in
       rw (same, here) (given_asked defines (is_local symbol) path (span_of f.occurrence.range) f.path (is_definition f.occurrence)
-      ∙ ap (λ (b : Bool). if b then place_of f else []) (swap (if defines then is_definition f.occurrence else not (is_definition f.occurrence)) (not (is_local symbol) || bytes_eq f.path path)))
+      ∙ ap (λ (b : Bool). if b then location_of f else []) (swap (if defines then is_definition f.occurrence else not (is_definition f.occurrence)) (not (is_local symbol) || bytes_eq f.path path)))
 ]
 
-if_first : (b : Bool) (f : PlacedOccurrence) (rest : List PlacedOccurrence) → places_of (if b then f ∷ rest else rest) ≡ (if b then place_of f else []) ++ places_of rest
+if_first : (b : Bool) (f : PlacedOccurrence) (rest : List PlacedOccurrence) → locations_of (if b then f ∷ rest else rest) ≡ (if b then location_of f else []) ++ locations_of rest
 if_first true f rest = refl
 if_first false f rest = refl
 
-pub all_asked : (defines : Bool) (path symbol : List ℕ) (found : List PlacedOccurrence) → flat_map (place_asked defines (is_local symbol) path) (flat_map (mention_of symbol) found) ≡ places_of (filter (is_wanted defines path symbol) found)
+pub all_asked : (defines : Bool) (path symbol : List ℕ) (found : List PlacedOccurrence) → flat_map (requested_location defines (is_local symbol) path) (flat_map (mention_of symbol) found) ≡ locations_of (filter (is_wanted defines path symbol) found)
 all_asked defines path symbol [] = refl
 all_asked defines path symbol (f ∷ found) =
-    flat_map-append (place_asked defines (is_local symbol) path) (mention_of symbol f) (flat_map (mention_of symbol) found)
-    ∙ ap₂ (λ (xs ys : List PlainPlace). xs ++ ys) (one_asked defines path symbol f) (all_asked defines path symbol found)
+    flat_map-append (requested_location defines (is_local symbol) path) (mention_of symbol f) (flat_map (mention_of symbol) found)
+    ∙ ap₂ (λ (xs ys : List LocationModel). xs ++ ys) (one_asked defines path symbol f) (all_asked defines path symbol found)
     ∙ sym (if_first (is_wanted defines path symbol f) f (filter (is_wanted defines path symbol) found))
 
-pub places_are : (defines : Bool) (index : PlainIndex) (t : Tables) (path symbol : List ℕ) → IsStoreOf index t
-    → flat_map (place_asked defines (is_local symbol) path) (map (said_mention t.paths) (mentions_under t symbol)) ≡ places_wanted defines index path symbol
-places_are true index t path symbol store = ap (flat_map (place_asked true (is_local symbol) path)) (store.mentions symbol) ∙ all_asked true path symbol (all_found index)
-places_are false index t path symbol store = ap (flat_map (place_asked false (is_local symbol) path)) (store.mentions symbol) ∙ all_asked false path symbol (all_found index)
+pub places_are : (defines : Bool) (index : IndexModel) (t : Tables) (path symbol : List ℕ) → IsStoreOf index t
+    → flat_map (requested_location defines (is_local symbol) path) (map (mention_model t.paths) (mentions_under t symbol)) ≡ wanted_locations defines index path symbol
+places_are true index t path symbol store = ap (flat_map (requested_location true (is_local symbol) path)) (store.mentions symbol) ∙ all_asked true path symbol (all_occurrences index)
+places_are false index t path symbol store = ap (flat_map (requested_location false (is_local symbol) path)) (store.mentions symbol) ∙ all_asked false path symbol (all_occurrences index)

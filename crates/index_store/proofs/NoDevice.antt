@@ -8,7 +8,7 @@ use Rattle.proto_wire.specs.declared.fault.WireFault.TheVariants.{BadText, Devic
 use Rattle.proto_wire.specs.declared.record.WireRecord.{WireRecord}
 use Rattle.proto_wire.specs.declared.record.WireValue.{WireValue}
 use Rattle.proto_wire.specs.declared.record.WireValue.TheVariants.{Varint, Eight, Bytes, Four}
-use Rattle.proto_wire.specs.Messages.{field_fault, first_of, message_fault, message_fault_given, numbers_fault, numbers_fault_given, text_fault, text_fault_given, IsFaultBehind, IsFirstFault, in_record, of_record}
+use Rattle.proto_wire.specs.Messages.{field_fault, first_of, message_fault, value_message_fault, numbers_fault, value_numbers_fault, text_fault, value_text_fault, IsNextFault, IsFirstFault, in_record, of_record}
 use Rattle.proto_wire.specs.Packed.{packed, IsPackedOutcome}
 use Rattle.proto_wire.specs.Records.{PayloadRecord}
 use Rattle.proto_wire.specs.Varints.{IsNoVarint}
@@ -24,11 +24,11 @@ IsNever inside = (p : PayloadRecord) → inside p ≡ Some Device → ⊥
 pub first_never : (inside : PayloadRecord → Option WireFault) → IsNever inside → (start : ℕ) (bytes : List ℕ) → IsFirstFault inside start bytes Device → ⊥
 first_never inside never start bytes h = behind h.2
   where
-    behind : IsFaultBehind inside start bytes h.0 Device → ⊥
+    behind : IsNextFault inside start bytes h.0 Device → ⊥
     behind (in_record p at rest reaches e) = never p e
     behind (of_record stopped) = stopped.is_wrong
 
-text_given : (v : WireValue) (at : ℕ) (payload : List ℕ) → text_fault_given v at payload ≡ Some Device → ⊥
+text_given : (v : WireValue) (at : ℕ) (payload : List ℕ) → value_text_fault v at payload ≡ Some Device → ⊥
 text_given (Varint n) at payload e = absurd cc
 text_given Eight at payload e = absurd cc
 text_given (Bytes count) at payload e = go (is_utf8 payload) e
@@ -38,17 +38,17 @@ text_given (Bytes count) at payload e = go (is_utf8 payload) e
     go false f = absurd cc
 text_given Four at payload e = absurd cc
 
-numbers_given : (v : WireValue) (at : ℕ) (payload : List ℕ) → numbers_fault_given v at payload ≡ Some Device → ⊥
-numbers_given (Varint n) at payload e = absurd cc
-numbers_given Eight at payload e = absurd cc
-numbers_given (Bytes count) at payload e = go (packed at payload) (packed_read at payload) e
+value_numbers : (v : WireValue) (at : ℕ) (payload : List ℕ) → value_numbers_fault v at payload ≡ Some Device → ⊥
+value_numbers (Varint n) at payload e = absurd cc
+value_numbers Eight at payload e = absurd cc
+value_numbers (Bytes count) at payload e = go (packed at payload) (packed_read at payload) e
   where
     go : (r : Result (List ℤ) WireFault) → IsPackedOutcome at payload r → result_err r ≡ Some Device → ⊥
     go (Ok zs) is f = absurd cc
     go (Err fault) is f = subst (IsNoVarint at is.rest) (same_Some fault Device f) is.no_varint
-numbers_given Four at payload e = absurd cc
+value_numbers Four at payload e = absurd cc
 
-message_given : (inside : PayloadRecord → Option WireFault) → IsNever inside → (v : WireValue) (body : ℕ) (payload : List ℕ) → message_fault_given inside v body payload ≡ Some Device → ⊥
+message_given : (inside : PayloadRecord → Option WireFault) → IsNever inside → (v : WireValue) (body : ℕ) (payload : List ℕ) → value_message_fault inside v body payload ≡ Some Device → ⊥
 message_given inside never (Varint n) body payload e = absurd cc
 message_given inside never Eight body payload e = absurd cc
 message_given inside never (Bytes count) body payload e = first_never inside never body payload ((first_fault_iff inside body payload Device).0 e)
@@ -72,7 +72,7 @@ text : (k : ℕ) (p : PayloadRecord) → field_fault k p.wire (text_fault p) ≡
 text k p = field k p.wire (text_fault p) (text_given p.wire.value p.wire.at p.payload)
 
 numbers : (k : ℕ) (p : PayloadRecord) → field_fault k p.wire (numbers_fault p) ≡ Some Device → ⊥
-numbers k p = field k p.wire (numbers_fault p) (numbers_given p.wire.value p.wire.at p.payload)
+numbers k p = field k p.wire (numbers_fault p) (value_numbers p.wire.value p.wire.at p.payload)
 
 message : (inside : PayloadRecord → Option WireFault) → IsNever inside → (k : ℕ) (p : PayloadRecord) → field_fault k p.wire (message_fault inside p) ≡ Some Device → ⊥
 message inside never k p = field k p.wire (message_fault inside p) (message_given inside never p.wire.value p.wire.body p.payload)

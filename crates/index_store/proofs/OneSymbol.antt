@@ -3,7 +3,7 @@ use Rattle.std.proofs.Common.{◌≡◌, ◌⊎◌, ℕ, zero, suc, List, [], �
 use Rattle.std.specs.Prelude.{Contains}
 use Rattle.std.proofs.lemmas.Bool.{false≢true}
 use Rattle.std.proofs.lemmas.List.Elements.{Contains-append_right}
-use Rattle.index_store.specs.declared.place.Position.{Position}
+use Rattle.index_store.specs.declared.location.Position.{Position}
 use Rattle.index_store.specs.declared.span.Span.{Span}
 use Rattle.index_store.specs.Queries.{PlacedOccurrence, IsNearest, IsSymbolAt, NoneCovers}
 
@@ -26,11 +26,11 @@ module _ {X : Type 0} where
   among_rest xs ys y = Contains-append_right xs (y ∷ ys) y (first_in y y ys refl)
 
   -- two elements of a list are at one place, or the one stands before the other
-  places : (xs ys ps qs : List X) (f g : X) → xs ++ f ∷ ps ≡ ys ++ g ∷ qs → (f ≡ g) ⊎ ((Contains ys f × Contains ps g) ⊎ (Contains xs g × Contains qs f))
-  places [] [] ps qs f g e = inl (ap (first_of f) e)
-  places [] (y ∷ ys) ps qs f g e = inr (inl (first_in f y ys (sym (ap (first_of f) e)), subst (λ (zs : List X). Contains zs g) (sym (ap rest_of e)) (among_rest ys qs g)))
-  places (x ∷ xs) [] ps qs f g e = inr (inr (first_in g x xs (ap (first_of x) e), subst (λ (zs : List X). Contains zs f) (ap rest_of e) (among_rest xs ps f)))
-  places (x ∷ xs) (y ∷ ys) ps qs f g e = elim (places xs ys ps qs f g (ap rest_of e)) [
+  locations : (xs ys ps qs : List X) (f g : X) → xs ++ f ∷ ps ≡ ys ++ g ∷ qs → (f ≡ g) ⊎ ((Contains ys f × Contains ps g) ⊎ (Contains xs g × Contains qs f))
+  locations [] [] ps qs f g e = inl (ap (first_of f) e)
+  locations [] (y ∷ ys) ps qs f g e = inr (inl (first_in f y ys (sym (ap (first_of f) e)), subst (λ (zs : List X). Contains zs g) (sym (ap rest_of e)) (among_rest ys qs g)))
+  locations (x ∷ xs) [] ps qs f g e = inr (inr (first_in g x xs (ap (first_of x) e), subst (λ (zs : List X). Contains zs f) (ap rest_of e) (among_rest xs ps f)))
+  locations (x ∷ xs) (y ∷ ys) ps qs f g e = elim (locations xs ys ps qs f g (ap rest_of e)) [
     | inl same ↦ inl same
     | inr (inl both) ↦ inr (inl (later_in f y ys both.0, both.1))
     | inr (inr both) ↦ inr (inr (later_in g x xs both.0, both.1))
@@ -38,7 +38,7 @@ module _ {X : Type 0} where
 
 module _ (found : List PlacedOccurrence) (path : List ℕ) (at : Position) where
   one_nearest : (f g : PlacedOccurrence) (a b : Span) → IsNearest found path at f a → IsNearest found path at g b → f ≡ g
-  one_nearest f g a b m n = elim (places m.before n.before m.after n.after f g (sym m.among ∙ n.among)) [
+  one_nearest f g a b m n = elim (locations m.before n.before m.after n.after f g (sym m.among ∙ n.among)) [
     | inl same ↦ same
     | inr (inl both) ↦ absurd (false≢true (sym (m.latest g b both.1 n.covers) ∙ n.first f a both.0 m.covers))
     | inr (inr both) ↦ absurd (false≢true (sym (n.latest f a both.1 m.covers) ∙ m.first g b both.0 n.covers))

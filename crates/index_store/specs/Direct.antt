@@ -2,74 +2,74 @@
 use Rattle.std.specs.Prelude.{◌&&◌, ◌||◌, not, ℕ, Bool, false, List, [], ◌∷◌, map, fold, Option, Result, Ok, Err, if◌then◌else◌}
 use Rattle.std.specs.List.{AllByRecursion, flat_map}
 use Rattle.std.specs.Str.{IsUtf8, bytes_eq}
-use Rattle.proto_wire.specs.Inside.{records_of}
-use Rattle.proto_wire.specs.Messages.{each_of, records_inside}
-use Rattle.proto_wire.specs.declared.inside.Inside.{Inside}
+use Rattle.proto_wire.specs.MessageBytes.{records_of}
+use Rattle.proto_wire.specs.Messages.{each_of, nested_records}
+use Rattle.proto_wire.specs.declared.inside.MessageBytes.{MessageBytes}
 use Rattle.scip_index.specs.Meaning.{document_of}
-use Rattle.scip_index.specs.Plain.{PlainDocument, PlainIndex, PlainOccurrence}
-use Rattle.index_store.specs.declared.direct.Near.{Near}
+use Rattle.scip_index.specs.Plain.{DocumentModel, IndexModel, OccurrenceModel}
+use Rattle.index_store.specs.declared.direct.SymbolSpan.{SymbolSpan}
 use Rattle.index_store.specs.declared.fault.StoreFault.{StoreFault}
 use Rattle.index_store.specs.declared.fault.StoreFault.TheVariants as faults
-use Rattle.index_store.specs.declared.place.Position.{Position}
+use Rattle.index_store.specs.declared.location.Position.{Position}
 use Rattle.index_store.specs.declared.span.Span.{Span}
-use Rattle.index_store.specs.Asked.{nearer}
-use Rattle.index_store.specs.Queries.{HasPath, IsSymbolAt, PlainPlace, all_found, is_definition, place_given}
+use Rattle.index_store.specs.TableLookup.{nearer}
+use Rattle.index_store.specs.Queries.{HasPath, IsSymbolAt, LocationModel, all_occurrences, is_definition, location_at}
 use Rattle.index_store.specs.Spans.{span_of}
-use Rattle.index_store.specs.Stores.{covering_given}
+use Rattle.index_store.specs.Stores.{span_with_symbol}
 
 -- ---- the symbol at a position
 
 -- the result of a lookup of the symbol at a position: the symbol or none, `NoDocument` if no document has the path, or `Memory`, of which nothing is claimed
-abbrev pub IsSymbolFound : PlainIndex → List ℕ → Position → Result (Option (List ℕ)) StoreFault → Type 0
-IsSymbolFound index path at (Ok symbol) = HasPath index path × IsSymbolAt (all_found index) path at symbol
-IsSymbolFound index path at (Err faults.NoDocument) = HasPath index path → ⊥
-IsSymbolFound index path at (Err faults.Memory) = Unit {0}
+abbrev pub IsSymbolLookup : IndexModel → List ℕ → Position → Result (Option (List ℕ)) StoreFault → Type 0
+IsSymbolLookup index path at (Ok symbol) = HasPath index path × IsSymbolAt (all_occurrences index) path at symbol
+IsSymbolLookup index path at (Err faults.NoDocument) = HasPath index path → ⊥
+IsSymbolLookup index path at (Err faults.Memory) = Unit {0}
 
 -- a span with the bytes of its symbol string
-abbrev pub said_near : Near → Span × List ℕ
-said_near n = (n.span, n.symbol.now)
+abbrev pub symbol_span_model : SymbolSpan → Span × List ℕ
+symbol_span_model n = (n.span, n.symbol.now)
 
 -- the span of a pair
 abbrev pub pair_span : Span × List ℕ → Span
 pair_span x = x.0
 
 -- the span and the symbol of an occurrence, if its range denotes a span and its symbol isn't empty
-abbrev pub covering_of : PlainOccurrence → List (Span × List ℕ)
-covering_of o = covering_given (span_of o.range) o.symbol
+abbrev pub covering_of : OccurrenceModel → List (Span × List ℕ)
+covering_of o = span_with_symbol (span_of o.range) o.symbol
 
 -- the nearest of the pair so far and of those of these occurrences that cover the position
-abbrev pub nearest_of : Position → Option (Span × List ℕ) → List PlainOccurrence → Option (Span × List ℕ)
+abbrev pub nearest_of : Position → Option (Span × List ℕ) → List OccurrenceModel → Option (Span × List ℕ)
 nearest_of at best occurrences = fold (nearer pair_span at) best (flat_map covering_of occurrences)
 
 -- the nearest of the pair so far and of the covering occurrences of a document; of a document with another path none is considered
-abbrev pub nearest_at : List ℕ → Position → Option (Span × List ℕ) → PlainDocument → Option (Span × List ℕ)
+abbrev pub nearest_at : List ℕ → Position → Option (Span × List ℕ) → DocumentModel → Option (Span × List ℕ)
 nearest_at path at best d = if bytes_eq d.relative_path path then nearest_of at best d.occurrences else best
 
 -- a document of the list has the path
-abbrev pub has_document : List ℕ → List PlainDocument → Bool
+abbrev pub has_document : List ℕ → List DocumentModel → Bool
 has_document path [] = false
 has_document path (d ∷ documents) = bytes_eq d.relative_path path || has_document path documents
 
 -- ---- the occurrences of a symbol
 
 -- the occurrence has the symbol and, for definitions, the definition role, or else doesn't have that role
-abbrev pub is_sought_occurrence : Bool → List ℕ → PlainOccurrence → Bool
-is_sought_occurrence defines symbol o = bytes_eq o.symbol symbol && (if defines then is_definition o else not (is_definition o))
+abbrev pub is_match : Bool → List ℕ → OccurrenceModel → Bool
+is_match defines symbol o = bytes_eq o.symbol symbol && (if defines then is_definition o else not (is_definition o))
 
 -- the location of an occurrence in a document of this path, if the occurrence is a definition, or else a reference, of the symbol
-abbrev pub place_of_symbol : Bool → List ℕ → List ℕ → PlainOccurrence → List PlainPlace
-place_of_symbol defines symbol here o = if is_sought_occurrence defines symbol o then place_given here (span_of o.range) else []
+abbrev pub location_of_symbol : Bool → List ℕ → List ℕ → OccurrenceModel → List LocationModel
+location_of_symbol defines symbol here o = if is_match defines symbol o then location_at here (span_of o.range) else []
 
 -- the locations in a document of a symbol's definitions or else references; for a local symbol none if the document has another path
-abbrev pub places_in_document : Bool → Bool → List ℕ → List ℕ → PlainDocument → List PlainPlace
-places_in_document defines local path symbol d = if not local || bytes_eq d.relative_path path then flat_map (place_of_symbol defines symbol d.relative_path) d.occurrences else []
+abbrev pub locations_in_document : Bool → Bool → List ℕ → List ℕ → DocumentModel → List LocationModel
+locations_in_document defines local path symbol d = if not local || bytes_eq d.relative_path path then flat_map (location_of_symbol defines symbol d.relative_path) d.occurrences else []
 
 -- ---- the bytes
 
 -- the documents of the index that the bytes encode
-abbrev pub documents_of : Inside → List PlainDocument
-documents_of m = map document_of (each_of 2 records_inside (records_of m))
+abbrev pub documents_of : MessageBytes → List DocumentModel
+documents_of m = map document_of (each_of 2 nested_records (records_of m))
 
 -- the path of each document is UTF-8
-abbrev pub HaveTextPaths : List PlainDocument → Type 0
+abbrev pub HaveTextPaths : List DocumentModel → Type 0
 HaveTextPaths documents = AllByRecursion (λ d. IsUtf8 d.relative_path) documents

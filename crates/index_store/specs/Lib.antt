@@ -1,11 +1,11 @@
 pub mod Faults
 pub mod Lines
-pub mod Asking
+pub mod QueryRuns
 pub mod Spans
 pub mod Tables
 pub mod Queries
 pub mod Stores
-pub mod Asked
+pub mod TableLookup
 pub mod Direct
 pub mod Symbols
-pub mod Telling
+pub mod OutputRuns

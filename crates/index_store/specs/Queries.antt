@@ -3,33 +3,33 @@ use Rattle.std.specs.Prelude.{◌≡◌, ◌≢◌, ℕ, ◌%◌, ◌==◌, ◌&
 use Rattle.std.specs.List.{flat_map, starts_with}
 use Rattle.std.specs.Int.{w32, cast_unsigned}
 use Rattle.std.specs.Str.{bytes_eq}
-use Rattle.scip_index.specs.Plain.{PlainOccurrence, PlainDocument, PlainIndex}
+use Rattle.scip_index.specs.Plain.{OccurrenceModel, DocumentModel, IndexModel}
 use Rattle.index_store.specs.declared.fault.StoreFault.{StoreFault}
 use Rattle.index_store.specs.declared.fault.StoreFault.TheVariants as faults
-use Rattle.index_store.specs.declared.place.Place.{Place}
-use Rattle.index_store.specs.declared.place.Position.{Position}
+use Rattle.index_store.specs.declared.location.Place.{Place}
+use Rattle.index_store.specs.declared.location.Position.{Position}
 use Rattle.index_store.specs.declared.span.Span.{Span}
 use Rattle.index_store.specs.Spans.{is_in, is_nearer, span_of}
 
 -- an occurrence with its document's path
 pub record PlacedOccurrence : Type 0 where
   pub path : List ℕ
-  pub occurrence : PlainOccurrence
+  pub occurrence : OccurrenceModel
 
 -- an occurrence of a document with this path
-abbrev pub found_at : List ℕ → PlainOccurrence → PlacedOccurrence
-found_at path occurrence = record { path = path; occurrence = occurrence }
+abbrev pub occurrence_at : List ℕ → OccurrenceModel → PlacedOccurrence
+occurrence_at path occurrence = record { path = path; occurrence = occurrence }
 
 -- the occurrences of a document, with its path
-abbrev pub found_in : PlainDocument → List PlacedOccurrence
-found_in document = map (found_at document.relative_path) document.occurrences
+abbrev pub occurrences_in : DocumentModel → List PlacedOccurrence
+occurrences_in document = map (occurrence_at document.relative_path) document.occurrences
 
 -- all occurrences of all documents, in the index's order
-abbrev pub all_found : PlainIndex → List PlacedOccurrence
-all_found index = flat_map found_in index.documents
+abbrev pub all_occurrences : IndexModel → List PlacedOccurrence
+all_occurrences index = flat_map occurrences_in index.documents
 
 -- a document of the index has this path
-abbrev pub HasPath : PlainIndex → List ℕ → Type 0
+abbrev pub HasPath : IndexModel → List ℕ → Type 0
 HasPath index path = Contains (map (λ document. document.relative_path) index.documents) path
 
 -- a result with the view of its value
@@ -65,61 +65,61 @@ IsSymbolAt found path at None = NoneCovers found path at
 IsSymbolAt found path at (Some symbol) = (f : PlacedOccurrence) × (span : Span) × IsNearest found path at f span × (f.occurrence.symbol ≡ symbol)
 
 -- the result of a store's lookup at a position: the symbol or none, or `NoDocument` if no document has the path; never `Memory`
-abbrev pub IsSymbolAnswer : PlainIndex → List ℕ → Position → Result (Option (List ℕ)) StoreFault → Type 0
-IsSymbolAnswer index path at (Ok symbol) = HasPath index path × IsSymbolAt (all_found index) path at symbol
-IsSymbolAnswer index path at (Err faults.NoDocument) = HasPath index path → ⊥
-IsSymbolAnswer index path at (Err faults.Memory) = ⊥
+abbrev pub IsSymbolResult : IndexModel → List ℕ → Position → Result (Option (List ℕ)) StoreFault → Type 0
+IsSymbolResult index path at (Ok symbol) = HasPath index path × IsSymbolAt (all_occurrences index) path at symbol
+IsSymbolResult index path at (Err faults.NoDocument) = HasPath index path → ⊥
+IsSymbolResult index path at (Err faults.Memory) = ⊥
 
 -- ---- where a symbol is defined and used
 
 -- the bytes of "local "
-abbrev pub local_front : List ℕ
-local_front = 108 ∷ 111 ∷ 99 ∷ 97 ∷ 108 ∷ 32 ∷ []
+abbrev pub local_prefix : List ℕ
+local_prefix = 108 ∷ 111 ∷ 99 ∷ 97 ∷ 108 ∷ 32 ∷ []
 
 -- the symbol string begins with "local ", so the symbol is one of a single document
 abbrev pub is_local : List ℕ → Bool
-is_local symbol = starts_with nat_eq symbol local_front
+is_local symbol = starts_with nat_eq symbol local_prefix
 
 -- the occurrence has the symbol and, if the symbol is local, is in a document of the path
-abbrev pub is_sought : List ℕ → List ℕ → PlacedOccurrence → Bool
-is_sought path symbol f = bytes_eq f.occurrence.symbol symbol && (not (is_local symbol) || bytes_eq f.path path)
+abbrev pub matches_lookup : List ℕ → List ℕ → PlacedOccurrence → Bool
+matches_lookup path symbol f = bytes_eq f.occurrence.symbol symbol && (not (is_local symbol) || bytes_eq f.path path)
 
 -- the occurrence has the definition role, the lowest bit of `symbol_roles`
-abbrev pub is_definition : PlainOccurrence → Bool
+abbrev pub is_definition : OccurrenceModel → Bool
 is_definition o = cast_unsigned w32 o.symbol_roles % 2 == 1
 
 -- a location: a path with a span
-pub record PlainPlace : Type 0 where
+pub record LocationModel : Type 0 where
   pub path : List ℕ
   pub span : Span
 
 -- a location with the bytes of its path
-abbrev pub plain_place : Place → PlainPlace
-plain_place p = record { path = p.path.now; span = record { start = p.start; end = p.end } }
+abbrev pub location_model : Place → LocationModel
+location_model p = record { path = p.path.now; span = record { start = p.start; end = p.end } }
 
 -- the location of a span, if there is one, in a document of this path
-abbrev pub place_given : List ℕ → Option Span → List PlainPlace
-place_given path None = []
-place_given path (Some span) = record { path = path; span = span } ∷ []
+abbrev pub location_at : List ℕ → Option Span → List LocationModel
+location_at path None = []
+location_at path (Some span) = record { path = path; span = span } ∷ []
 
 -- the location of an occurrence, if its range denotes a span
-abbrev pub place_of : PlacedOccurrence → List PlainPlace
-place_of f = place_given f.path (span_of f.occurrence.range)
+abbrev pub location_of : PlacedOccurrence → List LocationModel
+location_of f = location_at f.path (span_of f.occurrence.range)
 
 -- the locations of the occurrences whose ranges denote spans, in their order
-abbrev pub places_of : List PlacedOccurrence → List PlainPlace
-places_of found = flat_map place_of found
+abbrev pub locations_of : List PlacedOccurrence → List LocationModel
+locations_of found = flat_map location_of found
 
 -- the locations where the symbol is defined, in the index's order
-abbrev pub definitions : PlainIndex → List ℕ → List ℕ → List PlainPlace
-definitions index path symbol = places_of (filter (λ f. is_sought path symbol f && is_definition f.occurrence) (all_found index))
+abbrev pub definitions : IndexModel → List ℕ → List ℕ → List LocationModel
+definitions index path symbol = locations_of (filter (λ f. matches_lookup path symbol f && is_definition f.occurrence) (all_occurrences index))
 
 -- the locations where the symbol occurs and isn't defined, in the index's order
-abbrev pub references : PlainIndex → List ℕ → List ℕ → List PlainPlace
-references index path symbol = places_of (filter (λ f. is_sought path symbol f && not (is_definition f.occurrence)) (all_found index))
+abbrev pub references : IndexModel → List ℕ → List ℕ → List LocationModel
+references index path symbol = locations_of (filter (λ f. matches_lookup path symbol f && not (is_definition f.occurrence)) (all_occurrences index))
 
 -- the result of a store's lookup of a symbol: these locations, `NoDocument` if no document has the path, or `Memory`, of which nothing is claimed
-abbrev pub ArePlacesAnswer : PlainIndex → List ℕ → List PlainPlace → Result (List PlainPlace) StoreFault → Type 0
-ArePlacesAnswer index path wanted (Ok places) = HasPath index path × (places ≡ wanted)
-ArePlacesAnswer index path wanted (Err faults.NoDocument) = HasPath index path → ⊥
-ArePlacesAnswer index path wanted (Err faults.Memory) = Unit {0}
+abbrev pub AreLocationsResult : IndexModel → List ℕ → List LocationModel → Result (List LocationModel) StoreFault → Type 0
+AreLocationsResult index path wanted (Ok locations) = HasPath index path × (locations ≡ wanted)
+AreLocationsResult index path wanted (Err faults.NoDocument) = HasPath index path → ⊥
+AreLocationsResult index path wanted (Err faults.Memory) = Unit {0}

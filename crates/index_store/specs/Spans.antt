@@ -1,6 +1,6 @@
 -- Positions in a document, and spans between them.
 use Rattle.std.specs.Prelude.{ℕ, ◌==◌, ◌&&◌, ◌||◌, Bool, not, nat_lt, ℤ, pos, List, [], ◌∷◌, Option, Some, None}
-use Rattle.index_store.specs.declared.place.Position.{Position}
+use Rattle.index_store.specs.declared.location.Position.{Position}
 use Rattle.index_store.specs.declared.span.Span.{Span}
 
 -- position a is before position b

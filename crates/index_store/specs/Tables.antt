@@ -3,14 +3,14 @@ use Rattle.std.specs.Prelude.{◌≡◌, ◌⊎◌, ℕ, ◌+◌, List, [], ◌�
 use Rattle.std.specs.List.{slice_index_or}
 use Rattle.std.specs.Str.{bytes_eq}
 use Rattle.std.specs.String.{string_bytes}
-use Rattle.index_store.specs.declared.table.Table.{Table}
+use Rattle.index_store.specs.declared.table.StringTable.{StringTable}
 
 -- the strings of a table, as bytes
-abbrev pub texts_in : {A : Type 0} → Table A → List (List ℕ)
+abbrev pub texts_in : {A : Type 0} → StringTable A → List (List ℕ)
 texts_in table = map string_bytes table.texts.keys
 
 -- the lists of entries of a table, in the order of its strings
-abbrev pub rows_in : {A : Type 0} → Table A → List (List A)
+abbrev pub rows_in : {A : Type 0} → StringTable A → List (List A)
 rows_in table = map (λ rows. rows.items) table.rows.items
 
 -- the string at an index; empty beyond the end

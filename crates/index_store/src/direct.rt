@@ -3,46 +3,46 @@ ghost use Rattle.std.specs.Prelude.{◌≡◌, ◌<◌, ◌+◌, ◌^◌, ◌++�
 ghost use Rattle.std.specs.Str.{IsUtf8, bytes_eq};
 ghost use Rattle.std.specs.Option.{option_to_list};
 ghost use Rattle.std.specs.List.{flat_map};
-ghost use Rattle.proto_wire.specs.Inside.{records_of};
+ghost use Rattle.proto_wire.specs.MessageBytes.{records_of};
 ghost use Rattle.proto_wire.specs.Messages.{bytes_in, each_of, latest};
 ghost use Rattle.scip_index.specs.Meaning.{document_of, occurrence_of, Means};
-ghost use Rattle.scip_index.specs.Plain.{PlainIndex};
-ghost use Rattle.index_store.specs.Asked.{nearer, places_wanted};
-ghost use Rattle.index_store.specs.Direct.{covering_of, documents_of, has_document, is_sought_occurrence, nearest_at, nearest_of, pair_span, place_of_symbol, places_in_document, said_near, HaveTextPaths, IsSymbolFound};
-ghost use Rattle.index_store.specs.Queries.{answered, definitions, is_definition, is_local, plain_place, references};
+ghost use Rattle.scip_index.specs.Plain.{IndexModel};
+ghost use Rattle.index_store.specs.TableLookup.{nearer, wanted_locations};
+ghost use Rattle.index_store.specs.Direct.{covering_of, documents_of, has_document, is_match, nearest_at, nearest_of, pair_span, location_of_symbol, locations_in_document, symbol_span_model, HaveTextPaths, IsSymbolLookup};
+ghost use Rattle.index_store.specs.Queries.{answered, definitions, is_definition, is_local, location_model, references};
 ghost use Rattle.index_store.specs.Spans.{span_of};
 
 use crate::span::{Span, is_in, is_nearer, span_of};
 use crate::{Place, Position, StoreFault};
 use proto_wire::{
-    Inside, WireValue, last_bytes, last_bytes_and_number, last_bytes_and_numbers, last_number,
-    next_message, next_message_and_bytes, next_short, numbers_inside,
+    MessageBytes, WireValue, field_numbers, last_bytes, last_bytes_and_number,
+    last_bytes_and_numbers, last_number, next_compact, next_message, next_message_with_bytes,
 };
 use std::alloc::{AllocError, Global};
 
 /// A span with its symbol string.
 #[derive(Clone, Copy)]
-pub(crate) struct Near<'a> {
+pub(crate) struct SymbolSpan<'a> {
     pub(crate) span: Span,
     pub(crate) symbol: &'a [u8],
 }
 
 /// The span of an occurrence, if its range denotes one. `numbers` is scratch space for the numbers of the range.
-fn span_inside(occurrence: Inside<'_>, numbers: &mut Vec<i32>) -> Result<Option<Span>, AllocError>
+fn span_in(occurrence: MessageBytes<'_>, numbers: &mut Vec<i32>) -> Result<Option<Span>, AllocError>
     requires { occurrence.start + length occurrence.bytes.now < 2 ^ 64 }
     ensures { IfOk result (λ s. s ≡ span_of (occurrence_of (records_of occurrence.entry)).range) }
 {
-    numbers_inside(1, occurrence, numbers)?;
+    field_numbers(1, occurrence, numbers)?;
     Ok(span_of(numbers.as_slice()))
 }
 
 /// The span and the symbol string of an occurrence, if it has both. `numbers` is scratch space for the numbers of the range.
-pub(crate) fn near_inside<'a>(
-    occurrence: Inside<'a>,
+pub(crate) fn symbol_span_in<'a>(
+    occurrence: MessageBytes<'a>,
     numbers: &mut Vec<i32>,
-) -> Result<Option<Near<'a>>, AllocError>
+) -> Result<Option<SymbolSpan<'a>>, AllocError>
     requires { occurrence.start + length occurrence.bytes.now < 2 ^ 64 }
-    ensures { IfOk result (λ n. option_to_list (option_map said_near n) ≡ covering_of (occurrence_of (records_of occurrence.entry))) }
+    ensures { IfOk result (λ n. option_to_list (option_map symbol_span_model n) ≡ covering_of (occurrence_of (records_of occurrence.entry))) }
 {
     let symbol = last_bytes_and_numbers(2, 1, occurrence, numbers)?;
     if symbol.is_empty() {
@@ -50,13 +50,17 @@ pub(crate) fn near_inside<'a>(
     }
     match span_of(numbers.as_slice()) {
         None => Ok(None),
-        Some(span) => Ok(Some(Near { span, symbol })),
+        Some(span) => Ok(Some(SymbolSpan { span, symbol })),
     }
 }
 
 /// `row` if it covers the position and is nearer than `best`, and otherwise `best`.
-fn nearer_of_two<'a>(at: Position, best: Option<Near<'a>>, row: Near<'a>) -> Option<Near<'a>>
-    ensures { option_map said_near result ≡ nearer pair_span at (option_map said_near best.entry) (said_near row.entry) }
+fn nearer_of_two<'a>(
+    at: Position,
+    best: Option<SymbolSpan<'a>>,
+    row: SymbolSpan<'a>,
+) -> Option<SymbolSpan<'a>>
+    ensures { option_map symbol_span_model result ≡ nearer pair_span at (option_map symbol_span_model best.entry) (symbol_span_model row.entry) }
 {
     if !is_in(at, row.span) {
         return best;
@@ -69,32 +73,32 @@ fn nearer_of_two<'a>(at: Position, best: Option<Near<'a>>, row: Near<'a>) -> Opt
 
 /// The nearest of `best` and the occurrences of a document, with the document's path, in one pass.
 fn nearest_and_path<'a>(
-    document: Inside<'a>,
+    document: MessageBytes<'a>,
     at: Position,
-    best: Option<Near<'a>>,
+    best: Option<SymbolSpan<'a>>,
     numbers: &mut Vec<i32>,
-) -> Result<(Option<Near<'a>>, &'a [u8]), AllocError>
+) -> Result<(Option<SymbolSpan<'a>>, &'a [u8]), AllocError>
     requires { document.start + length document.bytes.now < 2 ^ 64 }
-    ensures nearest { IfOk result (λ x. option_map said_near x.0 ≡ nearest_of at (option_map said_near best.entry) (document_of (records_of document.entry)).occurrences) }
+    ensures nearest { IfOk result (λ x. option_map symbol_span_model x.0 ≡ nearest_of at (option_map symbol_span_model best.entry) (document_of (records_of document.entry)).occurrences) }
     ensures path { IfOk result (λ x. latest [] (each_of 1 bytes_in (records_of document.entry)) ≡ x.1.now) }
 {
     let mut rest = document;
     let mut best = best;
     let mut path: &[u8] = &[];
     loop {
-        let (occurrence, last) = next_message_and_bytes(2, 1, path, &mut rest);
+        let (occurrence, last) = next_message_with_bytes(2, 1, path, &mut rest);
         path = last;
         let Some(occurrence) = occurrence else {
             return Ok((best, path));
         };
-        if let Some(row) = near_inside(occurrence, numbers)? {
+        if let Some(row) = symbol_span_in(occurrence, numbers)? {
             best = nearer_of_two(at, best, row);
         }
     }
 }
 
 /// Whether the string field with this number is `text`. Of several records the last one counts, and without a record the field is empty.
-fn has_text(field: u32, message: Inside<'_>, text: &[u8]) -> bool
+fn string_field_is(field: u32, message: MessageBytes<'_>, text: &[u8]) -> bool
     requires { message.start + length message.bytes.now < 2 ^ 64 }
     ensures { result ≡ bytes_eq (latest [] (each_of field bytes_in (records_of message.entry))) text.now }
 {
@@ -102,13 +106,13 @@ fn has_text(field: u32, message: Inside<'_>, text: &[u8]) -> bool
 }
 
 /// Whether a document of the index has this path.
-pub(crate) fn has_document(index: Inside<'_>, path: &[u8]) -> bool
+pub(crate) fn has_document(index: MessageBytes<'_>, path: &[u8]) -> bool
     requires { index.start + length index.bytes.now < 2 ^ 64 }
     ensures { result ≡ has_document path.now (documents_of index.entry) }
 {
     let mut rest = index;
     while let Some(document) = next_message(2, &mut rest) {
-        if has_text(1, document, path) {
+        if string_field_is(1, document, path) {
             return true;
         }
     }
@@ -119,24 +123,24 @@ pub(crate) fn has_document(index: Inside<'_>, path: &[u8]) -> bool
 #[derive(Clone, Copy)]
 struct Search<'a> {
     has_path: bool,
-    best: Option<Near<'a>>,
+    best: Option<SymbolSpan<'a>>,
 }
 
 /// The path in the first record of a document, if that record is of the path's field and its length takes one byte, as most producers write
 /// it.
 /// A varint in that field gives an empty path. The document's last path is the one that counts, and is known only at the document's end.
-fn first_path<'a>(document: Inside<'a>) -> Option<&'a [u8]>
+fn first_path<'a>(document: MessageBytes<'a>) -> Option<&'a [u8]>
     requires { document.start + length document.bytes.now < 2 ^ 64 }
 {
     let mut rest = document;
-    match next_short(&mut rest) {
+    match next_compact(&mut rest) {
         Some((wire, text)) if wire.field == 1 => Some(text),
         _ => None,
     }
 }
 
 /// Whether `first_path` returns this path for a document.
-fn begins_with(document: Inside<'_>, path: &[u8]) -> bool
+fn first_path_is(document: MessageBytes<'_>, path: &[u8]) -> bool
     requires { document.start + length document.bytes.now < 2 ^ 64 }
 {
     match first_path(document) {
@@ -148,7 +152,7 @@ fn begins_with(document: Inside<'_>, path: &[u8]) -> bool
 /// Extends a search by one document. A document that begins with the path is walked once, which also finds its last path, the one that
 /// counts.
 fn search_document<'a>(
-    document: Inside<'a>,
+    document: MessageBytes<'a>,
     path: &[u8],
     at: Position,
     found: Search<'a>,
@@ -156,9 +160,9 @@ fn search_document<'a>(
 ) -> Result<Search<'a>, AllocError>
     requires { document.start + length document.bytes.now < 2 ^ 64 }
     ensures has { IfOk result (λ s. s.has_path ≡ (found.entry.has_path || bytes_eq (document_of (records_of document.entry)).relative_path path.now)) }
-    ensures nearest { IfOk result (λ s. option_map said_near s.best ≡ nearest_at path.now at (option_map said_near found.entry.best) (document_of (records_of document.entry))) }
+    ensures nearest { IfOk result (λ s. option_map symbol_span_model s.best ≡ nearest_at path.now at (option_map symbol_span_model found.entry.best) (document_of (records_of document.entry))) }
 {
-    if !begins_with(document, path) && !has_text(1, document, path) {
+    if !first_path_is(document, path) && !string_field_is(1, document, path) {
         return Ok(found);
     }
     let (best, last) = nearest_and_path(document, at, found.best, numbers)?;
@@ -174,13 +178,13 @@ fn search_document<'a>(
 /// Searches the documents that have the path for the nearest occurrence that covers the position.
 fn search_documents<'a>(
     alloc: Global,
-    index: Inside<'a>,
+    index: MessageBytes<'a>,
     path: &str,
     at: Position,
 ) -> Result<Search<'a>, AllocError>
     requires { index.start + length index.bytes.now < 2 ^ 64 }
     ensures has { IfOk result (λ s. s.has_path ≡ has_document path.now (documents_of index.entry)) }
-    ensures nearest { IfOk result (λ s. option_map said_near s.best ≡ fold (nearest_at path.now at) None (documents_of index.entry)) }
+    ensures nearest { IfOk result (λ s. option_map symbol_span_model s.best ≡ fold (nearest_at path.now at) None (documents_of index.entry)) }
 {
     let mut rest = index;
     let mut numbers = Vec::new(alloc);
@@ -206,24 +210,24 @@ pub fn symbol_in_bytes<'a>(
     at: Position,
 ) -> Result<Option<&'a [u8]>, StoreFault>
     // The bytes encode an index.
-    requires means { (index : PlainIndex) × Means bytes.now index }
+    requires means { (index : IndexModel) × Means bytes.now index }
     // With `Ok` a document has the path, and the result is the symbol of the nearest occurrence that covers the position, or none if none
     // covers it. With `NoDocument` no document has the path.
-    ensures exact { (index : PlainIndex) → Means bytes.now index → IsSymbolFound index path.now at (answered (option_map (λ symbol. symbol.now)) result) }
+    ensures exact { (index : IndexModel) → Means bytes.now index → IsSymbolLookup index path.now at (answered (option_map (λ symbol. symbol.now)) result) }
 {
-    let found = search_documents(alloc, Inside { start: 0, bytes }, path, at)?;
+    let found = search_documents(alloc, MessageBytes { start: 0, bytes }, path, at)?;
     if !found.has_path {
         return Err(StoreFault::NoDocument);
     }
     match found.best {
         None => Ok(None),
-        Some(near) => Ok(Some(near.symbol)),
+        Some(symbol_span) => Ok(Some(symbol_span.symbol)),
     }
 }
 
 /// A lookup of a symbol's definitions, or else of its references.
 #[derive(Clone, Copy)]
-struct Sought<'s> {
+struct Lookup<'s> {
     symbol: &'s [u8],
     defines: bool,
     /// Whether only the documents of the path are searched.
@@ -238,28 +242,28 @@ pub(crate) fn is_local(symbol: &[u8]) -> bool
 }
 
 /// Whether an occurrence has the definition role, the lowest bit of `symbol_roles`.
-fn is_definition(occurrence: Inside<'_>) -> bool
+fn is_definition(occurrence: MessageBytes<'_>) -> bool
     requires { occurrence.start + length occurrence.bytes.now < 2 ^ 64 }
     ensures { result ≡ is_definition (occurrence_of (records_of occurrence.entry)) }
 {
     last_number(3, occurrence).cast_unsigned() % 2 == 1
 }
 
-/// An occurrence with this many or more records after its range and its symbol isn't read by `short_symbol`.
-const MOST_BEHIND: usize = 4;
+/// An occurrence with this many or more records after its range and its symbol isn't read by `compact_symbol`.
+const MAX_EXTRA: usize = 4;
 
-/// Whether the rest of an occurrence is fewer than `MOST_BEHIND` records, each with a key and a number or length of one byte, and none a
+/// Whether the rest of an occurrence is fewer than `MAX_EXTRA` records, each with a key and a number or length of one byte, and none a
 /// symbol. With `false` the rest may still have no symbol.
-fn lacks_symbol(left: Inside<'_>) -> bool
+fn lacks_symbol(left: MessageBytes<'_>) -> bool
     requires { left.start + length left.bytes.now < 2 ^ 64 }
     ensures { result ≡ true → each_of 2 bytes_in (records_of left.entry) ≡ [] }
 {
     let mut rest = left;
-    for _ in 0..MOST_BEHIND {
+    for _ in 0..MAX_EXTRA {
         if rest.bytes.is_empty() {
             return true;
         }
-        match next_short(&mut rest) {
+        match next_compact(&mut rest) {
             Some((wire, _)) if wire.field != 2 => {}
             _ => return false,
         }
@@ -267,16 +271,16 @@ fn lacks_symbol(left: Inside<'_>) -> bool
     false
 }
 
-/// The symbol string of an occurrence that is a range, a symbol and fewer than `MOST_BEHIND` other records, each with a key and a number or
+/// The symbol string of an occurrence that is a range, a symbol and fewer than `MAX_EXTRA` other records, each with a key and a number or
 /// length of one byte. Most producers write occurrences in this form. For any other occurrence the result is `None`.
 #[inline(always)]
-fn short_symbol<'a>(occurrence: Inside<'a>) -> Option<&'a [u8]>
+fn compact_symbol<'a>(occurrence: MessageBytes<'a>) -> Option<&'a [u8]>
     requires { occurrence.start + length occurrence.bytes.now < 2 ^ 64 }
     ensures { IfSome result (λ symbol. latest [] (each_of 2 bytes_in (records_of occurrence.entry)) ≡ symbol.now) }
 {
     let mut rest = occurrence;
-    let (range, _) = next_short(&mut rest)?;
-    let (symbol, text) = next_short(&mut rest)?;
+    let (range, _) = next_compact(&mut rest)?;
+    let (symbol, text) = next_compact(&mut rest)?;
     match symbol.value {
         WireValue::Bytes(_) if range.field == 1 && symbol.field == 2 && lacks_symbol(rest) => {
             Some(text)
@@ -286,39 +290,39 @@ fn short_symbol<'a>(occurrence: Inside<'a>) -> Option<&'a [u8]>
 }
 
 /// Whether an occurrence of any form has the symbol and the requested role, in one pass over its records.
-fn is_sought_at_all(occurrence: Inside<'_>, sought: Sought<'_>) -> bool
+fn matches_any_form(occurrence: MessageBytes<'_>, lookup: Lookup<'_>) -> bool
     requires { occurrence.start + length occurrence.bytes.now < 2 ^ 64 }
-    ensures { result ≡ is_sought_occurrence sought.entry.defines sought.entry.symbol.now (occurrence_of (records_of occurrence.entry)) }
+    ensures { result ≡ is_match lookup.entry.defines lookup.entry.symbol.now (occurrence_of (records_of occurrence.entry)) }
 {
     let (symbol, roles) = last_bytes_and_number(2, 3, occurrence);
-    symbol == sought.symbol && (roles.cast_unsigned() % 2 == 1) == sought.defines
+    symbol == lookup.symbol && (roles.cast_unsigned() % 2 == 1) == lookup.defines
 }
 
-/// Whether an occurrence has the symbol and the requested role. `short_symbol` saves the general pass over the records of most occurrences.
-fn is_sought(occurrence: Inside<'_>, sought: Sought<'_>) -> bool
+/// Whether an occurrence has the symbol and the requested role. `compact_symbol` saves the general pass over the records of most occurrences.
+fn matches_lookup(occurrence: MessageBytes<'_>, lookup: Lookup<'_>) -> bool
     requires { occurrence.start + length occurrence.bytes.now < 2 ^ 64 }
-    ensures { result ≡ is_sought_occurrence sought.entry.defines sought.entry.symbol.now (occurrence_of (records_of occurrence.entry)) }
+    ensures { result ≡ is_match lookup.entry.defines lookup.entry.symbol.now (occurrence_of (records_of occurrence.entry)) }
 {
-    match short_symbol(occurrence) {
-        Some(symbol) => symbol == sought.symbol && is_definition(occurrence) == sought.defines,
-        None => is_sought_at_all(occurrence, sought),
+    match compact_symbol(occurrence) {
+        Some(symbol) => symbol == lookup.symbol && is_definition(occurrence) == lookup.defines,
+        None => matches_any_form(occurrence, lookup),
     }
 }
 
 /// Appends the location of an occurrence, if the occurrence is one of those looked up and its range denotes a span.
 fn add_occurrence<'a>(
-    occurrence: Inside<'_>,
+    occurrence: MessageBytes<'_>,
     path: &'a str,
-    sought: Sought<'_>,
+    lookup: Lookup<'_>,
     numbers: &mut Vec<i32>,
-    places: &mut Vec<Place<'a>>,
+    locations: &mut Vec<Place<'a>>,
 ) -> Result<(), AllocError>
     requires { occurrence.start + length occurrence.bytes.now < 2 ^ 64 }
-    ensures { OnOk result (map plain_place places.new.items ≡ map plain_place places.old.items ++ place_of_symbol sought.entry.defines sought.entry.symbol.now path.now (occurrence_of (records_of occurrence.entry))) }
+    ensures { OnOk result (map location_model locations.new.items ≡ map location_model locations.old.items ++ location_of_symbol lookup.entry.defines lookup.entry.symbol.now path.now (occurrence_of (records_of occurrence.entry))) }
 {
-    if is_sought(occurrence, sought) {
-        if let Some(span) = span_inside(occurrence, numbers)? {
-            places.push(Place {
+    if matches_lookup(occurrence, lookup) {
+        if let Some(span) = span_in(occurrence, numbers)? {
+            locations.push(Place {
                 path,
                 start: span.start,
                 end: span.end,
@@ -330,25 +334,25 @@ fn add_occurrence<'a>(
 
 /// Appends the locations of the occurrences of a document that are looked up, and returns the document's path, in one pass.
 fn add_occurrences<'a, 'd>(
-    document: Inside<'d>,
+    document: MessageBytes<'d>,
     path: &'a str,
-    sought: Sought<'_>,
+    lookup: Lookup<'_>,
     numbers: &mut Vec<i32>,
-    places: &mut Vec<Place<'a>>,
+    locations: &mut Vec<Place<'a>>,
 ) -> Result<&'d [u8], AllocError>
     requires { document.start + length document.bytes.now < 2 ^ 64 }
-    ensures added { OnOk result (map plain_place places.new.items ≡ map plain_place places.old.items ++ flat_map (place_of_symbol sought.entry.defines sought.entry.symbol.now path.now) (document_of (records_of document.entry)).occurrences) }
+    ensures added { OnOk result (map location_model locations.new.items ≡ map location_model locations.old.items ++ flat_map (location_of_symbol lookup.entry.defines lookup.entry.symbol.now path.now) (document_of (records_of document.entry)).occurrences) }
     ensures path { IfOk result (λ last. latest [] (each_of 1 bytes_in (records_of document.entry)) ≡ last.now) }
 {
     let mut rest = document;
     let mut last: &[u8] = &[];
     loop {
-        let (occurrence, passed) = next_message_and_bytes(2, 1, last, &mut rest);
+        let (occurrence, passed) = next_message_with_bytes(2, 1, last, &mut rest);
         last = passed;
         let Some(occurrence) = occurrence else {
             return Ok(last);
         };
-        add_occurrence(occurrence, path, sought, numbers, places)?;
+        add_occurrence(occurrence, path, lookup, numbers, locations)?;
     }
 }
 
@@ -356,91 +360,91 @@ fn add_occurrences<'a, 'd>(
 /// One pass suffices if the path that the document begins with is short, is UTF-8 and is also the document's last path. For a local symbol
 /// this has to be the requested path.
 /// If it returns `false`, nothing is appended. After an error some locations may be appended.
-fn add_by_first<'a>(
-    document: Inside<'a>,
-    sought: Sought<'_>,
+fn add_in_one_pass<'a>(
+    document: MessageBytes<'a>,
+    lookup: Lookup<'_>,
     numbers: &mut Vec<i32>,
-    places: &mut Vec<Place<'a>>,
+    locations: &mut Vec<Place<'a>>,
 ) -> Result<bool, AllocError>
     requires { document.start + length document.bytes.now < 2 ^ 64 }
-    ensures { IfOk result (λ is_added. map plain_place places.new.items ≡ map plain_place places.old.items ++ (if is_added then places_in_document sought.entry.defines sought.entry.local sought.entry.path.now sought.entry.symbol.now (document_of (records_of document.entry)) else [])) }
+    ensures { IfOk result (λ is_added. map location_model locations.new.items ≡ map location_model locations.old.items ++ (if is_added then locations_in_document lookup.entry.defines lookup.entry.local lookup.entry.path.now lookup.entry.symbol.now (document_of (records_of document.entry)) else [])) }
 {
     let Some(first) = first_path(document) else {
         return Ok(false);
     };
-    if sought.local && first != sought.path {
+    if lookup.local && first != lookup.path {
         return Ok(false);
     }
     let Ok(path) = std::str::from_utf8(first) else {
         return Ok(false);
     };
-    let before = places.len();
-    let last = add_occurrences(document, path, sought, numbers, places)?;
+    let before = locations.len();
+    let last = add_occurrences(document, path, lookup, numbers, locations)?;
     if last != first {
-        places.truncate(before);
+        locations.truncate(before);
         return Ok(false);
     }
     Ok(true)
 }
 
-/// Appends the locations of a document's occurrences that are looked up. A second pass is needed only if `add_by_first` returns `false`.
+/// Appends the locations of a document's occurrences that are looked up. A second pass is needed only if `add_in_one_pass` returns `false`.
 fn add_document<'a>(
-    document: Inside<'a>,
-    sought: Sought<'_>,
+    document: MessageBytes<'a>,
+    lookup: Lookup<'_>,
     numbers: &mut Vec<i32>,
-    places: &mut Vec<Place<'a>>,
+    locations: &mut Vec<Place<'a>>,
 ) -> Result<(), AllocError>
     requires { document.start + length document.bytes.now < 2 ^ 64 }
-    ensures { IsUtf8 (document_of (records_of document.entry)).relative_path → OnOk result (map plain_place places.new.items ≡ map plain_place places.old.items ++ places_in_document sought.entry.defines sought.entry.local sought.entry.path.now sought.entry.symbol.now (document_of (records_of document.entry))) }
+    ensures { IsUtf8 (document_of (records_of document.entry)).relative_path → OnOk result (map location_model locations.new.items ≡ map location_model locations.old.items ++ locations_in_document lookup.entry.defines lookup.entry.local lookup.entry.path.now lookup.entry.symbol.now (document_of (records_of document.entry))) }
 {
-    if add_by_first(document, sought, numbers, places)? {
+    if add_in_one_pass(document, lookup, numbers, locations)? {
         return Ok(());
     }
     let path = last_bytes(1, document);
-    if sought.local && path != sought.path {
+    if lookup.local && path != lookup.path {
         return Ok(());
     }
     if let Ok(path) = std::str::from_utf8(path) {
-        add_occurrences(document, path, sought, numbers, places)?;
+        add_occurrences(document, path, lookup, numbers, locations)?;
     }
     Ok(())
 }
 
 /// The locations of the occurrences of an index that are looked up, in the index's order.
-fn places_sought<'a>(
+fn matching_locations<'a>(
     alloc: Global,
-    index: Inside<'a>,
-    sought: Sought<'_>,
+    index: MessageBytes<'a>,
+    lookup: Lookup<'_>,
 ) -> Result<Vec<Place<'a>>, AllocError>
     requires { index.start + length index.bytes.now < 2 ^ 64 }
-    ensures { HaveTextPaths (documents_of index.entry) → IfOk result (λ places. map plain_place places.items ≡ flat_map (places_in_document sought.entry.defines sought.entry.local sought.entry.path.now sought.entry.symbol.now) (documents_of index.entry)) }
+    ensures { HaveTextPaths (documents_of index.entry) → IfOk result (λ locations. map location_model locations.items ≡ flat_map (locations_in_document lookup.entry.defines lookup.entry.local lookup.entry.path.now lookup.entry.symbol.now) (documents_of index.entry)) }
 {
     let mut rest = index;
     let mut numbers = Vec::new(alloc);
-    let mut places = Vec::new(alloc);
+    let mut locations = Vec::new(alloc);
     while let Some(document) = next_message(2, &mut rest) {
-        add_document(document, sought, &mut numbers, &mut places)?;
+        add_document(document, lookup, &mut numbers, &mut locations)?;
     }
-    Ok(places)
+    Ok(locations)
 }
 
 /// The locations of a symbol's definitions, or else of its references.
-fn places_in_bytes<'a>(
+fn locations_in_bytes<'a>(
     alloc: Global,
     bytes: &'a [u8],
     path: &str,
     symbol: &[u8],
     defines: bool,
 ) -> Result<Vec<Place<'a>>, AllocError>
-    ensures { (index : PlainIndex) → Means bytes.now index → IfOk result (λ places. map plain_place places.items ≡ places_wanted defines index path.now symbol.now) }
+    ensures { (index : IndexModel) → Means bytes.now index → IfOk result (λ locations. map location_model locations.items ≡ wanted_locations defines index path.now symbol.now) }
 {
-    let sought = Sought {
+    let lookup = Lookup {
         symbol,
         defines,
         local: is_local(symbol),
         path: path.as_bytes(),
     };
-    places_sought(alloc, Inside { start: 0, bytes }, sought)
+    matching_locations(alloc, MessageBytes { start: 0, bytes }, lookup)
 }
 
 /// The locations where a symbol is defined, in the index's order, in bytes that encode an index. `Store::definitions` returns the same
@@ -455,11 +459,11 @@ pub fn definitions_in_bytes<'a>(
     symbol: &[u8],
 ) -> Result<Vec<Place<'a>>, AllocError>
     // The bytes encode an index.
-    requires means { (index : PlainIndex) × Means bytes.now index }
+    requires means { (index : IndexModel) × Means bytes.now index }
     // With `Ok` the locations are exactly those of the symbol's definitions in the index that the bytes encode, in its order.
-    ensures { (index : PlainIndex) → Means bytes.now index → IfOk result (λ places. map plain_place places.items ≡ definitions index path.now symbol.now) }
+    ensures { (index : IndexModel) → Means bytes.now index → IfOk result (λ locations. map location_model locations.items ≡ definitions index path.now symbol.now) }
 {
-    places_in_bytes(alloc, bytes, path, symbol, true)
+    locations_in_bytes(alloc, bytes, path, symbol, true)
 }
 
 /// The locations where a symbol is used and not defined, in the index's order, in bytes that encode an index. `Store::references` returns
@@ -474,9 +478,9 @@ pub fn references_in_bytes<'a>(
     symbol: &[u8],
 ) -> Result<Vec<Place<'a>>, AllocError>
     // The bytes encode an index.
-    requires means { (index : PlainIndex) × Means bytes.now index }
+    requires means { (index : IndexModel) × Means bytes.now index }
     // With `Ok` the locations are exactly those of the symbol's references in the index that the bytes encode, in its order.
-    ensures { (index : PlainIndex) → Means bytes.now index → IfOk result (λ places. map plain_place places.items ≡ references index path.now symbol.now) }
+    ensures { (index : IndexModel) → Means bytes.now index → IfOk result (λ locations. map location_model locations.items ≡ references index path.now symbol.now) }
 {
-    places_in_bytes(alloc, bytes, path, symbol, false)
+    locations_in_bytes(alloc, bytes, path, symbol, false)
 }

@@ -1,6 +1,6 @@
 //! Laws of queries, proved as contracts of functions with an empty body.
 ghost use Rattle.std.specs.Prelude.{◌≡◌, List, Option, ℕ};
-ghost use Rattle.index_store.specs.declared.place.Position.{Position};
+ghost use Rattle.index_store.specs.declared.location.Position.{Position};
 ghost use Rattle.index_store.specs.Queries.{PlacedOccurrence, IsSymbolAt};
 
 /// The symbol at a position is unique: it is that of the nearest occurrence that covers the position, or none if none covers it.

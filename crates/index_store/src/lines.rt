@@ -2,64 +2,63 @@
 ghost use Rattle.std.specs.Prelude.{◌≡◌, ◌++◌, map, IfErr, OnOk};
 ghost use Rattle.std.specs.String.{string_bytes};
 ghost use Rattle.byte_sink.specs.declared.sink.SinkFault.TheVariants.{Memory};
-ghost use Rattle.byte_sink.specs.Sinks.{failures_after, Puts};
-ghost use Rattle.index_store.specs.Queries.{plain_place};
-ghost use Rattle.index_store.specs.Lines.{place_line, place_lines, place_text};
+ghost use Rattle.byte_sink.specs.Sinks.{failures_after, Writes};
+ghost use Rattle.index_store.specs.Queries.{location_model};
+ghost use Rattle.index_store.specs.Lines.{location_line, location_lines, range_text};
 ghost use Rattle.text_escape.specs.Places.{style_of, writer_style};
 
 use crate::Place;
-use byte_sink::{Sink, SinkFault, put_all};
+use byte_sink::{Sink, SinkFault, flush_if_full, write_fully};
 use std::alloc::{AllocError, Global};
-use text_escape::{PlaceStyle, PlaceWriter};
-use text_pieces::put_enough;
+use text_escape::{LocationStyle, LocationWriter};
 
 /// Appends a location as `PATH:LINE:COL-LINE:COL`.
-pub(crate) fn push_place<'a>(
-    writer: &mut PlaceWriter<'a>,
+pub(crate) fn push_location<'a>(
+    writer: &mut LocationWriter<'a>,
     text: &mut String,
-    place: &Place<'a>,
+    location: &Place<'a>,
 ) -> Result<(), AllocError>
-    ensures appended { OnOk result (string_bytes text.new ≡ string_bytes text.old ++ place_text (writer_style writer.old) (plain_place place.now)) }
+    ensures appended { OnOk result (string_bytes text.new ≡ string_bytes text.old ++ range_text (writer_style writer.old) (location_model location.now)) }
     ensures style { writer_style writer.new ≡ writer_style writer.old }
 {
-    let (start, end) = (place.start, place.end);
-    writer.push_start(text, place.path, start.line, start.column)?;
+    let (start, end) = (location.start, location.end);
+    writer.push_start(text, location.path, start.line, start.column)?;
     text.push('-')?;
     writer.push_position(text, end.line, end.column)
 }
 
 /// Appends the line of a location.
 fn push_line<'a>(
-    writer: &mut PlaceWriter<'a>,
+    writer: &mut LocationWriter<'a>,
     text: &mut String,
-    place: &Place<'a>,
+    location: &Place<'a>,
 ) -> Result<(), SinkFault>
-    ensures line { OnOk result (string_bytes text.new ≡ string_bytes text.old ++ place_line (writer_style writer.old) (plain_place place.now)) }
+    ensures line { OnOk result (string_bytes text.new ≡ string_bytes text.old ++ location_line (writer_style writer.old) (location_model location.now)) }
     ensures style { writer_style writer.new ≡ writer_style writer.old }
     ensures memory { IfErr result (λ fault. fault ≡ Memory) }
 {
-    push_place(writer, text, place).map_err(|_| SinkFault::Memory)?;
+    push_location(writer, text, location).map_err(|_| SinkFault::Memory)?;
     text.push('\n').map_err(|_| SinkFault::Memory)
 }
 
 /// Writes a line `PATH:LINE:COL-LINE:COL` in this style for each location, in their order, with the control characters of paths escaped.
 /// Fails with `Device` if the sink fails, and with `Memory` if an allocation fails. The sink has then taken a prefix of the lines.
-pub fn put_lines<S: Sink>(
+pub fn write_lines<S: Sink>(
     alloc: Global,
-    style: PlaceStyle<'_>,
-    places: &[Place<'_>],
+    style: LocationStyle<'_>,
+    locations: &[Place<'_>],
     sink: &mut S,
 ) -> Result<(), SinkFault>
     // With `Ok` the sink took all of the lines, otherwise a prefix of them.
-    ensures puts { Puts (S.taken sink.old) (S.taken sink.new) result (place_lines (style_of style.entry) (map plain_place places.now)) }
+    ensures writes { Writes (S.taken sink.old) (S.taken sink.new) result (location_lines (style_of style.entry) (map location_model locations.now)) }
     // The sink counts a failure if and only if the result is `Device`.
     ensures failures { S.failures sink.new ≡ failures_after result (S.failures sink.old) }
 {
-    let mut writer = PlaceWriter::new(style);
+    let mut writer = LocationWriter::new(style);
     let mut text = String::new(alloc);
-    for place in places {
-        put_enough(&mut text, sink)?;
-        push_line(&mut writer, &mut text, place)?;
+    for location in locations {
+        flush_if_full(&mut text, sink)?;
+        push_line(&mut writer, &mut text, location)?;
     }
-    put_all(sink, text.as_bytes())
+    write_fully(sink, text.as_bytes())
 }

@@ -1,13 +1,13 @@
 //! The nearest occurrence that covers a position, by the entries of a store.
 ghost use Rattle.std.specs.Prelude.{◌≡◌};
-ghost use Rattle.index_store.specs.Asked.{covering_span, nearer, nearest};
+ghost use Rattle.index_store.specs.TableLookup.{covering_span, nearer, nearest};
 
 use crate::Position;
-use crate::row::Covering;
+use crate::row::PathEntry;
 use crate::span::{is_in, is_nearer};
 
 /// `row` if it covers the position and is nearer than `best`, and otherwise `best`.
-fn nearer(at: Position, best: Option<Covering>, row: Covering) -> Option<Covering>
+fn nearer(at: Position, best: Option<PathEntry>, row: PathEntry) -> Option<PathEntry>
     ensures { result ≡ nearer covering_span at best row }
 {
     if !is_in(at, row.span) {
@@ -20,7 +20,7 @@ fn nearer(at: Position, best: Option<Covering>, row: Covering) -> Option<Coverin
 }
 
 /// The nearest of the entries whose spans contain the position. Of several with equal spans it is the first.
-pub(crate) fn nearest(rows: &[Covering], at: Position) -> Option<Covering>
+pub(crate) fn nearest(rows: &[PathEntry], at: Position) -> Option<PathEntry>
     ensures { result ≡ nearest rows.now at }
 {
     let mut best = None;

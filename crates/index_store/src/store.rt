@@ -5,17 +5,17 @@ ghost use Rattle.proto_wire.specs.Faults.{UnlessMemory};
 ghost use Rattle.proto_wire.specs.Messages.{IsFirstFault};
 ghost use Rattle.scip_index.specs.Meaning.{index_fault};
 ghost use Rattle.scip_index.specs.Streaming.{given};
-ghost use Rattle.scip_index.specs.Plain.{plain_document, plain_index, PlainIndex};
+ghost use Rattle.scip_index.specs.Plain.{document_model, index_model, IndexModel};
 ghost use Rattle.index_store.specs.declared.fault.StoreFault.TheVariants.{Memory};
-ghost use Rattle.index_store.specs.Asked.{place_asked, places_wanted};
-ghost use Rattle.index_store.specs.Queries.{answered, definitions, found_in, is_local, plain_place, references, ArePlacesAnswer, IsSymbolAnswer};
-ghost use Rattle.index_store.specs.Stores.{mentions_under, paths_of, said_mention, IsStoreOf, IsStoreOfBytes, Keeps};
+ghost use Rattle.index_store.specs.TableLookup.{requested_location, wanted_locations};
+ghost use Rattle.index_store.specs.Queries.{answered, definitions, occurrences_in, is_local, location_model, references, AreLocationsResult, IsSymbolResult};
+ghost use Rattle.index_store.specs.Stores.{mentions_under, paths_of, mention_model, IsStoreOf, IsStoreOfBytes, Keeps};
 
-use crate::draft::Draft;
+use crate::builder::StoreBuilder;
+use crate::locations::{TableLookup, is_local, requested_locations};
 use crate::nearest::nearest;
-use crate::places::{Asked, is_local, places_asked};
-use crate::row::{Covering, Mention};
-use crate::table::Table;
+use crate::row::{PathEntry, SymbolEntry};
+use crate::table::StringTable;
 use crate::{Place, Position, StoreFault};
 use proto_wire::WireFault;
 use scip_index::{Document, Index, IndexReader};
@@ -25,8 +25,8 @@ use std::marker::Model;
 /// The occurrences of an index whose range denotes a span, by their document's path and by their symbol string.
 #[derive(Drop)]
 pub struct Store {
-    by_path: Table<Covering>,
-    by_symbol: Table<Mention>,
+    by_path: StringTable<PathEntry>,
+    by_symbol: StringTable<SymbolEntry>,
 }
 
 impl Model for Store {
@@ -43,7 +43,7 @@ impl Store {
     /// Builds the store of an index. Fails with `Memory` if an allocation fails, and with no other error.
     pub fn new(alloc: Global, index: Index) -> Result<Store, StoreFault>
         // With `Ok` the result is the store of the index.
-        ensures exact { IfOk result (IsStoreOf (plain_index index)) }
+        ensures exact { IfOk result (IsStoreOf (index_model index)) }
         // `Memory` is the only error.
         ensures memory { IfErr result (λ fault. fault ≡ Memory) }
     {
@@ -52,14 +52,14 @@ impl Store {
 
     /// Builds the store of documents.
     fn of_documents(alloc: Global, documents: &[Document]) -> Result<Store, StoreFault>
-        ensures exact { IfOk result (Keeps (paths_of (map plain_document documents.now)) (flat_map found_in (map plain_document documents.now))) }
+        ensures exact { IfOk result (Keeps (paths_of (map document_model documents.now)) (flat_map occurrences_in (map document_model documents.now))) }
         ensures memory { IfErr result (λ fault. fault ≡ Memory) }
     {
-        let mut draft = Draft::new(alloc);
-        draft.add_documents(alloc, documents)?;
+        let mut builder = StoreBuilder::new(alloc);
+        builder.add_documents(alloc, documents)?;
         Ok(Store {
-            by_path: draft.by_path,
-            by_symbol: draft.by_symbol,
+            by_path: builder.by_path,
+            by_symbol: builder.by_symbol,
         })
     }
 
@@ -70,7 +70,7 @@ impl Store {
         // The reader has returned no document.
         requires fresh { given reader ≡ [] }
         // The reader hasn't failed.
-        requires sound { reader.refusal ≡ None }
+        requires sound { reader.error ≡ None }
         // With `Ok` the reader's bytes encode an index, and the result is the store of that index.
         ensures exact { IfOk result (λ store. IsStoreOfBytes reader.entry.bytes store) }
         // An error is the first fault of the bytes, or `Memory`.
@@ -82,15 +82,15 @@ impl Store {
     /// Builds the store of the index that a reader reads.
     fn of_reader(alloc: Global, reader: &mut IndexReader<'_>) -> Result<Store, WireFault>
         requires fresh { given reader.old ≡ [] }
-        requires sound { reader.old.refusal ≡ None }
+        requires sound { reader.old.error ≡ None }
         ensures exact { IfOk result (IsStoreOfBytes reader.old.bytes) }
         ensures fault { IfErr result (λ e. UnlessMemory e (IsFirstFault index_fault 0 reader.old.bytes e)) }
     {
-        let mut draft = Draft::new(alloc);
-        draft.add_read(alloc, reader)?;
+        let mut builder = StoreBuilder::new(alloc);
+        builder.add_read(alloc, reader)?;
         Ok(Store {
-            by_path: draft.by_path,
-            by_symbol: draft.by_symbol,
+            by_path: builder.by_path,
+            by_symbol: builder.by_symbol,
         })
     }
 
@@ -103,7 +103,7 @@ impl Store {
         // For each index whose store this is: With `Ok` a document has the path, and the result is the symbol of the nearest occurrence
         // that covers the position. The symbol is none if no occurrence covers it. Otherwise the error is `NoDocument`, and no document has
         // the path.
-        ensures exact { (index : PlainIndex) → IsStoreOf index self.now → IsSymbolAnswer index path.now at (answered (option_map (λ symbol. symbol.now)) result) }
+        ensures exact { (index : IndexModel) → IsStoreOf index self.now → IsSymbolResult index path.now at (answered (option_map (λ symbol. symbol.now)) result) }
     {
         match self.by_path.text_number(path) {
             None => Err(StoreFault::NoDocument),
@@ -114,15 +114,15 @@ impl Store {
         }
     }
 
-    fn places_of<'a>(
+    fn locations_of<'a>(
         &'a self,
         path: &str,
         symbol: &str,
         defines: bool,
     ) -> Result<Vec<Place<'a>>, AllocError>
-        ensures { IfOk result (λ places. map plain_place places.items ≡ flat_map (place_asked defines (is_local symbol.now) path.now) (map (said_mention self.now.paths) (mentions_under self.now symbol.now))) }
+        ensures { IfOk result (λ locations. map location_model locations.items ≡ flat_map (requested_location defines (is_local symbol.now) path.now) (map (mention_model self.now.paths) (mentions_under self.now symbol.now))) }
     {
-        let asked = Asked {
+        let requested = TableLookup {
             defines,
             local: is_local(symbol),
             path,
@@ -131,22 +131,22 @@ impl Store {
         match self.by_symbol.text_number(symbol) {
             None => Ok(Vec::new(alloc)),
             Some(number) => {
-                places_asked(alloc, asked, &self.by_path, self.by_symbol.rows(number))
+                requested_locations(alloc, requested, &self.by_path, self.by_symbol.rows(number))
             }
         }
     }
 
-    fn places<'a>(
+    fn locations<'a>(
         &'a self,
         path: &str,
         symbol: &str,
         defines: bool,
     ) -> Result<Vec<Place<'a>>, StoreFault>
-        ensures exact { (index : PlainIndex) → IsStoreOf index self.now → ArePlacesAnswer index path.now (places_wanted defines index path.now symbol.now) (answered (λ places. map plain_place places.items) result) }
+        ensures exact { (index : IndexModel) → IsStoreOf index self.now → AreLocationsResult index path.now (wanted_locations defines index path.now symbol.now) (answered (λ locations. map location_model locations.items) result) }
     {
         match self.by_path.text_number(path) {
             None => Err(StoreFault::NoDocument),
-            Some(_) => Ok(self.places_of(path, symbol, defines)?),
+            Some(_) => Ok(self.locations_of(path, symbol, defines)?),
         }
     }
 
@@ -156,9 +156,9 @@ impl Store {
     pub fn definitions<'a>(&'a self, path: &str, symbol: &str) -> Result<Vec<Place<'a>>, StoreFault>
         // For each index whose store this is: With `Ok` a document has the path, and the locations are exactly those of the symbol's
         // definitions, in the index's order. With `NoDocument` no document has the path.
-        ensures exact { (index : PlainIndex) → IsStoreOf index self.now → ArePlacesAnswer index path.now (definitions index path.now symbol.now) (answered (λ places. map plain_place places.items) result) }
+        ensures exact { (index : IndexModel) → IsStoreOf index self.now → AreLocationsResult index path.now (definitions index path.now symbol.now) (answered (λ locations. map location_model locations.items) result) }
     {
-        self.places(path, symbol, true)
+        self.locations(path, symbol, true)
     }
 
     /// The locations where a symbol is used and not defined, in the index's order. A symbol whose string begins with `local ` is looked up
@@ -167,8 +167,8 @@ impl Store {
     pub fn references<'a>(&'a self, path: &str, symbol: &str) -> Result<Vec<Place<'a>>, StoreFault>
         // For each index whose store this is: With `Ok` a document has the path, and the locations are exactly those of the symbol's
         // references, in the index's order. With `NoDocument` no document has the path.
-        ensures exact { (index : PlainIndex) → IsStoreOf index self.now → ArePlacesAnswer index path.now (references index path.now symbol.now) (answered (λ places. map plain_place places.items) result) }
+        ensures exact { (index : IndexModel) → IsStoreOf index self.now → AreLocationsResult index path.now (references index path.now symbol.now) (answered (λ locations. map location_model locations.items) result) }
     {
-        self.places(path, symbol, false)
+        self.locations(path, symbol, false)
     }
 }

@@ -8,7 +8,7 @@ use std::alloc::{AllocError, Global};
 
 /// Strings, each once in the order of insertion, and the entries of each.
 #[derive(Drop)]
-pub(crate) struct Table<T: Drop> {
+pub(crate) struct StringTable<T: Drop> {
     texts: IndexSet<String>,
     rows: Vec<Vec<T>>,
 }
@@ -23,12 +23,12 @@ fn add_text(texts: &mut IndexSet<String>, alloc: Global, text: &str) -> Result<(
     Ok(())
 }
 
-impl<T: Drop> Table<T> {
-    pub(crate) fn new(alloc: Global) -> Table<T>
+impl<T: Drop> StringTable<T> {
+    pub(crate) fn new(alloc: Global) -> StringTable<T>
         ensures texts { texts_in result ≡ [] }
         ensures rows { rows_in result ≡ [] }
     {
-        Table {
+        StringTable {
             texts: IndexSet::new(alloc),
             rows: Vec::new(alloc),
         }

@@ -1,8 +1,7 @@
-//! Tests of what is said of one module by itself, its tokens, tree, table and scopes, from outside: of what no command shows. What a command
-//! prints, tells and ends with stands in `rows/`.
-//! Stands on `ob_scan`, `ob_tree`, `ob_walk`, `ob_rows`, `ob_parse`, `ob_table`, `ob_scope` and `ob_types`, and on
-//! `oscip_tree` for the scopes of a syntax tree and the networks of graphs, with `texts`, `ob_imports` and `cut_net` for these.
-//! Its contract: none; it has nothing but tests.
+//! Tests of the tokens, tree, table and scopes of single modules, of what no command shows. The output of commands is in `rows/`.
+//! Depends on `ob_scan`, `ob_tree`, `ob_walk`, `module_table`, `ob_parse`, `table_reader`, `ob_scope` and `ob_types`, which it tests.
+//! It also depends on `source_tree`, `texts`, `ob_imports` and `cut_net` for scopes of syntax trees and networks of graphs. It has nothing
+//! but tests.
 #![tactic(auto)]
 
 #[cfg(test)]

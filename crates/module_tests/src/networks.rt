@@ -1,4 +1,4 @@
-//! The networks of graphs of imports, made in both ways, of trees of texts.
+//! The networks of import graphs, made in two ways from the sources of trees.
 ghost use Rattle.std.specs.Prelude.{◌≡◌, true, All};
 ghost use Rattle.texts.specs.Fields.{is_name};
 
@@ -8,16 +8,16 @@ use ob_imports::{Graph, Parsed, graph};
 use ob_scan::laws::tokens_in_text;
 use ob_scan::scan;
 use ob_scope::{Scopes, scopes_from};
-use oscip_tree::{FromGraph, net_of_graph};
+use source_tree::{FromGraph, net_of_graph};
 use std::alloc::{AllocError, Global};
 use std::test::Fail;
 use texts::fields::is_identifier;
 
-/// Texts of modules, and their network: the modules by name, external ones too, and the imports with their weights.
+/// Sources of modules, and their network: the modules by name, with external ones, and the imports with their weights.
 const ROWS: &[(&[&[u8]], &str)] = &[
     (&[], ""),
     (&[b"MODULE M; END M."], "M "),
-    // Both aliases of one module weigh, what is hidden doesn't, and an import that nothing crosses weighs 0.
+    // Uses of both aliases of a module count, uses of a hidden alias don't, and an unused import has weight 0.
     (
         &[
             b"MODULE B; IMPORT A, T := Texts, U := Texts; VAR w: T.Writer; PROCEDURE p(T: SET); BEGIN U.x(A.y, A.z, T.v) END p; END B.",
@@ -34,7 +34,7 @@ fn scopes_of(alloc: Global, text: &[u8]) -> Result<Scopes, Fail> {
     Ok(scopes_from(alloc, &table, tokens.as_slice(), text)?)
 }
 
-/// What the graph of imports is told of a module.
+/// The data of a module for the graph of imports.
 fn parsed_by(alloc: Global, scopes: &Scopes) -> Result<Parsed, AllocError> {
     let mut imports = Vec::new(alloc);
     for alias in scopes.aliases() {
@@ -47,7 +47,7 @@ fn parsed_by(alloc: Global, scopes: &Scopes) -> Result<Parsed, AllocError> {
     })
 }
 
-/// Whether the names of all modules are names.
+/// Whether the names of all modules are identifiers.
 fn are_names(graph: &Graph) -> bool
     ensures { result ≡ true → All (λ n. is_name n ≡ true) graph.now.names }
 {
@@ -59,19 +59,23 @@ fn are_names(graph: &Graph) -> bool
     true
 }
 
-fn told_net(alloc: Global, net: &Net) -> Result<String, AllocError> {
-    let mut told = String::new(alloc);
+fn describe_net(alloc: Global, net: &Net) -> Result<String, AllocError> {
+    let mut description = String::new(alloc);
     for node in 0..net.nodes() {
-        write!(told, "{} ", net.name(node))?;
+        write!(description, "{} ", net.name(node))?;
     }
     for import in net.imports() {
-        write!(told, "{}-{} {}, ", import.from, import.to, import.amount)?;
+        write!(
+            description,
+            "{}-{} {}, ",
+            import.from, import.to, import.amount
+        )?;
     }
-    Ok(told)
+    Ok(description)
 }
 
-/// The network of these texts, and what the other way to make it tells.
-fn told_both(alloc: Global, texts: &[&[u8]]) -> Result<(String, String), Fail> {
+/// The network of these sources, and the result of the other way to make it.
+fn describe_pair(alloc: Global, texts: &[&[u8]]) -> Result<(String, String), Fail> {
     let mut scopes = Vec::new(alloc);
     let mut parsed = Vec::new(alloc);
     for text in texts {
@@ -85,13 +89,13 @@ fn told_both(alloc: Global, texts: &[&[u8]]) -> Result<(String, String), Fail> {
     }
     let first = Net::from_graph(alloc, &graph, scopes.as_slice())?;
     let second = net_of_graph(alloc, &graph, scopes.as_slice())?;
-    Ok((told_net(alloc, &first)?, told_net(alloc, &second)?))
+    Ok((describe_net(alloc, &first)?, describe_net(alloc, &second)?))
 }
 
 #[test]
 fn graphs_have_networks(rt: HostRuntime) -> Result<(), Fail> {
     for (texts, want) in ROWS {
-        let (first, second) = told_both(rt.alloc(), texts)?;
+        let (first, second) = describe_pair(rt.alloc(), texts)?;
         assert_eq!(rt; first.as_str(), *want);
         assert_eq!(rt; second.as_str(), *want);
     }

@@ -1,19 +1,19 @@
-//! From texts to trees and tables.
+//! The readers of trees and tables.
 ghost use Rattle.std.specs.Prelude.{◌<◌, ◌^◌, length, IfOk, Ok};
 ghost use Rattle.ob_parse.specs.Parsed.{IsTheTree};
-ghost use Rattle.ob_rows.specs.Tables.{rows_in};
-ghost use Rattle.ob_rows.specs.Trees.{AreTreeRows};
+ghost use Rattle.module_table.specs.Tables.{rows_in};
+ghost use Rattle.module_table.specs.Trees.{AreTreeRows};
 ghost use Rattle.ob_scan.specs.Spelling.{IsOutcome};
 ghost use Rattle.ob_scope.specs.Identified.{IsIdentifier};
 ghost use Rattle.ob_tree.specs.Derives.{spelling};
 
+use module_table::Table;
 use ob_parse::{ParseFault, parse};
-use ob_rows::Table;
 use ob_scan::{Tokens, scan};
-use ob_table::read_table;
 use ob_tree::declaration::Module;
 use std::alloc::Global;
 use std::test::Fail;
+use table_reader::read_table;
 
 /// The tree of tokens.
 pub(crate) fn parsed(alloc: Global, text: &[u8], tokens: &Tokens) -> Result<Box<Module>, ParseFault>
@@ -28,13 +28,13 @@ pub(crate) fn parsed(alloc: Global, text: &[u8], tokens: &Tokens) -> Result<Box<
     }
 }
 
-/// The table of a text.
+/// The table of a source.
 pub(crate) fn table_in(alloc: Global, text: &[u8]) -> Result<Box<Table>, Fail> {
     let tokens = scan(alloc, text)?;
     table_by_tokens(alloc, text, &tokens)
 }
 
-/// The table of a text with these tokens.
+/// The table of a source with these tokens.
 pub(crate) fn table_by_tokens(
     alloc: Global,
     text: &[u8],

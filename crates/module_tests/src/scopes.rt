@@ -1,6 +1,6 @@
-//! Texts, each with the scopes of its module, or the first two of one name.
+//! Sources with their modules' scopes, or with the first repeated name.
 use crate::asked::Asked::{ByTree, Meanings};
-use crate::asked::{Row, are_told};
+use crate::asked::{Row, check_rows};
 use crate::readings::{parsed, table_by_tokens};
 use ob_scan::laws::tokens_in_text;
 use ob_scan::scan;
@@ -8,8 +8,8 @@ use ob_scope::{Scopes, scopes_from};
 use std::alloc::{AllocError, Global};
 use std::test::Fail;
 
-/// Modules, each with its name, its aliases with their modules, what each use means, and how many names each alias qualifies; or with
-/// the two of one name and their offsets.
+/// Modules with their name, their aliases with the imported modules, the meaning of each use, and the number of names that each alias
+/// qualifies; or with the two declarations of one name and their offsets.
 const ROWS: &[Row] = &[
     (Meanings(b"MODULE Empty; END Empty."), "Empty"),
     (
@@ -20,12 +20,12 @@ const ROWS: &[Row] = &[
         Meanings(b"MODULE M; VAR r: RECORD a, a: SET END; END M."),
         "TwiceField { name: \"a\", first: 24, second: 27 }",
     ),
-    // The first pair is told.
+    // The first repetition is reported.
     (
         Meanings(b"MODULE M; VAR x, y, y, x: INTEGER; END M."),
         "Twice { name: \"y\", first: 17, second: 20 }",
     ),
-    // A parameter stands in the block of its procedure, with the variables there.
+    // A parameter is in the block of its procedure, with the variables there.
     (
         Meanings(b"MODULE M; PROCEDURE p(x: SET); VAR x: SET; END p; END M."),
         "Twice { name: \"x\", first: 22, second: 35 }",
@@ -34,7 +34,7 @@ const ROWS: &[Row] = &[
         Meanings(b"MODULE M; VAR x: SET; PROCEDURE p(x: SET); END p; END M."),
         "M",
     ),
-    // The parameters of a procedure type stand in a block of their own.
+    // The parameters of a procedure type are in a block of their own.
     (
         Meanings(b"MODULE M; PROCEDURE p; VAR y: PROCEDURE (z: SET; z: SET); END p; END M."),
         "Twice { name: \"z\", first: 41, second: 49 }",
@@ -43,12 +43,12 @@ const ROWS: &[Row] = &[
         Meanings(b"MODULE M; PROCEDURE p; VAR y: PROCEDURE (y: SET); END p; END M."),
         "M",
     ),
-    // A record's fields stand in no block, and a record in a record is another one.
+    // The fields of a record are in no block, and a nested record is another record.
     (
         Meanings(b"MODULE M; TYPE R = RECORD R: RECORD R: SET END END; END M."),
         "M",
     ),
-    // A procedure stands in the block around it, and a procedure in it stands in its own.
+    // A procedure is in the enclosing block, and a nested procedure is in its block.
     (
         Meanings(b"MODULE M; VAR p: SET; PROCEDURE p; END p; END M."),
         "Twice { name: \"p\", first: 14, second: 32 }",
@@ -66,7 +66,7 @@ const ROWS: &[Row] = &[
         Meanings(b"MODULE M; IMPORT T := U; VAR U, M: SET; END M."),
         "M, 4 U",
     ),
-    // Two aliases of one module, and the module's own name, which is none.
+    // Two aliases of one module, and the module's own name, which isn't an alias.
     (
         Meanings(
             b"MODULE M; IMPORT T := Texts, U := Texts; VAR a: T.Writer; b: U.Writer; c: Texts.Reader; END M.",
@@ -80,7 +80,7 @@ const ROWS: &[Row] = &[
         ),
         "M, 4 B; 19 means 10",
     ),
-    // The later d of the procedure stands behind its use.
+    // The later declaration of d in the procedure comes after its use.
     (
         Meanings(b"MODULE M; CONST d = 2; PROCEDURE p; CONST c = d; d = 1; END p; END M."),
         "M; 14 means 4",
@@ -117,49 +117,49 @@ const ROWS: &[Row] = &[
     ),
 ];
 
-/// Tells what a token means, and how many names it qualifies.
-fn tell_token(told: &mut String, scopes: &Scopes, token: u32) -> Result<(), AllocError> {
+/// Appends the meaning of a token, and the number of names that it qualifies.
+fn append_token(description: &mut String, scopes: &Scopes, token: u32) -> Result<(), AllocError> {
     if let Some(declared) = scopes.resolve(token) {
-        write!(told, "; {token} means {declared}")?;
+        write!(description, "; {token} means {declared}")?;
     }
     match scopes.qualified_uses(token) {
         0 => Ok(()),
-        uses => write!(told, "; {token} qualifies {uses}"),
+        uses => write!(description, "; {token} qualifies {uses}"),
     }
 }
 
-fn told_of_scopes(alloc: Global, scopes: &Scopes, tokens: u32) -> Result<String, AllocError> {
-    let mut told = String::from_str(alloc, scopes.name())?;
+fn describe_tokens(alloc: Global, scopes: &Scopes, tokens: u32) -> Result<String, AllocError> {
+    let mut description = String::from_str(alloc, scopes.name())?;
     for alias in scopes.aliases() {
-        write!(told, ", {} {}", alias.decl, alias.module)?;
+        write!(description, ", {} {}", alias.decl, alias.module)?;
     }
     for token in 0..tokens {
-        tell_token(&mut told, scopes, token)?;
+        append_token(&mut description, scopes, token)?;
     }
     // No token has the number.
-    tell_token(&mut told, scopes, 4294967295)?;
-    Ok(told)
+    append_token(&mut description, scopes, 4294967295)?;
+    Ok(description)
 }
 
-pub(crate) fn told_scopes(alloc: Global, text: &[u8]) -> Result<String, Fail> {
+pub(crate) fn describe_scopes(alloc: Global, text: &[u8]) -> Result<String, Fail> {
     let tokens = scan(alloc, text)?;
     tokens_in_text();
     let table = table_by_tokens(alloc, text, &tokens)?;
     match scopes_from(alloc, &table, tokens.as_slice(), text) {
-        Ok(scopes) => Ok(told_of_scopes(alloc, &scopes, tokens.len() as u32)?),
+        Ok(scopes) => Ok(describe_tokens(alloc, &scopes, tokens.len() as u32)?),
         Err(fault) => Ok(format!(in alloc; "{fault:?}")?),
     }
 }
 
-pub(crate) fn told_by_tree(alloc: Global, text: &[u8]) -> Result<String, Fail> {
+pub(crate) fn describe_by_tree(alloc: Global, text: &[u8]) -> Result<String, Fail> {
     let tokens = scan(alloc, text)?;
     tokens_in_text();
     let tree = parsed(alloc, text, &tokens)?;
-    let scopes = oscip_tree::scopes(alloc, &tree, &tokens, text)?;
-    Ok(told_of_scopes(alloc, &scopes, tokens.len() as u32)?)
+    let scopes = source_tree::scopes(alloc, &tree, &tokens, text)?;
+    Ok(describe_tokens(alloc, &scopes, tokens.len() as u32)?)
 }
 
 #[test]
 fn scopes_have_one_of_a_name(rt: HostRuntime) -> Result<(), Fail> {
-    are_told(&rt, ROWS)
+    check_rows(&rt, ROWS)
 }

@@ -1,9 +1,9 @@
-//! What is found at a likely place beside what a search finds: both tell the same, in whatever order tokens are asked for.
+//! Lookups from a hint, compared with binary searches: they agree, whatever the order of the tokens.
 
 use crate::asked::Asked::Meanings;
-use crate::asked::{Row, are_told};
+use crate::asked::{Row, check_rows};
 use crate::readings::table_by_tokens;
-use crate::scopes::{told_by_tree, told_scopes};
+use crate::scopes::{describe_by_tree, describe_scopes};
 use ob_scan::laws::tokens_in_text;
 use ob_scan::scan;
 use ob_scope::scopes_from;
@@ -12,8 +12,8 @@ use std::alloc::{AllocError, Global};
 use std::process::Abort;
 use std::test::Fail;
 
-/// Good modules. In some a name is declared in an outer block or record behind an inner one, so that the places of one name don't ascend:
-/// before, at and behind other names, and in the last member.
+/// Valid modules. In some a name is declared in an outer block or record after an inner one, so the indices of its declarations aren't
+/// sorted: first, in the middle and last among other names, and in the last member.
 const TEXTS: &[&[u8]] = &[
     b"MODULE M; END M.",
     b"MODULE M; IMPORT T := Texts, U; TYPE R = RECORD (T.B) a*, b: U.X END; P = POINTER TO R; PROCEDURE p*(VAR x: T.W): R; \
@@ -29,8 +29,8 @@ const TEXTS: &[&[u8]] = &[
     END q; END M.",
 ];
 
-/// Compares what each token means, asked for from the first or from the last on, with this place at the beginning.
-fn compare_near<R: Abort + AllocGlobal>(
+/// Compares the meanings of all tokens, looked up in ascending or descending order, beginning with this hint.
+fn compare_from_hint<R: Abort + AllocGlobal>(
     rt: &R,
     types: &Types,
     tokens: u32,
@@ -41,13 +41,13 @@ fn compare_near<R: Abort + AllocGlobal>(
     for at in 0..tokens {
         let token = if falls { tokens - 1 - at } else { at };
         let want = types.scopes().resolve(token);
-        assert_eq!(rt; types.scopes().resolve_near(&mut near, token), want);
+        assert_eq!(rt; types.scopes().resolve_by_hint(&mut near, token), want);
         assert_eq!(rt; types.meaning(token), want);
-        assert_eq!(rt; types.meaning_near(&mut near_types, token), want);
+        assert_eq!(rt; types.meaning_by_hint(&mut near_types, token), want);
     }
 }
 
-/// Compares them from each place on, also from one where no row stands.
+/// Compares the meanings for each first hint, also for one beyond the table.
 fn compare_meanings<R: Abort + AllocGlobal>(rt: &R, text: &[u8]) -> Result<(), Fail> {
     let alloc = rt.alloc();
     tokens_in_text();
@@ -57,14 +57,14 @@ fn compare_meanings<R: Abort + AllocGlobal>(rt: &R, text: &[u8]) -> Result<(), F
     let types = Types::new(alloc, text, tokens.as_slice(), &table, &scopes, &[])?;
     let count = tokens.len() as u32;
     for begin in 0..count {
-        compare_near(rt, &types, count, begin as usize, false);
-        compare_near(rt, &types, count, begin as usize, true);
+        compare_from_hint(rt, &types, count, begin as usize, false);
+        compare_from_hint(rt, &types, count, begin as usize, true);
     }
     Ok(())
 }
 
 #[test]
-fn a_use_means_the_same_wherever_it_is_looked_for(rt: HostRuntime) -> Result<(), Fail> {
+fn a_use_resolves_alike_from_each_start(rt: HostRuntime) -> Result<(), Fail> {
     for text in TEXTS {
         compare_meanings(&rt, text)?;
     }
@@ -74,46 +74,49 @@ fn a_use_means_the_same_wherever_it_is_looked_for(rt: HostRuntime) -> Result<(),
 #[test]
 fn scopes_of_a_tree_are_those_of_its_table(rt: HostRuntime) -> Result<(), Fail> {
     for text in TEXTS {
-        let want = told_by_tree(rt.alloc(), text)?;
-        let told = told_scopes(rt.alloc(), text)?;
-        assert_eq!(rt; told.as_str(), want.as_str());
+        let want = describe_by_tree(rt.alloc(), text)?;
+        let description = describe_scopes(rt.alloc(), text)?;
+        assert_eq!(rt; description.as_str(), want.as_str());
     }
     Ok(())
 }
 
-/// Where a type of the module's own is written.
-fn tell_node(told: &mut String, node: Option<Node>) -> Result<(), AllocError> {
+/// The location of a type that the module itself declares.
+fn append_node(description: &mut String, node: Option<Node>) -> Result<(), AllocError> {
     match node {
-        Some(Node::Own(place)) => write!(told, " {place}"),
-        Some(_) => told.push_str(" elsewhere"),
-        None => told.push_str(" -"),
+        Some(Node::Own(place)) => write!(description, " {place}"),
+        Some(_) => description.push_str(" elsewhere"),
+        None => description.push_str(" -"),
     }
 }
 
-/// What is told of each of the first tokens: what it declares and means, and where its type and what holds it are.
-fn told_types(alloc: Global, types: &Types, tokens: u32) -> Result<String, AllocError> {
-    let mut told = String::new(alloc);
+/// The lookups of each of the first tokens: what it declares and means, and the locations of its type and of its owner.
+fn describe_types(alloc: Global, types: &Types, tokens: u32) -> Result<String, AllocError> {
+    let mut description = String::new(alloc);
     for token in 0..tokens {
-        let (sort, item) = (types.sort(token), types.item(token));
+        let (decl_kind, item) = (types.decl_kind(token), types.item(token));
         let (owner, meaning) = (types.owner(token), types.meaning(token));
-        write!(&mut told, "{sort:?} {item:?} {owner:?} {meaning:?}")?;
-        tell_node(&mut told, types.form(token))?;
-        told.push_str("; ")?;
+        write!(
+            &mut description,
+            "{decl_kind:?} {item:?} {owner:?} {meaning:?}"
+        )?;
+        append_node(&mut description, types.type_expr(token))?;
+        description.push_str("; ")?;
     }
-    Ok(told)
+    Ok(description)
 }
 
-/// What is told of the first tokens of a text.
-fn told_of_types(alloc: Global, text: &[u8], first: u32) -> Result<String, Fail> {
+/// The lookups of the first tokens of a source.
+fn describe_source_types(alloc: Global, text: &[u8], first: u32) -> Result<String, Fail> {
     tokens_in_text();
     let tokens = scan(alloc, text)?;
     let table = table_by_tokens(alloc, text, &tokens)?;
     let scopes = scopes_from(alloc, &table, tokens.as_slice(), text)?;
     let types = Types::new(alloc, text, tokens.as_slice(), &table, &scopes, &[])?;
-    Ok(told_types(alloc, &types, first)?)
+    Ok(describe_types(alloc, &types, first)?)
 }
 
-/// A module with these declarations and so many semicolons.
+/// A module with these declarations and this many semicolons.
 fn with_semicolons(
     alloc: Global,
     declarations: &[u8],
@@ -140,24 +143,24 @@ const FEW: &[(&[u8], u32)] = &[
     (b"VAR x: ARRAY 1, 2, 3, 4, 5, 6, 7, 8 OF SET;", 24),
 ];
 
-/// Tokens on both sides of where places of rows are kept: at most 256 for each identifier that is declared.
+/// Tokens on both sides of the limit up to which an index of rows is stored: at most 256 for each declared identifier.
 const SEMICOLONS: [usize; 10] = [0, 200, 220, 240, 260, 900, 980, 1000, 1100, 3000];
 
 #[test]
-fn types_are_the_same_where_few_names_are_declared(rt: HostRuntime) -> Result<(), Fail> {
+fn types_of_few_declared_names(rt: HostRuntime) -> Result<(), Fail> {
     for (declarations, first) in FEW {
         let text = with_semicolons(rt.alloc(), declarations, 0)?;
-        let want = told_of_types(rt.alloc(), text.as_slice(), *first)?;
+        let want = describe_source_types(rt.alloc(), text.as_slice(), *first)?;
         for count in SEMICOLONS {
             let text = with_semicolons(rt.alloc(), declarations, count)?;
-            let told = told_of_types(rt.alloc(), text.as_slice(), *first)?;
-            assert_eq!(rt; told.as_str(), want.as_str());
+            let description = describe_source_types(rt.alloc(), text.as_slice(), *first)?;
+            assert_eq!(rt; description.as_str(), want.as_str());
         }
     }
     Ok(())
 }
 
-/// Modules with the first two of one name. Before, at or behind the second of these a name is declared in an outer place behind an inner
+/// Modules with the first repeated name. Before, at or after its second declaration a name is declared in an outer block after an inner
 /// one.
 const TWICE: &[Row] = &[
     (
@@ -195,6 +198,6 @@ const TWICE: &[Row] = &[
 ];
 
 #[test]
-fn the_first_two_of_one_name_are_told(rt: HostRuntime) -> Result<(), Fail> {
-    are_told(&rt, TWICE)
+fn the_first_two_of_one_name_are_reported(rt: HostRuntime) -> Result<(), Fail> {
+    check_rows(&rt, TWICE)
 }

@@ -1,6 +1,6 @@
-//! Worked texts, with the tables of what they declare and use. The rows are counted by hand.
+//! Sources with the tables of what they declare and use, computed by hand.
 use crate::asked::Asked::{ByToken, Forms, Names, Steps};
-use crate::asked::{Row, are_told};
+use crate::asked::{Row, check_rows};
 use crate::readings::table_in;
 use std::alloc::Global;
 use std::test::Fail;
@@ -13,26 +13,26 @@ const TEXT: &[u8] = b"MODULE M; IMPORT A, T := Texts; \
 const STEPS: &[u8] =
     b"MODULE M; PROCEDURE P; BEGIN a.b[x.y, 2](T.U).c(z)^ := q(w[i], 1); END P; END M.";
 
-/// Forms of lists of names, of further lengths, of open arrays, of records in records, and of a name that a pointer of its own list
-/// means.
+/// Type expressions of lists of names, of several lengths, of open arrays, of nested records, and of a name that is declared in its
+/// pointer's own list.
 const FORMS: &[u8] =
     b"MODULE M; TYPE A = ARRAY a, b OF SET; VAR a, T: POINTER TO T; r: RECORD x, y: RECORD (B.C) z: A END END; \
     PROCEDURE p(s, t: ARRAY OF ARRAY OF A; VAR u: B.C); END p; END M.";
 
-/// Each list of the tables of the first two texts, the forms of the third, and what tokens find: the identifier that is declared there,
-/// what begins there and declares, the record, the form, and the selectors.
+/// Each list of the first two sources' tables, the type expressions of the third, and the lookups of tokens: the declared identifier, the
+/// construct that begins there and declares, the record, the type expression, and the selectors.
 const ROWS: &[Row] = &[
     (
         Names(TEXT),
-        "[Declarer { sort: Import, first: 4, last: 4, block: 0, of_record: None }, \
-         Declarer { sort: Import, first: 6, last: 8, block: 0, of_record: None }, \
-         Declarer { sort: Type, first: 11, last: 33, block: 0, of_record: None }, \
-         Declarer { sort: Field, first: 20, last: 32, block: 0, of_record: Some(14) }, \
-         Declarer { sort: Variable, first: 36, last: 38, block: 0, of_record: None }, \
-         Declarer { sort: Procedure, first: 40, last: 88, block: 0, of_record: None }, \
-         Declarer { sort: Parameter, first: 44, last: 53, block: 40, of_record: None }, \
-         Declarer { sort: Variable, first: 59, last: 68, block: 40, of_record: None }, \
-         Declarer { sort: Parameter, first: 63, last: 65, block: 61, of_record: None }] \
+        "[DeclGroup { decl_kind: Import, first: 4, last: 4, block: 0, of_record: None }, \
+         DeclGroup { decl_kind: Import, first: 6, last: 8, block: 0, of_record: None }, \
+         DeclGroup { decl_kind: Type, first: 11, last: 33, block: 0, of_record: None }, \
+         DeclGroup { decl_kind: Field, first: 20, last: 32, block: 0, of_record: Some(14) }, \
+         DeclGroup { decl_kind: Variable, first: 36, last: 38, block: 0, of_record: None }, \
+         DeclGroup { decl_kind: Procedure, first: 40, last: 88, block: 0, of_record: None }, \
+         DeclGroup { decl_kind: Parameter, first: 44, last: 53, block: 40, of_record: None }, \
+         DeclGroup { decl_kind: Variable, first: 59, last: 68, block: 40, of_record: None }, \
+         DeclGroup { decl_kind: Parameter, first: 63, last: 65, block: 61, of_record: None }] \
          [Declared { number: 4, exported: false, declared_by: 4 }, Declared { number: 6, exported: false, declared_by: 6 }, \
          Declared { number: 11, exported: true, declared_by: 11 }, Declared { number: 20, exported: true, declared_by: 20 }, \
          Declared { number: 23, exported: false, declared_by: 20 }, Declared { number: 36, exported: false, declared_by: 36 }, \
@@ -53,24 +53,24 @@ const ROWS: &[Row] = &[
     ),
     (
         Forms(TEXT),
-        "[FormPart { declared_by: 11, number: 14, part: Record }, FormPart { declared_by: 20, number: 25, part: Array }, \
-         FormPart { declared_by: 20, number: 27, part: Array }, FormPart { declared_by: 20, number: 30, part: Pointer }, \
-         FormPart { declared_by: 20, number: 32, part: Named(None) }, \
-         FormPart { declared_by: 36, number: 38, part: Named(None) }, FormPart { declared_by: 44, number: 49, part: Array }, \
-         FormPart { declared_by: 44, number: 51, part: Named(Some(53)) }, \
-         FormPart { declared_by: 59, number: 61, part: Procedure }, FormPart { declared_by: 63, number: 65, part: Named(None) }] \
+        "[TypePart { declared_by: 11, number: 14, part: Record }, TypePart { declared_by: 20, number: 25, part: Array }, \
+         TypePart { declared_by: 20, number: 27, part: Array }, TypePart { declared_by: 20, number: 30, part: Pointer }, \
+         TypePart { declared_by: 20, number: 32, part: Named(None) }, \
+         TypePart { declared_by: 36, number: 38, part: Named(None) }, TypePart { declared_by: 44, number: 49, part: Array }, \
+         TypePart { declared_by: 44, number: 51, part: Named(Some(53)) }, \
+         TypePart { declared_by: 59, number: 61, part: Procedure }, TypePart { declared_by: 63, number: 65, part: Named(None) }] \
          [Block { first: 40, outer: 0 }, Block { first: 61, outer: 40 }] [Import { alias: 4, imported: 4 }, Import { alias: 6, imported: 8 }] \
          [Record { number: 14, owner: 11, base: Some(TypeName { head: 16, member: Some(18) }) }] \
          [End { number: 88, of: Some(41) }, End { number: 91, of: None }] 1",
     ),
     (
         Forms(FORMS),
-        "[FormPart { declared_by: 4, number: 6, part: Array }, FormPart { declared_by: 4, number: 8, part: Array }, \
-         FormPart { declared_by: 4, number: 11, part: Named(None) }, FormPart { declared_by: 14, number: 18, part: Pointer }, \
-         FormPart { declared_by: 14, number: 20, part: Named(None) }, FormPart { declared_by: 22, number: 24, part: Record }, \
-         FormPart { declared_by: 25, number: 29, part: Record }, FormPart { declared_by: 35, number: 37, part: Named(None) }, \
-         FormPart { declared_by: 44, number: 48, part: Array }, FormPart { declared_by: 44, number: 50, part: Array }, \
-         FormPart { declared_by: 44, number: 52, part: Named(None) }, FormPart { declared_by: 54, number: 57, part: Named(Some(59)) }] \
+        "[TypePart { declared_by: 4, number: 6, part: Array }, TypePart { declared_by: 4, number: 8, part: Array }, \
+         TypePart { declared_by: 4, number: 11, part: Named(None) }, TypePart { declared_by: 14, number: 18, part: Pointer }, \
+         TypePart { declared_by: 14, number: 20, part: Named(None) }, TypePart { declared_by: 22, number: 24, part: Record }, \
+         TypePart { declared_by: 25, number: 29, part: Record }, TypePart { declared_by: 35, number: 37, part: Named(None) }, \
+         TypePart { declared_by: 44, number: 48, part: Array }, TypePart { declared_by: 44, number: 50, part: Array }, \
+         TypePart { declared_by: 44, number: 52, part: Named(None) }, TypePart { declared_by: 54, number: 57, part: Named(Some(59)) }] \
          [Block { first: 41, outer: 0 }] [] \
          [Record { number: 24, owner: 22, base: None }, Record { number: 29, owner: 25, base: Some(TypeName { head: 31, member: Some(33) }) }] \
          [End { number: 63, of: Some(42) }, End { number: 66, of: None }] 1",
@@ -90,7 +90,7 @@ const ROWS: &[Row] = &[
     (ByToken(STEPS, 6), "None None None [] []"),
     (
         ByToken(STEPS, 3),
-        "None Some(Declarer { sort: Procedure, first: 3, last: 40, block: 0, of_record: None }) None [] []",
+        "None Some(DeclGroup { decl_kind: Procedure, first: 3, last: 40, block: 0, of_record: None }) None [] []",
     ),
     (
         ByToken(STEPS, 18),
@@ -99,13 +99,13 @@ const ROWS: &[Row] = &[
     (ByToken(STEPS, 4294967295), "None None None [] []"),
 ];
 
-pub(crate) fn told_names(alloc: Global, text: &[u8]) -> Result<String, Fail> {
+pub(crate) fn describe_names(alloc: Global, text: &[u8]) -> Result<String, Fail> {
     let table = table_in(alloc, text)?;
-    let (declarers, declared, uses) = (table.declarers(), table.declared(), table.uses());
-    Ok(format!(in alloc; "{declarers:?} {declared:?} {uses:?}")?)
+    let (decl_groups, declared, uses) = (table.decl_groups(), table.declared(), table.uses());
+    Ok(format!(in alloc; "{decl_groups:?} {declared:?} {uses:?}")?)
 }
 
-pub(crate) fn told_forms(alloc: Global, text: &[u8]) -> Result<String, Fail> {
+pub(crate) fn describe_type_exprs(alloc: Global, text: &[u8]) -> Result<String, Fail> {
     let table = table_in(alloc, text)?;
     let (parts, blocks, imports, records) = (
         table.parts(),
@@ -113,28 +113,28 @@ pub(crate) fn told_forms(alloc: Global, text: &[u8]) -> Result<String, Fail> {
         table.imports(),
         table.records(),
     );
-    let (ends, name) = (table.ends(), table.own_name());
+    let (ends, name) = (table.ends(), table.module_name_token());
     Ok(format!(in alloc; "{parts:?} {blocks:?} {imports:?} {records:?} {ends:?} {name}")?)
 }
 
-pub(crate) fn told_steps(alloc: Global, text: &[u8]) -> Result<String, Fail> {
+pub(crate) fn describe_steps(alloc: Global, text: &[u8]) -> Result<String, Fail> {
     let table = table_in(alloc, text)?;
     let (designators, selectors) = (table.designators(), table.selectors());
     Ok(format!(in alloc; "{designators:?} {selectors:?}")?)
 }
 
-pub(crate) fn told_by_token(alloc: Global, text: &[u8], token: u32) -> Result<String, Fail> {
+pub(crate) fn describe_token(alloc: Global, text: &[u8], token: u32) -> Result<String, Fail> {
     let table = table_in(alloc, text)?;
-    let (declaration, declarer) = (table.declaration(token), table.declarer(token));
-    let (record, form, selectors) = (
+    let (declaration, decl_group) = (table.declaration(token), table.decl_group(token));
+    let (record, type_expr, selectors) = (
         table.record(token),
-        table.form(token),
+        table.type_expr(token),
         table.selectors_of(token),
     );
-    Ok(format!(in alloc; "{declaration:?} {declarer:?} {record:?} {form:?} {selectors:?}")?)
+    Ok(format!(in alloc; "{declaration:?} {decl_group:?} {record:?} {type_expr:?} {selectors:?}")?)
 }
 
 #[test]
 fn tables_have_their_rows(rt: HostRuntime) -> Result<(), Fail> {
-    are_told(&rt, ROWS)
+    check_rows(&rt, ROWS)
 }

@@ -1,11 +1,11 @@
-//! Texts, each with its tokens, and places in texts.
+//! Sources with their tokens, and locations of offsets.
 use crate::asked::Asked::{Place, Tokens, TooLong};
-use crate::asked::{Row, are_told};
+use crate::asked::{Row, check_rows};
 use ob_scan::{lines, position, scan};
 use std::alloc::{AllocError, Global};
 use std::test::Fail;
 
-/// Texts, each with its tokens or its fault, and offsets in texts, each with its line and its column.
+/// Sources with their tokens or fault, and offsets with their lines and columns.
 const ROWS: &[Row] = &[
     // Numbers.
     (
@@ -83,15 +83,15 @@ const ROWS: &[Row] = &[
     (Place(b"ab\r\ncd", 4), "1 0"),
     (Place(b"ab\rcd", 3), "1 0"),
     (Place(b"abcd", 3), "0 3"),
-    // Ends of texts.
+    // Ends of sources.
     (Place(b"ab\ncd", 5), "1 2"),
     (Place(b"ab\n\n", 4), "2 0"),
     (Place(b"ab\r", 3), "1 0"),
     (Place(b"", 0), "0 0"),
 ];
 
-/// The tokens of a text, each with its kind and its two offsets, or why it has none.
-pub(crate) fn told_tokens(alloc: Global, text: &[u8]) -> Result<String, AllocError> {
+/// The tokens of a source, each with its kind and both offsets, or the fault.
+pub(crate) fn describe_token_list(alloc: Global, text: &[u8]) -> Result<String, AllocError> {
     let tokens = match scan(alloc, text) {
         Ok(tokens) => tokens,
         Err(fault) => return format!(in alloc; "{fault}"),
@@ -103,8 +103,12 @@ pub(crate) fn told_tokens(alloc: Global, text: &[u8]) -> Result<String, AllocErr
     Ok(all)
 }
 
-/// The line and the column of an offset, as the text and as its lines tell them.
-pub(crate) fn told_place(alloc: Global, text: &[u8], offset: u32) -> Result<String, AllocError> {
+/// The line and the column of an offset, by the source and by the table of its lines.
+pub(crate) fn describe_location(
+    alloc: Global,
+    text: &[u8],
+    offset: u32,
+) -> Result<String, AllocError> {
     if offset as usize > text.len() {
         return String::from_str(alloc, "no place");
     }
@@ -116,6 +120,6 @@ pub(crate) fn told_place(alloc: Global, text: &[u8], offset: u32) -> Result<Stri
 }
 
 #[test]
-fn texts_have_tokens_and_places(rt: HostRuntime) -> Result<(), Fail> {
-    are_told(&rt, ROWS)
+fn sources_have_tokens_and_locations(rt: HostRuntime) -> Result<(), Fail> {
+    check_rows(&rt, ROWS)
 }

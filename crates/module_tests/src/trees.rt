@@ -1,6 +1,6 @@
-//! Texts, each with the value of its first statement. Identifiers and literals are told by the numbers of their tokens.
+//! Sources with the value of their first statement. Identifiers and literals are shown by the numbers of their tokens.
 use crate::asked::Asked::Value;
-use crate::asked::{Row, are_told};
+use crate::asked::{Row, check_rows};
 use crate::readings::parsed;
 use ob_scan::scan;
 use ob_tree::declaration::Module;
@@ -25,37 +25,37 @@ const ROWS: &[Row] = &[
     ),
 ];
 
-/// Tells a name or a literal, as `6` or `Real 6`.
-fn tell_factor(told: &mut String, factor: &Factor) -> Result<(), AllocError> {
+/// Appends a name or a literal, as `6` or `Real 6`.
+fn append_factor(description: &mut String, factor: &Factor) -> Result<(), AllocError> {
     match factor {
-        Factor::Name(designator) => write!(told, "{}", designator.head),
-        Factor::Value(literal, number) => write!(told, "{literal:?} {number}"),
-        _ => told.push_str("another"),
+        Factor::Name(designator) => write!(description, "{}", designator.head),
+        Factor::Value(literal, number) => write!(description, "{literal:?} {number}"),
+        _ => description.push_str("another"),
     }
 }
 
-/// Tells the factors with their operators.
-fn tell_term(told: &mut String, term: &Term) -> Result<(), AllocError> {
-    tell_factor(told, &term.first)?;
+/// Appends the factors with their operators.
+fn append_term(description: &mut String, term: &Term) -> Result<(), AllocError> {
+    append_factor(description, &term.first)?;
     for (operator, factor) in &term.rest {
-        write!(told, " {operator:?} ")?;
-        tell_factor(told, factor)?;
+        write!(description, " {operator:?} ")?;
+        append_factor(description, factor)?;
     }
     Ok(())
 }
 
-/// Tells the terms with their operators, each in parentheses.
-fn tell_sum(told: &mut String, sum: &SimpleExpression) -> Result<(), AllocError> {
-    told.push_str("(")?;
-    tell_term(told, &sum.first)?;
+/// Appends the terms with their operators, each in parentheses.
+fn append_sum(description: &mut String, sum: &SimpleExpression) -> Result<(), AllocError> {
+    description.push_str("(")?;
+    append_term(description, &sum.first)?;
     for (operator, term) in &sum.rest {
-        write!(told, ") {operator:?} (")?;
-        tell_term(told, term)?;
+        write!(description, ") {operator:?} (")?;
+        append_term(description, term)?;
     }
-    told.push_str(")")
+    description.push_str(")")
 }
 
-/// What the first statement assigns.
+/// The value of the first statement's assignment.
 fn value_of(module: &Module) -> Option<&Expr> {
     match &module.body.as_ref()?.first {
         Stmt::Assign(_, value) => Some(value),
@@ -63,22 +63,22 @@ fn value_of(module: &Module) -> Option<&Expr> {
     }
 }
 
-fn told_of_tree(alloc: Global, tree: &Module) -> Result<String, AllocError> {
-    let mut told = String::new(alloc);
+fn describe_syntax(alloc: Global, tree: &Module) -> Result<String, AllocError> {
+    let mut description = String::new(alloc);
     match value_of(tree) {
-        Some(value) => tell_sum(&mut told, &value.left)?,
-        None => told.push_str("none")?,
+        Some(value) => append_sum(&mut description, &value.left)?,
+        None => description.push_str("none")?,
     }
-    Ok(told)
+    Ok(description)
 }
 
-pub(crate) fn told_value(alloc: Global, text: &[u8]) -> Result<String, Fail> {
+pub(crate) fn describe_value(alloc: Global, text: &[u8]) -> Result<String, Fail> {
     let tokens = scan(alloc, text)?;
     let tree = parsed(alloc, text, &tokens)?;
-    Ok(told_of_tree(alloc, &tree)?)
+    Ok(describe_syntax(alloc, &tree)?)
 }
 
 #[test]
 fn operators_bind_their_operands(rt: HostRuntime) -> Result<(), Fail> {
-    are_told(&rt, ROWS)
+    check_rows(&rt, ROWS)
 }

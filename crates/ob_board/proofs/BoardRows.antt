@@ -11,7 +11,7 @@ use Rattle.digraph.specs.declared.edge.Edge.{Edge}
 use Rattle.digraph.specs.Edges.{Leads}
 use Rattle.digraph.proofs.Members.{from_map, in_filter, in_map, no_member, of_filter}
 use Rattle.ob_imports.specs.Graphs.{imported, ImportGraph, IsGraph as IsImportGraph}
-use Rattle.work_board.specs.Graphs.{row_at, IsGraph, RowLeads}
+use Rattle.work_board.specs.Graphs.{list_at, IsGraph, RowLeads}
 use Rattle.ob_board.specs.Boards.{modules_of, rows_below, tree_imports}
 
 row_leads : (ps : List Edge) (v w : ℕ) → Contains (imported ps v) w → Leads ps v w
@@ -28,10 +28,10 @@ leads_row ps v w leads =
     (in_filter (λ (p : Edge). p.from == v) ps (record { from = v; to = w }) (eq-eqb v v refl) leads)
 
 module _ (g : ImportGraph) where
-  pub row_is : (v : ℕ) → v < g.modules → row_at (rows_below g g.modules) v ≡ tree_imports g v
+  pub row_is : (v : ℕ) → v < g.modules → list_at (rows_below g g.modules) v ≡ tree_imports g v
   row_is v lt = get_or-map-range_with_len (tree_imports g) 0 g.modules v v [] lt (omega arith)
 
-  row_past : (v : ℕ) → g.modules ≤ v → row_at (rows_below g g.modules) v ≡ []
+  row_past : (v : ℕ) → g.modules ≤ v → list_at (rows_below g g.modules) v ≡ []
   row_past v le = let l = length-map-range_with_len (tree_imports g) 0 g.modules in get_or_past (rows_below g g.modules) v [] (omega arith)
 
   -- an import of a row leads between modules of the tree
@@ -75,7 +75,7 @@ board_is_graph g is =
         | inr le ↦ let e = ap length (row_past g v le) in omega arith
       ];
       within = λ v k d lt.
-          let leads : RowLeads (rows_below g g.modules) v _ = Contains-get_or (row_at (rows_below g g.modules) v) k d lt in
+          let leads : RowLeads (rows_below g g.modules) v _ = Contains-get_or (list_at (rows_below g g.modules) v) k d lt in
           let below = (leads_on g v _ leads).1 in
           omega arith;
     }

@@ -14,7 +14,7 @@ use Rattle.std.proofs.lemmas.Map.Keys.{apart_from_distinct}
 use Rattle.digraph.proofs.Ascending.{same_members}
 use Rattle.digraph.proofs.Names.{below, same_is}
 use Rattle.ob_interface.specs.Interfaces.{ModuleInterface}
-use Rattle.ob_types.specs.Homes.{AreByName}
+use Rattle.ob_types.specs.ModuleNumbers.{AreByName}
 use Rattle.ob_types.proofs.Ascending.{less}
 
 -- what is sorted by names that are apart ascends

@@ -8,23 +8,23 @@ use Rattle.digraph.specs.Edges.{Leads}
 use Rattle.digraph.proofs.Members.{in_map}
 use Rattle.ob_imports.specs.Files.{names_of, File, Imports}
 use Rattle.ob_imports.specs.Graphs.{ImportGraph, IsGraphOf}
-use Rattle.ob_imports.specs.Numbering.{place_of}
+use Rattle.ob_imports.specs.Numbering.{index_or_len}
 use Rattle.ob_imports.specs.Outcomes.{AreFilesOfGraph}
 use Rattle.ob_imports.proofs.Places.{name_at, place_within}
 use Rattle.work_board.specs.Graphs.{IsAcyclic, IsChain, RowLeads, Reaches}
 use Rattle.ob_board.specs.Boards.{rows_below}
-use Rattle.ob_board.specs.Reached.{file_of, files_of, names, ReachesAlike, ReachesName, SeenFile}
+use Rattle.ob_board.specs.Reached.{file_of, files_of, names, HasSameReach, ReachesName, FileModel}
 use Rattle.ob_board.proofs.BoardRows.{leads_in, leads_on}
 
 -- a chain on the board is one by what its imports keep
-module _ {N : Type 0} (rows : List (List ℕ)) (H : N → N → Type 0) (to : ℕ → N) (keeps : (v w : ℕ) → RowLeads rows v w → H (to v) (to w)) where
+module _ {N : Type 0} (rows : List (List ℕ)) (H : N → N → Type 0) (to : ℕ → N) (invariants : (v w : ℕ) → RowLeads rows v w → H (to v) (to w)) where
   chain_to : (v : ℕ) (more : List ℕ) (b : ℕ) → IsChain rows v more b → (list : List N) × IsChainBy H (to v) list (to b)
-  chain_to v [] b leads = (to b ∷ [], (keeps v b leads, refl))
-  chain_to v (w ∷ more) b chain = let rest = chain_to w more b chain.1 in (to w ∷ rest.0, (keeps v w chain.0, rest.1))
+  chain_to v [] b leads = (to b ∷ [], (invariants v b leads, refl))
+  chain_to v (w ∷ more) b chain = let rest = chain_to w more b chain.1 in (to w ∷ rest.0, (invariants v w chain.0, rest.1))
 
   pub reaches_to : (v b : ℕ) → Reaches rows v b → (n : N) × H (to v) n × ((list : List N) × IsChainBy H n list (to b))
-  reaches_to v b ([], leads) = (to b, keeps v b leads, ([], refl))
-  reaches_to v b (w ∷ more, chain) = (to w, keeps v w chain.0, chain_to w more b chain.1)
+  reaches_to v b ([], leads) = (to b, invariants v b leads, ([], refl))
+  reaches_to v b (w ∷ more, chain) = (to w, invariants v w chain.0, chain_to w more b chain.1)
 
 -- no chain of imports of each other comes back
 pub acyclic_board : (g : ImportGraph) → IsAcyclicBy (Leads g.pairs) → IsAcyclic (rows_below g g.modules)
@@ -32,7 +32,7 @@ acyclic_board g none v back =
     let (n, leads, chain) = reaches_to (rows_below g g.modules) (Leads g.pairs) (λ (x : ℕ). x) (λ x y h. (leads_on g x y h).2) v v back in
     none v n leads chain
 
-module _ (files : List SeenFile) (g : ImportGraph) (kept : AreFilesOfGraph (files_of files) g) where
+module _ (files : List FileModel) (g : ImportGraph) (kept : AreFilesOfGraph (files_of files) g) where
   abbrev is_graph : IsGraphOf (files_of files) g
   is_graph = kept.is_graph
 
@@ -61,7 +61,7 @@ module _ (files : List SeenFile) (g : ImportGraph) (kept : AreFilesOfGraph (file
       let long : length g.names ≡ length of_files + length is_graph.nodes.others = ap length is_graph.nodes.whole ∙ length-append of_files is_graph.nodes.others in
       omega arith
 
-  pub name_of_file : (v : ℕ) (file : SeenFile) → slice_get files v ≡ Some file → slice_get g.names v ≡ Some (names file 1)
+  pub name_of_file : (v : ℕ) (file : FileModel) → slice_get files v ≡ Some file → slice_get g.names v ≡ Some (names file 1)
   name_of_file v file at =
       at_front v (names file 1)
       (slice_get-map (λ (f : File). f.name) (files_of files) v ∙ ap (option_map (λ (f : File). f.name)) (slice_get-map file_of files v ∙ ap (option_map file_of) at))
@@ -83,10 +83,10 @@ module _ (files : List SeenFile) (g : ImportGraph) (kept : AreFilesOfGraph (file
   number : (m n : List ℕ) → Imports (files_of files) m n → (v : ℕ) × (v < g.modules) × (slice_get g.names v ≡ Some m)
   number m n (f, has, is, imports) =
       let there : Contains of_files m = subst (Contains of_files) is (in_map (λ (x : File). x.name) (files_of files) f has) in
-      let lt : place_of of_files m < length of_files = place_within of_files m there in
+      let lt : index_or_len of_files m < length of_files = place_within of_files m there in
       let many = as_many in
       let l = count in
-      (place_of of_files m, omega arith, at_front (place_of of_files m) m (name_at of_files m there))
+      (index_or_len of_files m, omega arith, at_front (index_or_len of_files m) m (name_at of_files m there))
 
   -- by names between modules of the tree it is so by numbers
   reaches_back : (end : ℕ) (last : List ℕ) → end < g.modules → slice_get g.names end ≡ Some last → (more : List (List ℕ)) (v : ℕ) (m w : List ℕ) → v < g.modules → slice_get g.names v ≡ Some m
@@ -110,7 +110,7 @@ module _ (files : List SeenFile) (g : ImportGraph) (kept : AreFilesOfGraph (file
     reaches_numbers v b m n lt below at_v at_b,
   )
 
-  pub reaches_alike : ReachesAlike files g
+  pub reaches_alike : HasSameReach files g
   reaches_alike v w m n at_v at_w =
       let many = as_many in
       let v_below = slice_get_within files v m at_v in

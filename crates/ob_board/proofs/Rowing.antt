@@ -1,11 +1,11 @@
 -- Rows one behind the other.
 use Rattle.std.proofs.Common.{ℕ, List, [], ◌∷◌, ◌++◌}
 use Rattle.ob_scan.specs.declared.token.Token.{Token}
-use Rattle.ob_board.specs.Unresolved.{AreUnresolvedRows, IsRow, PlainUnresolved}
+use Rattle.ob_board.specs.Unresolved.{AreUnresolvedRows, IsRow, UnresolvedModel}
 
-pub rows_more : (path bytes : List ℕ) (ts : List Token) (ks : List ℕ) (rows : List PlainUnresolved) (k : ℕ) (row : PlainUnresolved) → AreUnresolvedRows path bytes ts ks rows → IsRow path bytes ts k row
+pub rows_more : (path bytes : List ℕ) (ts : List Token) (ks : List ℕ) (rows : List UnresolvedModel) (k : ℕ) (row : UnresolvedModel) → AreUnresolvedRows path bytes ts ks rows → IsRow path bytes ts k row
     → AreUnresolvedRows path bytes ts (ks ++ k ∷ []) (rows ++ row ∷ [])
-rows_more path bytes ts [] [] k row are is = (is, tt)
-rows_more path bytes ts [] (r ∷ rows) k row are is = absurd are
-rows_more path bytes ts (j ∷ ks) [] k row are is = absurd are
-rows_more path bytes ts (j ∷ ks) (r ∷ rows) k row are is = (are.0, rows_more path bytes ts ks rows k row are.1 is)
+rows_more path bytes ts [] [] k row output_is is = (is, tt)
+rows_more path bytes ts [] (r ∷ rows) k row output_is is = absurd output_is
+rows_more path bytes ts (j ∷ ks) [] k row output_is is = absurd output_is
+rows_more path bytes ts (j ∷ ks) (r ∷ rows) k row output_is is = (output_is.0, rows_more path bytes ts ks rows k row output_is.1 is)

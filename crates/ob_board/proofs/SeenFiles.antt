@@ -10,21 +10,21 @@ use Rattle.ob_imports.specs.Outcomes.{AreFilesOfGraph}
 use Rattle.ob_interface.specs.Interfaces.{interface_of}
 use Rattle.ob_scan.specs.Spelling.{IsOutcome}
 use Rattle.ob_scope.specs.Scoped.{AreScopes}
-use Rattle.oscip_tree.specs.Trees.{files_of as files_told, file_of as file_told, IsAccepted, ModuleFile}
-use Rattle.oscip_tree.specs.Parts.{ArePartsOf, AreAllParts}
-use Rattle.oscip_tree.specs.declared.parts.ModuleParts.{ModuleParts}
-use Rattle.oscip_tree.specs.declared.source.Source.{Source}
-use Rattle.oscip_tree.proofs.TreeFiles.{there}
-use Rattle.ob_board.specs.Reached.{files_of, seen_of, SeenFile}
-use Rattle.ob_board.specs.Seen.{all_seen, seen_in, AreSourcesRead}
+use Rattle.source_tree.specs.Trees.{files_of as files_told, file_of as file_told, IsAccepted, ModuleFile}
+use Rattle.source_tree.specs.Parts.{ArePartsOf, AreAllParts}
+use Rattle.source_tree.specs.declared.parts.ModuleParts.{ModuleParts}
+use Rattle.source_tree.specs.declared.source.Source.{Source}
+use Rattle.source_tree.proofs.TreeFiles.{there}
+use Rattle.ob_board.specs.Reached.{files_of, file_model, FileModel}
+use Rattle.ob_board.specs.Seen.{file_models, file_model_in, AreSourcesRead}
 
-is_seen : (s : Source) (file : ModuleFile) (parts : ModuleParts) → IsAccepted s file → ArePartsOf file parts → seen_in s parts ≡ seen_of file
-is_seen s file parts accepted are = λ k. record { path = sym accepted.path_is k; bytes = sym accepted.bytes_are k; tokens = are.tokens_are k; rows = are.table_is k }
+is_read : (s : Source) (file : ModuleFile) (parts : ModuleParts) → IsAccepted s file → ArePartsOf file parts → file_model_in s parts ≡ file_model file
+is_read s file parts accepted output_is = λ k. record { path = sym accepted.path_is k; bytes = sym accepted.bytes_are k; tokens = output_is.tokens_are k; rows = output_is.table_is k }
 
 -- what the parts are of is what was read
 seen_files : (sources : List Source) (modules : List (Box ModuleParts Global)) (files : List ModuleFile) → length files ≡ length sources → length modules ≡ length files
-    → ((k : ℕ) (s : Source) (file : ModuleFile) (m : Box ModuleParts Global) → slice_get sources k ≡ Some s → slice_get files k ≡ Some file → slice_get modules k ≡ Some m → seen_in s m.value ≡ seen_of file)
-    → all_seen sources modules ≡ map seen_of files
+    → ((k : ℕ) (s : Source) (file : ModuleFile) (m : Box ModuleParts Global) → slice_get sources k ≡ Some s → slice_get files k ≡ Some file → slice_get modules k ≡ Some m → file_model_in s m.value ≡ file_model file)
+    → file_models sources modules ≡ map file_model files
 seen_files [] modules [] p q each = refl
 seen_files [] modules (f ∷ files) p q each = absurd (omega arith)
 seen_files (s ∷ sources) modules [] p q each = absurd (omega arith)
@@ -32,15 +32,15 @@ seen_files (s ∷ sources) [] (f ∷ files) p q each = absurd (omega arith)
 seen_files (s ∷ sources) (m ∷ modules) (f ∷ files) p q each =
     let rest = seen_files sources modules files (omega arith) (omega arith) (λ k a b c at_a at_b at_c. each (suc k) a b c at_a at_b at_c) in
     let first = each zero s f m refl refl refl in
-    ap (λ (x : SeenFile). x ∷ all_seen sources modules) first ∙ ap (λ (xs : List SeenFile). seen_of f ∷ xs) rest
+    ap (λ (x : FileModel). x ∷ file_models sources modules) first ∙ ap (λ (xs : List FileModel). file_model f ∷ xs) rest
 
-told_seen : (files : List ModuleFile) → files_of (map seen_of files) ≡ files_told files
+told_seen : (files : List ModuleFile) → files_of (map file_model files) ≡ files_told files
 told_seen [] = refl
 told_seen (f ∷ files) = ap (λ (fs : List File). file_told f ∷ fs) (told_seen files)
 
 module _ (sources : List Source) (files : List ModuleFile) (modules : List (Box ModuleParts Global)) (all : AreAllParts sources files modules) where
-  pub seen_are : all_seen sources modules ≡ map seen_of files
-  seen_are = seen_files sources modules files all.accepted.as_many all.as_many (λ k s file m at_s at_f at_m. is_seen s file m.value (all.accepted.each k s file at_s at_f) (all.each k file m at_f at_m))
+  pub seen_are : file_models sources modules ≡ map file_model files
+  seen_are = seen_files sources modules files all.accepted.as_many all.as_many (λ k s file m at_s at_f at_m. is_read s file m.value (all.accepted.each k s file at_s at_f) (all.each k file m at_f at_m))
 
   pub parts_seen : (g : ImportGraph) → AreFilesOfGraph (files_told files) g → AreSourcesRead sources modules g
   parts_seen g kept = record {
@@ -50,15 +50,15 @@ module _ (sources : List Source) (files : List ModuleFile) (modules : List (Box 
         let many = all.accepted.as_many in
         let (file, at_f) = there files k (omega arith) in
         let accepted = all.accepted.each k s file at_s at_f in
-        let are = all.each k file m at_f at_m in
-        let same = is_seen s file m.value accepted are in
-        let P : SeenFile → Type 0 = λ x. IsOutcome x.bytes (Ok x.tokens) in
-        let Q : SeenFile → Type 0 = λ x. AreScopes x.bytes x.tokens x.rows m.value.scopes in
-        let R : SeenFile → Type 0 = λ x. arc_value m.value.interface ≡ interface_of x.bytes x.tokens x.rows in
+        let output_is = all.each k file m at_f at_m in
+        let same = is_read s file m.value accepted output_is in
+        let P : FileModel → Type 0 = λ x. IsOutcome x.bytes (Ok x.tokens) in
+        let Q : FileModel → Type 0 = λ x. AreScopes x.bytes x.tokens x.rows m.value.scopes in
+        let R : FileModel → Type 0 = λ x. arc_value m.value.interface ≡ interface_of x.bytes x.tokens x.rows in
         record {
           reads = subst P (sym same) accepted.reads;
-          scopes = subst Q (sym same) are.scopes_are;
-          interface = subst R (sym same) are.interface_is;
+          scopes = subst Q (sym same) output_is.scopes_are;
+          interface = subst R (sym same) output_is.interface_is;
         };
     kept = subst (λ (fs : List File). AreFilesOfGraph fs g) (sym (ap files_of seen_are ∙ told_seen files)) kept;
   }

@@ -25,27 +25,27 @@ use Rattle.ob_imports.specs.Files.{names_of, Imports}
 use Rattle.ob_imports.specs.Graphs.{ImportGraph}
 use Rattle.ob_interface.specs.Interfaces.{imported_of, Imported, ModuleInterface}
 use Rattle.ob_interface.specs.Placed.{module_named}
-use Rattle.ob_rows.specs.declared.rows.Import.{Import}
-use Rattle.oscip_tree.specs.declared.parts.ModuleParts.{ModuleParts}
-use Rattle.oscip_tree.specs.declared.source.Source.{Source}
+use Rattle.module_table.specs.declared.rows.Import.{Import}
+use Rattle.source_tree.specs.declared.parts.ModuleParts.{ModuleParts}
+use Rattle.source_tree.specs.declared.source.Source.{Source}
 use Rattle.ob_scan.specs.declared.token.Token.{Token}
 use Rattle.ob_scan.specs.Texts.{text_at}
-use Rattle.ob_types.specs.Homes.{home_in}
+use Rattle.ob_types.specs.ModuleNumbers.{module_number_in}
 use Rattle.ob_types.specs.Within.{AreWithin}
 use Rattle.ob_types.proofs.Ascending.{found}
 use Rattle.ob_types.proofs.Within.{placed}
 use Rattle.ob_scope.proofs.Elements.{contains_slice, some_one}
-use Rattle.ob_board.specs.Ahead.{AreAllByName, IsAheadOf, ServesAmong}
-use Rattle.ob_board.specs.declared.ahead.Ahead.{Ahead}
+use Rattle.ob_board.specs.PrecomputedChains.{AreAllByName, AreLinksOf, ServesModule}
+use Rattle.ob_board.specs.declared.precomputed_chains.PrecomputedChains.{PrecomputedChains}
 use Rattle.ob_board.specs.Entries.{interfaces_of}
-use Rattle.ob_board.specs.Seen.{all_seen, seen_in, AreSourcesRead, IsSourceRead}
-use Rattle.ob_board.specs.Reached.{file_of, files_of, interface_in, names, AreReachedInterfaces, ReachesName, SeenFile}
+use Rattle.ob_board.specs.Seen.{file_models, file_model_in, AreSourcesRead, IsSourceRead}
+use Rattle.ob_board.specs.Reached.{file_of, files_of, interface_in, names, AreReachedInterfaces, ReachesName, FileModel}
 use Rattle.ob_board.proofs.ByName.{apart_pairs, by_pairs}
 
 -- ---- places of modules by their names
 
 -- the name of each module leads somewhere
-leads : (modules : List ModuleInterface) (m : ModuleInterface) → Contains modules m → home_in modules m.name ≡ None → ⊥
+leads : (modules : List ModuleInterface) (m : ModuleInterface) → Contains modules m → module_number_in modules m.name ≡ None → ⊥
 leads modules m (k, lt, is) none =
     let test : ModuleInterface → Bool = λ x. bytes_eq x.name m.name in
     let place = position_or_len test modules in
@@ -78,9 +78,9 @@ equal_to_itself name = at (slice_cmp nat_cmp name name) (nat_list_cmp_total.anti
     at Equal e = refl
     at Greater e = absurd (let bad : Greater ≡ Less = e in cc)
 
-module _ (files : List SeenFile) (all : List ModuleInterface) (tree : AreAllByName (map interface_in files) all) where
+module _ (files : List FileModel) (all : List ModuleInterface) (tree : AreAllByName (map interface_in files) all) where
   -- the name of each module leads to itself
-  home_is : (k : ℕ) (m : ModuleInterface) → slice_get all k ≡ Some m → home_in all m.name ≡ Some k
+  home_is : (k : ℕ) (m : ModuleInterface) → slice_get all k ≡ Some m → module_number_in all m.name ≡ Some k
   home_is k m at =
       found (λ (x : ModuleInterface). x.name) all m.name k tree.by_name (slice_get_within all k m at)
       (λ d. ap (λ (x : ModuleInterface). slice_cmp nat_cmp x.name m.name) (get_or_from_slice_get all k m d at) ∙ equal_to_itself m.name)
@@ -89,15 +89,15 @@ module _ (files : List SeenFile) (all : List ModuleInterface) (tree : AreAllByNa
   reaches_more : (own m n : List ℕ) → ReachesName files own m → Imports (files_of files) m n → ReachesName files own n
   reaches_more own m n (w, first, (more, chain)) imports = (w, first, (more ++ n ∷ [], chain_more (Imports (files_of files)) w more m n chain imports))
 
-  module _ (own : List ℕ) (reached : List ModuleInterface) (are : AreReachedInterfaces files own reached) where
+  module _ (own : List ℕ) (reached : List ModuleInterface) (output_is : AreReachedInterfaces files own reached) where
     among : (m : ModuleInterface) → Contains reached m → Contains all m
     among m has =
-        let from = (are.those m).0 has in
+        let from = (output_is.exact m).0 has in
         Contains-permutation (map interface_in files) all m tree.same (subst (Contains (map interface_in files)) from.is (in_map interface_in files from.file from.is_of_tree))
 
-    closed : (m : ModuleInterface) (alias name : List ℕ) (k : ℕ) → Contains reached m → module_named m alias ≡ Some name → home_in all name ≡ Some k → home_in reached name ≡ None → ⊥
+    closed : (m : ModuleInterface) (alias name : List ℕ) (k : ℕ) → Contains reached m → module_named m alias ≡ Some name → module_number_in all name ≡ Some k → module_number_in reached name ≡ None → ⊥
     closed m alias name k has of there none =
-        let from = (are.those m).0 has in
+        let from = (output_is.exact m).0 has in
         let file = from.file in
         let to = placed all name k there in
         let (other, of_tree, is) = from_map interface_in files to.module_there
@@ -106,8 +106,8 @@ module _ (files : List SeenFile) (all : List ModuleInterface) (tree : AreAllByNa
         let import = named_import file.bytes file.tokens alias name (file.rows).imports (subst (λ (x : ModuleInterface). module_named x alias ≡ Some name) (sym from.is) of) in
         let imports : Imports (files_of files) (names file 1) name = (file_of file, in_map file_of files file from.is_of_tree, refl, import) in
         let reach = subst (ReachesName files own) (sym named) (reaches_more own (names file 1) name from.is_reached imports) in
-        let here : Contains reached (interface_in other) = (are.those (interface_in other)).1 (record { file = other; is_of_tree = of_tree; is_reached = reach; is = refl }) in
-        leads reached (interface_in other) here (ap (home_in reached) named ∙ none)
+        let here : Contains reached (interface_in other) = (output_is.exact (interface_in other)).1 (record { file = other; is_of_tree = of_tree; is_reached = reach; is = refl }) in
+        leads reached (interface_in other) here (ap (module_number_in reached) named ∙ none)
 
     pub within_tree : AreWithin all reached
     within_tree = record { named = home_is; among = among; closed = closed }
@@ -115,22 +115,22 @@ module _ (files : List SeenFile) (all : List ModuleInterface) (tree : AreAllByNa
 -- the interfaces of all parts are those of the files
 pub same_interfaces : (sources : List Source) (modules : List (Box ModuleParts Global)) → length modules ≡ length sources
     → ((k : ℕ) (s : Source) (m : Box ModuleParts Global) → slice_get sources k ≡ Some s → slice_get modules k ≡ Some m → IsSourceRead s m.value)
-    → interfaces_of modules ≡ map interface_in (all_seen sources modules)
+    → interfaces_of modules ≡ map interface_in (file_models sources modules)
 same_interfaces [] [] many each = refl
 same_interfaces [] (m ∷ modules) many each = absurd (omega (arith, many))
 same_interfaces (s ∷ sources) [] many each = refl
 same_interfaces (s ∷ sources) (m ∷ modules) many each =
     let here = (each zero s m refl refl).interface in
     let later = same_interfaces sources modules (omega (arith, many)) (λ k a b p q. each (suc k) a b p q) in
-    ap (λ (i : ModuleInterface). i ∷ interfaces_of modules) here ∙ ap (λ (is : List ModuleInterface). interface_in (seen_in s m.value) ∷ is) later
+    ap (λ (i : ModuleInterface). i ∷ interfaces_of modules) here ∙ ap (λ (is : List ModuleInterface). interface_in (file_model_in s m.value) ∷ is) later
 
 -- what is known ahead of all modules serves one that reaches these
 pub serves_among : (sources : List Source) (modules : List (Box ModuleParts Global)) (g : ImportGraph) → AreSourcesRead sources modules g → (own : List ℕ) (reached : List ModuleInterface)
-    → AreReachedInterfaces (all_seen sources modules) own reached → (ahead : Ahead) → IsAheadOf (interfaces_of modules) ahead → ServesAmong reached ahead
-serves_among sources modules g seen own reached are ahead is = record {
-  by_name = are.by_name;
-  within = IfSome_then ahead.shortcuts is.shortcuts (λ s all.
-      within_tree (all_seen sources modules) s.value (subst (λ (ms : List ModuleInterface). AreAllByName ms s.value) (same_interfaces sources modules seen.as_many seen.each) all) own reached are);
+    → AreReachedInterfaces (file_models sources modules) own reached → (precomputed_chains : PrecomputedChains) → AreLinksOf (interfaces_of modules) precomputed_chains → ServesModule reached precomputed_chains
+serves_among sources modules g seen own reached output_is precomputed_chains is = record {
+  by_name = output_is.by_name;
+  within = IfSome_then precomputed_chains.precomputed is.precomputed (λ s all.
+      within_tree (file_models sources modules) s.value (subst (λ (ms : List ModuleInterface). AreAllByName ms s.value) (same_interfaces sources modules seen.as_many seen.each) all) own reached output_is);
 }
 
 -- ---- all modules by name
@@ -141,7 +141,7 @@ mapped_sorted lt f (x ∷ xs) sorted k d low l =
     let long = length-map (x ∷ xs) f in
     rw (get_or-map f (x ∷ xs) k x d (omega arith), get_or-map f (x ∷ xs) (k + 1) x d (omega arith)) (sorted k x low (omega arith))
 
-named_so : (files : List SeenFile) → map (λ (m : ModuleInterface). m.name) (map interface_in files) ≡ names_of (files_of files)
+named_so : (files : List FileModel) → map (λ (m : ModuleInterface). m.name) (map interface_in files) ≡ names_of (files_of files)
 named_so [] = refl
 named_so (file ∷ files) = ap (λ (ns : List (List ℕ)). names file 1 ∷ ns) (named_so files)
 
@@ -149,10 +149,10 @@ named_so (file ∷ files) = ap (λ (ns : List (List ℕ)). names file 1 ∷ ns) 
 pub all_by_name : (sources : List Source) (modules : List (Box ModuleParts Global)) (g : ImportGraph) → AreSourcesRead sources modules g → (before after : List (Arc ModuleInterface Global))
     → map arc_value before ≡ interfaces_of modules → IsPermutation before after → IsSortedBy (λ (a b : ModuleInterface). is_lt (slice_cmp nat_cmp a.name b.name)) (map arc_value after)
     → AreAllByName (interfaces_of modules) (map arc_value after)
-all_by_name sources modules g seen before after are moved sorted =
+all_by_name sources modules g seen before after output_is moved sorted =
     let name : ModuleInterface → List ℕ = λ m. m.name in
-    let files = all_seen sources modules in
-    let same : IsPermutation (interfaces_of modules) (map arc_value after) = subst (λ (ms : List ModuleInterface). IsPermutation ms (map arc_value after)) are (IsPermutation-map arc_value before after moved) in
+    let files = file_models sources modules in
+    let same : IsPermutation (interfaces_of modules) (map arc_value after) = subst (λ (ms : List ModuleInterface). IsPermutation ms (map arc_value after)) output_is (IsPermutation-map arc_value before after moved) in
     let first : IsDistinct bytes_eq (map name (interfaces_of modules)) =
     subst (IsDistinct bytes_eq) (sym (ap (map name) (same_interfaces sources modules seen.as_many seen.each) ∙ named_so files)) seen.kept.are_files.differ in
     let apart = IsDistinct-IsPermutation bytes_eq nat_list_eq_equiv.symm (map name (interfaces_of modules)) (map name (map arc_value after)) (IsPermutation-map name (interfaces_of modules) (map arc_value after) same) first in

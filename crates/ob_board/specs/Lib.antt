@@ -3,9 +3,9 @@ pub mod Reached
 pub mod Seen
 pub mod Resolved
 pub mod Unresolved
-pub mod Found
+pub mod UnresolvedEntry
 pub mod Entries
-pub mod Ahead
+pub mod PrecomputedChains
 pub mod Indexes
 pub mod Records
 pub mod WrittenIndexes

@@ -1,14 +1,14 @@
--- What the identifiers of a module of a tree stand for.
+-- What the identifiers of a tree's modules denote.
 use Rattle.std.specs.Prelude.{List}
 use Rattle.ob_interface.specs.Interfaces.{ModuleInterface}
 use Rattle.ob_scope.specs.Scoped.{AreScopes, ModuleScopes}
 use Rattle.ob_targets.specs.declared.target.Reference.{Reference}
 use Rattle.ob_targets.specs.Refers.{AreReferences}
 use Rattle.ob_types.specs.World.{world}
-use Rattle.ob_board.specs.Reached.{names, AreReachedInterfaces, SeenFile}
+use Rattle.ob_board.specs.Reached.{names, AreReachedInterfaces, FileModel}
 
--- these are the references of a file's module: by its scopes, and by the interfaces of the modules of the tree that it reaches
-pub record AreResolved (files : List SeenFile) (file : SeenFile) (refs : List Reference) : Type 0 where
+-- the references are those of a file's module, by its scopes and the interfaces of the modules that it reaches
+pub record AreResolved (files : List FileModel) (file : FileModel) (refs : List Reference) : Type 0 where
   pub scopes : ModuleScopes
   pub are_scopes : AreScopes file.bytes file.tokens file.rows scopes
   pub reached : List ModuleInterface

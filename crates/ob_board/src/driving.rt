@@ -1,36 +1,36 @@
-//! The board of a tree for workers of any program: what a claimed module is made from, its entry, and the index that is gathered.
+//! The index of a tree for callers that run their own workers: the input of a claimed module, its entry, and the gathered index.
 ghost use Rattle.std.specs.Prelude.{◌≡◌, ◌<◌, ◌⊎◌, true, false, count_by, is_none, map, IfErr, IfNone, IfOk, IfSome, List, Some};
-ghost use Rattle.oscip_tree.specs.Parts.{ArePartsOfTree};
-ghost use Rattle.oscip_tree.specs.Trees.{ModuleFile};
-ghost use Rattle.scip_index.specs.Plain.{plain_index};
+ghost use Rattle.source_tree.specs.Parts.{ArePartsOfTree};
+ghost use Rattle.source_tree.specs.Trees.{ModuleFile};
+ghost use Rattle.scip_index.specs.Plain.{index_model};
 ghost use Rattle.scip_symbol.specs.Outcomes.{is_wrong_part};
 ghost use Rattle.work_board.specs.Cores.{is_claimed, missing};
-ghost use Rattle.work_board.specs.Graphs.{row_at};
+ghost use Rattle.work_board.specs.Graphs.{list_at};
 ghost use Rattle.ob_board.specs.Boards.{modules_of};
-ghost use Rattle.ob_board.specs.Entries.{plain_entry, IsEntryOf};
+ghost use Rattle.ob_board.specs.Entries.{entry_model, IsEntryOf};
 ghost use Rattle.ob_board.specs.Indexes.{IsIndexOf};
-ghost use Rattle.ob_board.specs.Seen.{all_seen};
+ghost use Rattle.ob_board.specs.Seen.{file_models};
 
 use crate::Entry;
-use crate::ahead::Ahead;
+use crate::built::{EntryBuilder, IndexEntry};
 use crate::indexing::index_of;
-use crate::made::{Made, Making};
 use crate::named_index::{BoardOf, NamedIndex};
+use crate::precomputed_chains::PrecomputedChains;
 use board_workers::Work;
 use ob_interface::Interface;
-use oscip_tree::{Source, TreeParts};
 use scip_index::Index;
+use source_tree::{Source, TreeParts};
 use std::alloc::{AllocError, Global};
 use std::marker::{Model, PhantomData};
 use std::sync::Arc;
 use work_board::{Board, BoardFault};
 
-/// The board of a tree, as a type names it. What it is delivered is of that tree and that package: an entry of another has another
-/// type. `deliver` refuses the entry of another module of the tree, as WrongModule.
-pub type TreeBoard<'g, F> = Board<'g, BoardOf<F>, Made<F>>;
+/// The scheduler of a tree. Its type names the tree and the package, so entries of other trees or packages have another type. `deliver`
+/// rejects the entry of another module of the tree with `WrongModule`.
+pub type TreeBoard<'g, F> = Board<'g, BoardOf<F>, IndexEntry<F>>;
 
-/// A claimed module of a tree, and what other modules see of all that it reaches. The type names the tree. Contracts see the module's
-/// number.
+/// A claimed module of a tree with the interfaces of all modules that it reaches. The type names the tree. Contracts describe it by the
+/// module's number.
 #[derive(Drop)]
 pub struct Job<F: NamedIndex> {
     number: u32,
@@ -53,14 +53,17 @@ impl<F: NamedIndex> Model for Job<F> {
 }
 
 impl<F: NamedIndex> Job<F> {
-    /// The job of a module that is claimed: what the board tells of all that it reaches. Refuses with `NotClaimed` a module that
-    /// nobody claimed, and with `Memory`.
+    /// The input of a claimed module: the interfaces of all modules that it reaches. Fails with `NotClaimed` if the module isn't claimed,
+    /// and with `Memory` if an allocation fails.
     pub fn of_claimed(board: &TreeBoard<'_, F>, number: u32) -> Result<Job<F>, BoardFault>
+        // With `Ok` the result has this module number.
         ensures number { IfOk result (λ job. job ≡ number) }
+        // With `Ok` the module is claimed.
         ensures claimed { IfOk result (λ job. is_claimed board.now number ≡ true) }
+        // The error is `NotClaimed` if the module isn't claimed, or `Memory`.
         ensures refused { IfErr result (λ fault. ((fault ≡ BoardFault.NotClaimed) × (is_claimed board.now number ≡ false)) ⊎ (fault ≡ BoardFault.Memory)) }
     {
-        board.keeps();
+        board.invariants();
         let parts = board.interfaces(number)?;
         Ok(Job {
             number,
@@ -69,86 +72,94 @@ impl<F: NamedIndex> Job<F> {
         })
     }
 
-    /// The number of its module.
+    /// The number of the module.
     pub fn number(&self) -> u32
+        // The result is the module's number.
         ensures { result ≡ self.now }
     {
         self.number
     }
 }
 
-/// The entries of a board by number, if each module has one.
-fn all_made<F: NamedIndex>(
+/// The entries of all modules by number, if each module has one.
+fn all_entries<F: NamedIndex>(
     alloc: Global,
-    gathered: Vec<Option<Made<F>>>,
+    gathered: Vec<Option<IndexEntry<F>>>,
 ) -> Result<Option<Vec<Entry>>, AllocError>
-    ensures all { IfOk result (λ told. IfSome told (λ entries. map (λ e. Some (plain_entry e)) entries.items ≡ gathered.items)) }
-    ensures none { IfOk result (λ told. IfNone told (0 < count_by is_none gathered.items)) }
+    ensures all { IfOk result (λ outcome. IfSome outcome (λ entries. map (λ e. Some (entry_model e)) entries.items ≡ gathered.items)) }
+    ensures none { IfOk result (λ outcome. IfNone outcome (0 < count_by is_none gathered.items)) }
 {
     let mut entries = Vec::new(alloc);
-    for made in gathered {
-        match made {
-            Some(made) => entries.push(made.into_entry())?,
+    for built in gathered {
+        match built {
+            Some(built) => entries.push(built.into_entry())?,
             None => return Ok(None),
         }
     }
     Ok(Some(entries))
 }
 
-impl<'a, F: NamedIndex> Making<'a, F, Made<F>> {
-    /// What makes the entries of the modules of a tree, of its files and their parts, with symbols of this package. The type names
-    /// them all.
+impl<'a, F: NamedIndex> EntryBuilder<'a, F, IndexEntry<F>> {
+    /// The builder of the entries of a tree's modules, with symbols of this package. The type names the files, the graph and the package.
     pub fn of_tree(
         alloc: Global,
         sources: &'a [Source],
         tree: &'a TreeParts,
         package_name: &'a str,
-    ) -> Result<Making<'a, F, Made<F>>, AllocError>
-        // They are the parts of these files, as `tree_parts` answers them.
+    ) -> Result<EntryBuilder<'a, F, IndexEntry<F>>, AllocError>
+        // The parts are those of the tree of these files, as `tree_parts` returns them.
         requires parts { (files : List ModuleFile) × ArePartsOfTree sources.now files tree.now }
-        // They are what the type names.
-        requires files { F.files ≡ all_seen sources.now tree.now.modules.items }
+        // The type names these files.
+        requires files { F.files ≡ file_models sources.now tree.now.modules.items }
+        // The type names this graph.
         requires graph { F.graph ≡ tree.now.graph }
+        // The type names this package.
         requires package { F.package_name ≡ package_name.now }
-        // The package is neither `.` nor begins with a space.
+        // The package isn't `.` and doesn't begin with a space.
         requires right { is_wrong_part F.package_name ≡ false }
+        // With `Ok` the builder is that of the named graph.
         ensures { IfOk result (λ work. work ≡ F.graph) }
     {
-        let ahead = Ahead::of_files(alloc, sources, tree.modules.as_slice());
-        Ok(Making::new(
+        let precomputed_chains = PrecomputedChains::of_files(
+            alloc,
+            sources,
+            tree.modules.as_slice(),
+        );
+        Ok(EntryBuilder::new(
             alloc,
             sources,
             tree.modules.as_slice(),
             &tree.graph,
             package_name,
-            ahead,
+            precomputed_chains,
         ))
     }
 
-    /// The entry of a claimed module. It holds no lock, and fails only where memory is refused.
-    pub fn entry(&self, job: &Job<F>) -> Result<Made<F>, AllocError>
-        // It has the module's name.
-        ensures named { IfOk result (λ e. e.name ≡ row_at (modules_of F.graph).names job.now) }
-        // It is the module's entry in this tree and package.
-        ensures exact { IfOk result (IsEntryOf F.files F.package_name (row_at (modules_of F.graph).names job.now)) }
+    /// The entry of a claimed module. Holds no lock. Fails with `AllocError` if an allocation fails.
+    pub fn entry(&self, job: &Job<F>) -> Result<IndexEntry<F>, AllocError>
+        // The entry has the module's name.
+        ensures named { IfOk result (λ e. e.name ≡ list_at (modules_of F.graph).names job.now) }
+        // The entry is the module's in this tree and package.
+        ensures exact { IfOk result (IsEntryOf F.files F.package_name (list_at (modules_of F.graph).names job.now)) }
     {
-        self.keeps();
-        let made = self.make(job.number, job.parts.as_slice())?;
-        made.keeps();
-        Ok(made)
+        self.invariants();
+        let built = self.make(job.number, job.parts.as_slice())?;
+        built.invariants();
+        Ok(built)
     }
 
-    /// The index of the tree, of what its board was delivered, by whatever workers: the documents in the order of the files, and the
-    /// symbols outside of the tree by their texts, each once. None is answered where a module isn't delivered.
+    /// The index of the tree, gathered from the entries that any workers have delivered: the documents in the order of the files, and the
+    /// external symbols sorted by symbol string, each once.
+    /// The result is `None` if a module has no entry. Fails with `AllocError` if an allocation fails.
     pub fn gather(&self, board: TreeBoard<'_, F>, root: &str) -> Result<Option<Index>, AllocError>
-        // It is the index of the files.
-        ensures exact { IfOk result (λ told. IfSome told (λ index. IsIndexOf F.files F.package_name root.now (plain_index index))) }
-        // Each module was delivered.
-        ensures whole { IfOk result (λ told. IfSome told (λ index. missing board.entry ≡ 0)) }
-        // Else one isn't.
-        ensures none { IfOk result (λ told. IfNone told (0 < missing board.entry)) }
+        // With an index, it is the index of the files.
+        ensures exact { IfOk result (λ outcome. IfSome outcome (λ index. IsIndexOf F.files F.package_name root.now (index_model index))) }
+        // With an index, every module was delivered.
+        ensures whole { IfOk result (λ outcome. IfSome outcome (λ index. missing board.entry ≡ 0)) }
+        // Without an index, a module wasn't delivered.
+        ensures none { IfOk result (λ outcome. IfNone outcome (0 < missing board.entry)) }
     {
-        match all_made(self.alloc, board.gather())? {
+        match all_entries(self.alloc, board.gather())? {
             Some(entries) => Ok(Some(index_of(self.alloc, entries, root)?)),
             None => Ok(None),
         }

@@ -1,11 +1,10 @@
-//! What is made of a module.
+//! The entry of a module.
 
 use ob_interface::Interface;
 use scip_index::{Document, SymbolInfo};
 use std::sync::Arc;
 
-/// What is made of a module: its document, what other modules see of it, and the symbols that it names of modules outside of
-/// the tree, by their texts.
+/// The entry of a module: its document, its interface for other modules, and the external symbols that it uses, sorted by symbol string.
 #[derive(Drop)]
 pub struct Entry {
     pub name: String,

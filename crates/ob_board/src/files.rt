@@ -1,13 +1,13 @@
-//! The files of a tree, as a type names them.
+//! The files of a tree, named by a type.
 
 use std::marker::Brand;
 
-/// Names the files of a tree. The proofs of a call at `Brand` pick them.
+/// A type that names the files of a tree. At a call with `Brand` the proof chooses them.
 pub(crate) trait NamedFiles {
     ghost use Rattle.std.specs.Prelude.{List};
-    ghost use Rattle.ob_board.specs.Reached.{SeenFile};
+    ghost use Rattle.ob_board.specs.Reached.{FileModel};
 
-    ghost files: { List SeenFile };
+    ghost files: { List FileModel };
 }
 
 impl NamedFiles for Brand {

@@ -1,4 +1,4 @@
-//! The graph of a board, of the graph of imports of a tree.
+//! The graph of a scheduler, from the graph of a tree's imports.
 ghost use Rattle.std.specs.Prelude.{◌≡◌, ◌<◌, length, map, take, IfOk};
 ghost use Rattle.std.specs.String.{string_bytes};
 ghost use Rattle.work_board.specs.Graphs.{lists, IsAcyclic};
@@ -11,7 +11,7 @@ use std::alloc::{AllocError, Global};
 fn names_of(alloc: Global, graph: &Graph) -> Result<Vec<String>, AllocError>
     ensures { IfOk result (λ names. map string_bytes names.items ≡ take graph.now.modules graph.now.names) }
 {
-    graph.keeps();
+    graph.invariants();
     let mut names = Vec::new(alloc);
     for node in 0..graph.modules() {
         names.push(String::from_str(alloc, graph.name(node))?)?;
@@ -34,11 +34,11 @@ fn row_of(alloc: Global, graph: &Graph, node: u32) -> Result<Vec<u32>, AllocErro
     Ok(row)
 }
 
-/// What the modules of the tree import of each other.
+/// The imports of each module of the tree, without external modules.
 fn rows_of(alloc: Global, graph: &Graph) -> Result<Vec<Vec<u32>>, AllocError>
     ensures { IfOk result (λ rows. lists rows.items ≡ rows_below graph.now graph.now.modules) }
 {
-    graph.keeps();
+    graph.invariants();
     let mut rows = Vec::new(alloc);
     for node in 0..graph.modules() {
         rows.push(row_of(alloc, graph, node)?)?;
@@ -46,13 +46,15 @@ fn rows_of(alloc: Global, graph: &Graph) -> Result<Vec<Vec<u32>>, AllocError>
     Ok(rows)
 }
 
-/// The modules of the tree of a graph of imports, by their numbers there, with their imports of each other. No chain of these
-/// comes back.
+/// The modules of the tree in a graph of imports, by their numbers there, with the imports among them. The result has no cycle. Fails with
+/// `AllocError` if an allocation fails.
 pub fn board_graph(alloc: Global, graph: &Graph) -> Result<work_board::Graph, AllocError>
+    // With `Ok` the graph has exactly the modules of the tree and the imports among them.
     ensures graph { IfOk result (λ board. board ≡ modules_of graph.now) }
+    // With `Ok` the graph has no cycle.
     ensures acyclic { IfOk result (λ board. IsAcyclic board.imports) }
 {
-    graph.keeps();
+    graph.invariants();
     let names = names_of(alloc, graph)?;
     let rows = rows_of(alloc, graph)?;
     let board = work_board::Graph::new(alloc, names, rows)?;

@@ -1,48 +1,51 @@
-//! The entries of the modules of a tree, and its index.
+//! The entries of a tree's modules, and its index.
 ghost use Rattle.std.specs.Prelude.{◌≡◌, false, map, IfErr, IfOk};
 ghost use Rattle.std.specs.List.{flat_map};
 ghost use Rattle.std.specs.String.{string_bytes};
 ghost use Rattle.ob_emit.specs.Externals.{AreExternalRows};
-ghost use Rattle.oscip_tree.specs.Trees.{IsTreeFault};
-ghost use Rattle.scip_index.specs.Plain.{plain_document, plain_index, plain_metadata, plain_symbol};
+ghost use Rattle.source_tree.specs.Trees.{IsTreeFault};
+ghost use Rattle.scip_index.specs.Plain.{document_model, index_model, metadata_model, symbol_model};
 ghost use Rattle.scip_symbol.specs.Outcomes.{is_wrong_part};
-ghost use Rattle.ob_board.specs.Seen.{all_seen, AreSourcesRead};
-ghost use Rattle.ob_board.specs.Entries.{plain_entry, AreEntriesOf};
-ghost use Rattle.ob_board.specs.Indexes.{own_metadata, AreTreeEntries, IsIndex, IsMadeOf};
+ghost use Rattle.ob_board.specs.Seen.{file_models, AreSourcesRead};
+ghost use Rattle.ob_board.specs.Entries.{entry_model, AreEntriesOf};
+ghost use Rattle.ob_board.specs.Indexes.{tool_metadata, AreTreeEntries, IsIndex, IsBuiltFrom};
 
-use crate::ahead::Ahead;
-use crate::made::{Made, Making};
+use crate::built::{EntryBuilder, IndexEntry};
 use crate::named_index::NamedIndex;
+use crate::precomputed_chains::PrecomputedChains;
 use crate::{Entry, board_graph};
 use board_workers::BoardGate;
 use ob_emit::all_externals;
-use oscip_tree::{Source, TreeFault, TreeParts, tree_parts};
 use scip_index::{Document, Index, Metadata, SymbolInfo, ToolInfo};
+use source_tree::{Source, TreeFault, TreeParts, tree_parts};
 use std::alloc::{AllocError, Global};
 use std::marker::Brand;
 use std::sync::Wait;
 use std::thread::Threads;
 
-/// What an index is told beside its tree: the package that its symbols name, and the root of the project.
+/// The options of an index: the package of its symbols, and the project root.
 #[derive(Drop)]
 pub struct IndexOptions {
-    /// Neither `.` nor beginning with a space.
+    /// The package, which isn't `.` and doesn't begin with a space.
     pub package: String,
     pub root: String,
 }
 
-/// The entries themselves, in order.
-fn plain<F: NamedIndex>(alloc: Global, all: Vec<Made<F>>) -> Result<Vec<Entry>, AllocError>
-    ensures { IfOk result (λ entries. map plain_entry entries.items ≡ all.items) }
+/// The entries of the modules, in order.
+fn into_entries<F: NamedIndex>(
+    alloc: Global,
+    all: Vec<IndexEntry<F>>,
+) -> Result<Vec<Entry>, AllocError>
+    ensures { IfOk result (λ entries. map entry_model entries.items ≡ all.items) }
 {
     let mut entries = Vec::new(alloc);
-    for made in all {
-        entries.push(made.into_entry())?;
+    for built in all {
+        entries.push(built.into_entry())?;
     }
     Ok(entries)
 }
 
-/// The entries of a tree of which these are the parts, in the order of the files.
+/// The entries of the tree with these parts, in the order of the files.
 fn entries_in<F: NamedIndex + Send + Sync, G: BoardGate + Sync, R: Threads + Wait + Sync>(
     rt: &R,
     alloc: Global,
@@ -52,31 +55,31 @@ fn entries_in<F: NamedIndex + Send + Sync, G: BoardGate + Sync, R: Threads + Wai
     workers: u32,
     gate: &G,
 ) -> Result<Vec<Entry>, AllocError>
-    requires files { F.files ≡ all_seen sources.now tree.now.modules.items }
+    requires files { F.files ≡ file_models sources.now tree.now.modules.items }
     requires graph { F.graph ≡ tree.now.graph }
     requires seen { AreSourcesRead sources.now tree.now.modules.items tree.now.graph }
     requires package { string_bytes options.now.package ≡ F.package_name }
     requires right { is_wrong_part F.package_name ≡ false }
-    ensures { IfOk result (λ entries. AreEntriesOf F.files F.package_name (map plain_entry entries.items)) }
+    ensures { IfOk result (λ entries. AreEntriesOf F.files F.package_name (map entry_model entries.items)) }
 {
-    let ahead = Ahead::of_files(alloc, sources, tree.modules.as_slice());
+    let precomputed_chains = PrecomputedChains::of_files(alloc, sources, tree.modules.as_slice());
     let graph = board_graph(alloc, &tree.graph)?;
-    let work = Making::<F, Made<F>>::new(
+    let work = EntryBuilder::<F, IndexEntry<F>>::new(
         alloc,
         sources,
         tree.modules.as_slice(),
         &tree.graph,
         options.package.as_str(),
-        ahead,
+        precomputed_chains,
     );
     let all = board_workers::entries(rt, alloc, &graph, workers, &work, gate);
     drop(graph);
-    plain(alloc, all?)
+    into_entries(alloc, all?)
 }
 
-/// The entries of the modules of a tree, in the order of the files, which are read by at most `workers` threads. They are made
-/// by the calling thread and at most `workers - 1` others, that call the gate between a claim and its delivery. The fault is
-/// the tree's. It may wait for a lock and for its threads.
+/// Computes the entries of a tree's modules, in the order of the files. At most `workers` threads read the files and make the entries: the
+/// calling thread and at most `workers - 1` others. Each calls the gate between claiming and delivering a module.
+/// Fails with the fault of the tree, or with its `Memory` if an allocation fails. It may wait for a lock and for its threads.
 pub fn entries<G: BoardGate + Sync, R: Threads + Wait + Sync>(
     rt: &R,
     alloc: Global,
@@ -85,10 +88,11 @@ pub fn entries<G: BoardGate + Sync, R: Threads + Wait + Sync>(
     workers: u32,
     gate: &G,
 ) -> Result<Vec<Entry>, TreeFault>
+    // The package isn't `.` and doesn't begin with a space.
     requires package { is_wrong_part (string_bytes options.now.package) ≡ false }
-    // They are exactly those, whatever turns the workers take.
-    ensures exact { IfOk result (λ entries. AreTreeEntries sources.now (string_bytes options.now.package) (map plain_entry entries.items)) }
-    // The fault is the tree's.
+    // With `Ok` the entries are exactly the tree's, whatever the order of the workers' steps.
+    ensures exact { IfOk result (λ entries. AreTreeEntries sources.now (string_bytes options.now.package) (map entry_model entries.items)) }
+    // The error is a fault of the tree.
     ensures fault { IfErr result (IsTreeFault sources.now) }
 {
     let tree = tree_parts(rt, alloc, sources, workers)?;
@@ -97,9 +101,9 @@ pub fn entries<G: BoardGate + Sync, R: Threads + Wait + Sync>(
     Ok(entries?)
 }
 
-/// What an index says of itself.
+/// The metadata of an index: the tool, the encoding of the files, and the project root.
 pub(crate) fn metadata(alloc: Global, root: &str) -> Result<Metadata, AllocError>
-    ensures { IfOk result (λ m. plain_metadata m ≡ own_metadata root.now) }
+    ensures { IfOk result (λ m. metadata_model m ≡ tool_metadata root.now) }
 {
     let tool = ToolInfo {
         name: String::from_str(alloc, "oscip")?,
@@ -114,17 +118,17 @@ pub(crate) fn metadata(alloc: Global, root: &str) -> Result<Metadata, AllocError
     })
 }
 
-/// The documents of all entries, and their external symbols, one list behind the other.
+/// The documents and the external symbols of all entries, concatenated.
 #[derive(Drop)]
 struct Gathered {
     documents: Vec<Document>,
     rows: Vec<SymbolInfo>,
 }
 
-/// Gathers these.
+/// Concatenates the documents and the external symbols of the entries.
 fn gather(alloc: Global, entries: Vec<Entry>) -> Result<Gathered, AllocError>
-    ensures documents { IfOk result (λ all. map plain_document all.documents.items ≡ map (λ e. (plain_entry e).document) entries.items) }
-    ensures rows { IfOk result (λ all. map plain_symbol all.rows.items ≡ flat_map (λ e. (plain_entry e).externals) entries.items) }
+    ensures documents { IfOk result (λ all. map document_model all.documents.items ≡ map (λ e. (entry_model e).document) entries.items) }
+    ensures rows { IfOk result (λ all. map symbol_model all.rows.items ≡ flat_map (λ e. (entry_model e).externals) entries.items) }
 {
     let mut documents = Vec::new(alloc);
     let mut rows = Vec::new(alloc);
@@ -142,10 +146,10 @@ fn gather(alloc: Global, entries: Vec<Entry>) -> Result<Gathered, AllocError>
     Ok(Gathered { documents, rows })
 }
 
-/// The index of these entries.
+/// The index with these entries.
 pub(crate) fn index_of(alloc: Global, entries: Vec<Entry>, root: &str) -> Result<Index, AllocError>
-    requires { AreExternalRows (flat_map (λ e. (plain_entry e).externals) entries.items) }
-    ensures { IfOk result (λ index. IsMadeOf (map plain_entry entries.items) root.now (plain_index index)) }
+    requires { AreExternalRows (flat_map (λ e. (entry_model e).externals) entries.items) }
+    ensures { IfOk result (λ index. IsBuiltFrom (map entry_model entries.items) root.now (index_model index)) }
 {
     let metadata = metadata(alloc, root)?;
     let Gathered { documents, rows } = gather(alloc, entries)?;
@@ -156,8 +160,8 @@ pub(crate) fn index_of(alloc: Global, entries: Vec<Entry>, root: &str) -> Result
     })
 }
 
-/// The index of a tree, as `entries` makes it: the documents by path, and the symbols outside of the tree by their texts, each
-/// once. The fault is the tree's. It may wait for a lock and for its threads.
+/// Makes the index of a tree, by `entries`: the documents sorted by path, and the external symbols sorted by symbol string, each once.
+/// Fails with the fault of the tree, or with its `Memory` if an allocation fails. It may wait for a lock and for its threads.
 pub fn index_tree<G: BoardGate + Sync, R: Threads + Wait + Sync>(
     rt: &R,
     alloc: Global,
@@ -166,10 +170,11 @@ pub fn index_tree<G: BoardGate + Sync, R: Threads + Wait + Sync>(
     workers: u32,
     gate: &G,
 ) -> Result<Index, TreeFault>
+    // The package isn't `.` and doesn't begin with a space.
     requires package { is_wrong_part (string_bytes options.now.package) ≡ false }
-    // It is the tree's, whatever turns the workers take.
-    ensures exact { IfOk result (λ index. IsIndex sources.now (string_bytes options.now.package) (string_bytes options.now.root) (plain_index index)) }
-    // The fault is the tree's.
+    // With `Ok` the index is exactly the tree's, whatever the order of the workers' steps.
+    ensures exact { IfOk result (λ index. IsIndex sources.now (string_bytes options.now.package) (string_bytes options.now.root) (index_model index)) }
+    // The error is a fault of the tree.
     ensures fault { IfErr result (IsTreeFault sources.now) }
 {
     let entries = entries(rt, alloc, sources, options, workers, gate)?;

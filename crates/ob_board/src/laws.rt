@@ -1,42 +1,48 @@
-//! Laws of what is made of a tree: it is one, whoever makes it; and of the board of a tree. Each function is a law: its body is empty, and its contract is proved.
+//! Laws of indexes of a tree, and of the scheduler of a tree, proved as contracts of functions with an empty body.
 ghost use Rattle.std.specs.Prelude.{◌≡◌, ℕ, List};
 ghost use Rattle.ob_imports.specs.Graphs.{ImportGraph};
 ghost use Rattle.ob_imports.specs.Outcomes.{AreFilesOfGraph};
-ghost use Rattle.oscip_tree.specs.Parts.{ArePartsOfTree};
-ghost use Rattle.oscip_tree.specs.Trees.{ModuleFile};
-ghost use Rattle.oscip_tree.specs.declared.parts.TreeParts.{TreeParts};
-ghost use Rattle.oscip_tree.specs.declared.source.Source.{Source};
-ghost use Rattle.scip_index.specs.Plain.{PlainIndex};
-ghost use Rattle.ob_board.specs.Entries.{PlainEntry};
+ghost use Rattle.source_tree.specs.Parts.{ArePartsOfTree};
+ghost use Rattle.source_tree.specs.Trees.{ModuleFile};
+ghost use Rattle.source_tree.specs.declared.parts.TreeParts.{TreeParts};
+ghost use Rattle.source_tree.specs.declared.source.Source.{Source};
+ghost use Rattle.scip_index.specs.Plain.{IndexModel};
+ghost use Rattle.ob_board.specs.Entries.{EntryModel};
 ghost use Rattle.ob_board.specs.Indexes.{AreTreeEntries, IsIndex, IsIndexOf};
-ghost use Rattle.ob_board.specs.Seen.{all_seen};
-ghost use Rattle.ob_board.specs.Reached.{files_of, ReachesAlike, SeenFile};
-ghost use Rattle.ob_board.specs.Unresolved.{AreUnresolved, PlainUnresolved};
+ghost use Rattle.ob_board.specs.Seen.{file_models};
+ghost use Rattle.ob_board.specs.Reached.{files_of, HasSameReach, FileModel};
+ghost use Rattle.ob_board.specs.Unresolved.{AreUnresolved, UnresolvedModel};
 
-/// A tree, a package and a root have one index.
+/// A tree, a package and a project root determine one index.
 pub fn one_index()
-    ensures { (sources : List Source) (package_name root : List ℕ) (index other : PlainIndex) →
+    // Two indexes of one tree, package and root are equal.
+    ensures { (sources : List Source) (package_name root : List ℕ) (index other : IndexModel) →
         IsIndex sources package_name root index → IsIndex sources package_name root other → index ≡ other }
 {}
 
-/// A tree and a package have one list of entries.
+/// A tree and a package determine one list of entries.
 pub fn one_entries()
-    ensures { (sources : List Source) (package_name : List ℕ) (entries others : List PlainEntry) →
+    // Two lists of entries of one tree and package are equal.
+    ensures { (sources : List Source) (package_name : List ℕ) (entries others : List EntryModel) →
         AreTreeEntries sources package_name entries → AreTreeEntries sources package_name others → entries ≡ others }
 {}
 
-/// A tree has one list of identifiers that stand for nothing.
+/// A tree has one list of unresolved identifiers.
 pub fn one_unresolved()
-    ensures { (sources : List Source) (rows others : List PlainUnresolved) → AreUnresolved sources rows → AreUnresolved sources others → rows ≡ others }
+    // Two lists of unresolved identifiers of one tree are equal.
+    ensures { (sources : List Source) (rows others : List UnresolvedModel) → AreUnresolved sources rows → AreUnresolved sources others → rows ≡ others }
 {}
 
-/// What a module of a tree reaches on the board by numbers is what it reaches in the files by names.
+/// A module reaches the same modules by numbers in the scheduler's graph and by names in the files.
 pub fn reached_by_names()
-    ensures { (files : List SeenFile) (graph : ImportGraph) → AreFilesOfGraph (files_of files) graph → ReachesAlike files graph }
+    // If the graph is that of the files, both relations agree.
+    ensures { (files : List FileModel) (graph : ImportGraph) → AreFilesOfGraph (files_of files) graph → HasSameReach files graph }
 {}
 
-/// An index of the files of a tree, by its parts, is the index of the tree: what is gathered of its board is what `index_tree` answers.
+/// An index of a tree's files, by the tree's parts, is the index of the tree. So the index that is gathered from a scheduler is the one
+/// that `index_tree` returns.
 pub fn index_of_parts()
-    ensures { (sources : List Source) (files : List ModuleFile) (tree : TreeParts) (package_name root : List ℕ) (index : PlainIndex) →
-        ArePartsOfTree sources files tree → IsIndexOf (all_seen sources tree.modules.items) package_name root index → IsIndex sources package_name root index }
+    // If the parts are the tree's, each index of their files is the index of the tree.
+    ensures { (sources : List Source) (files : List ModuleFile) (tree : TreeParts) (package_name root : List ℕ) (index : IndexModel) →
+        ArePartsOfTree sources files tree → IsIndexOf (file_models sources tree.modules.items) package_name root index → IsIndex sources package_name root index }
 {}

@@ -1,23 +1,26 @@
-//! The identifiers of a tree that stand for nothing.
+//! The unresolved identifiers of a tree.
 ghost use Rattle.std.specs.Prelude.{◌≡◌, map, IfErr, IfOk};
 ghost use Rattle.std.specs.List.{flat_map};
-ghost use Rattle.oscip_tree.specs.Trees.{IsTreeFault};
-ghost use Rattle.ob_board.specs.Seen.{all_seen, AreSourcesRead};
-ghost use Rattle.ob_board.specs.Unresolved.{plain_unresolved, AreUnresolved, IsUnresolvedOf};
+ghost use Rattle.source_tree.specs.Trees.{IsTreeFault};
+ghost use Rattle.ob_board.specs.Seen.{file_models, AreSourcesRead};
+ghost use Rattle.ob_board.specs.Unresolved.{unresolved_model, AreUnresolved, IsUnresolvedOf};
 
-use crate::ahead::Ahead;
 use crate::files::NamedFiles;
-use crate::found::{Finding, Found};
+use crate::found::{UnresolvedEntry, UnresolvedFinder};
+use crate::precomputed_chains::PrecomputedChains;
 use crate::{Unresolved, board_graph};
-use board_workers::entries_alone;
-use oscip_tree::{Source, TreeFault, TreeParts, tree_parts};
+use board_workers::entries_by_caller;
+use source_tree::{Source, TreeFault, TreeParts, tree_parts};
 use std::alloc::{AllocError, Global};
 use std::marker::Brand;
 use std::thread::Threads;
 
-/// The rows of all modules, one behind the other.
-fn joined<F: NamedFiles>(alloc: Global, all: Vec<Found<F>>) -> Result<Vec<Unresolved>, AllocError>
-    ensures { IfOk result (λ rows. map plain_unresolved rows.items ≡ flat_map (λ f. f.rows) all.items) }
+/// The unresolved identifiers of all modules, concatenated.
+fn joined<F: NamedFiles>(
+    alloc: Global,
+    all: Vec<UnresolvedEntry<F>>,
+) -> Result<Vec<Unresolved>, AllocError>
+    ensures { IfOk result (λ rows. map unresolved_model rows.items ≡ flat_map (λ f. f.rows) all.items) }
 {
     let mut rows = Vec::new(alloc);
     for found in all {
@@ -27,36 +30,42 @@ fn joined<F: NamedFiles>(alloc: Global, all: Vec<Found<F>>) -> Result<Vec<Unreso
     Ok(rows)
 }
 
-/// The rows of a tree of which these are the parts, in the order of the files.
+/// The unresolved identifiers of the tree with these parts, in the order of the files.
 fn listed<F: NamedFiles>(
     alloc: Global,
     sources: &[Source],
     tree: &TreeParts,
 ) -> Result<Vec<Unresolved>, AllocError>
-    requires files { F.files ≡ all_seen sources.now tree.now.modules.items }
+    requires files { F.files ≡ file_models sources.now tree.now.modules.items }
     requires seen { AreSourcesRead sources.now tree.now.modules.items tree.now.graph }
-    ensures { IfOk result (λ rows. IsUnresolvedOf F.files (map plain_unresolved rows.items)) }
+    ensures { IfOk result (λ rows. IsUnresolvedOf F.files (map unresolved_model rows.items)) }
 {
-    let ahead = Ahead::of_files(alloc, sources, tree.modules.as_slice());
+    let precomputed_chains = PrecomputedChains::of_files(alloc, sources, tree.modules.as_slice());
     let graph = board_graph(alloc, &tree.graph)?;
-    let work = Finding::<F>::new(alloc, sources, tree.modules.as_slice(), &tree.graph, ahead);
-    let all = entries_alone(alloc, &graph, &work);
+    let work = UnresolvedFinder::<F>::new(
+        alloc,
+        sources,
+        tree.modules.as_slice(),
+        &tree.graph,
+        precomputed_chains,
+    );
+    let all = entries_by_caller(alloc, &graph, &work);
     drop(graph);
     joined(alloc, all?)
 }
 
-/// The identifiers of a tree that stand for nothing and aren't predeclared, in the order of the files, and in each by start;
-/// modules are gone through by the calling thread alone, once the files are read by at most `workers` threads. The fault is
-/// the tree's.
+/// Finds the unresolved identifiers of a tree, without the predeclared ones: in the order of the files, and in each file by position.
+/// At most `workers` threads read the files; the calling thread alone processes the modules.
+/// Fails with the fault of the tree, or with its `Memory` if an allocation fails.
 pub fn unresolved_in_tree<R: Threads + Sync>(
     rt: &R,
     alloc: Global,
     sources: &[Source],
     workers: u32,
 ) -> Result<Vec<Unresolved>, TreeFault>
-    // They are exactly these.
-    ensures exact { IfOk result (λ rows. AreUnresolved sources.now (map plain_unresolved rows.items)) }
-    // The fault is the tree's.
+    // With `Ok` the list has exactly the tree's unresolved identifiers, in this order.
+    ensures exact { IfOk result (λ rows. AreUnresolved sources.now (map unresolved_model rows.items)) }
+    // The error is a fault of the tree.
     ensures fault { IfErr result (IsTreeFault sources.now) }
 {
     let tree = tree_parts(rt, alloc, sources, workers)?;

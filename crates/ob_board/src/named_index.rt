@@ -1,16 +1,16 @@
-//! What an index is of, as a type names it: the files of a tree, the graph of their imports, and a package.
+//! What an index is made from, named by a type: the files of a tree, the graph of their imports, and a package.
 
 use std::marker::{Brand, PhantomData};
 use work_board::NamedTree;
 
-/// Names the files of a tree, the graph of their imports, and the package of its symbols: what is made for another tree or package has
-/// another type. The proofs of a call at `Brand` pick them.
+/// A type that names the files of a tree, the graph of their imports, and the package of its symbols. So entries of another tree or package
+/// have another type. At a call with `Brand` the proof chooses them.
 pub trait NamedIndex {
     ghost use Rattle.std.specs.Prelude.{ℕ, List};
     ghost use Rattle.ob_imports.specs.Graphs.{ImportGraph};
-    ghost use Rattle.ob_board.specs.Reached.{SeenFile};
+    ghost use Rattle.ob_board.specs.Reached.{FileModel};
 
-    ghost files: { List SeenFile };
+    ghost files: { List FileModel };
 
     ghost graph: { ImportGraph };
 
@@ -27,7 +27,7 @@ impl NamedIndex for Brand {
     ghost package_name = { [] };
 }
 
-/// Names the graph of the board of such a tree: its modules by their numbers, with their imports of each other.
+/// A type that names the scheduler's graph of this tree: its modules by number, with the imports among them.
 #[derive(Drop)]
 pub struct BoardOf<F: NamedIndex>(PhantomData<F>);
 

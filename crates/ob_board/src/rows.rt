@@ -1,4 +1,4 @@
-//! Rows for the identifiers of a file that stand for nothing.
+//! The locations of a file's unresolved identifiers.
 ghost use Rattle.std.specs.Prelude.{◌≡◌, map, All, IfOk};
 ghost use Rattle.std.specs.Arc.{arc_value};
 ghost use Rattle.std.specs.Str.{IsUtf8};
@@ -6,14 +6,14 @@ ghost use Rattle.std.specs.String.{string_bytes};
 ghost use Rattle.ob_scan.specs.Position.{line_starts};
 ghost use Rattle.ob_scan.specs.Spelling.{AreInText};
 ghost use Rattle.ob_scan.specs.Texts.{text_at};
-ghost use Rattle.ob_board.specs.Unresolved.{plain_unresolved, AreUnresolvedRows, IsRow};
+ghost use Rattle.ob_board.specs.Unresolved.{unresolved_model, AreUnresolvedRows, IsRow};
 
 use crate::Unresolved;
 use ob_scan::{Lines, Token, TokenTexts, lines};
 use std::alloc::{AllocError, Global};
 use std::sync::Arc;
 
-/// The row of an identifier.
+/// The location and the name of an unresolved identifier.
 fn row_of(
     alloc: Global,
     path: &Arc<String>,
@@ -24,7 +24,7 @@ fn row_of(
     requires in_text { AreInText text.now.bytes.now text.now.tokens.now }
     requires lined { lines.now ≡ line_starts text.now.bytes.now }
     requires text { IsUtf8 (text_at text.now.bytes.now text.now.tokens.now number) }
-    ensures { IfOk result (λ row. IsRow (string_bytes (arc_value path.now)) text.now.bytes.now text.now.tokens.now number (plain_unresolved row)) }
+    ensures { IfOk result (λ row. IsRow (string_bytes (arc_value path.now)) text.now.bytes.now text.now.tokens.now number (unresolved_model row)) }
 {
     let at = lines.position(text.start(number));
     let path = Arc::try_clone(path)?;
@@ -32,7 +32,7 @@ fn row_of(
     Ok(Unresolved { path, at, name })
 }
 
-/// The rows of these identifiers.
+/// The locations and the names of these identifiers.
 pub(crate) fn rows_of(
     alloc: Global,
     path: &str,
@@ -42,7 +42,7 @@ pub(crate) fn rows_of(
 ) -> Result<Vec<Unresolved>, AllocError>
     requires in_text { AreInText bytes.now tokens.now }
     requires texts { All (λ k. IsUtf8 (text_at bytes.now tokens.now k)) numbers.now }
-    ensures { IfOk result (λ rows. AreUnresolvedRows path.now bytes.now tokens.now numbers.now (map plain_unresolved rows.items)) }
+    ensures { IfOk result (λ rows. AreUnresolvedRows path.now bytes.now tokens.now numbers.now (map unresolved_model rows.items)) }
 {
     if numbers.is_empty() {
         return Ok(Vec::new(alloc));

@@ -1,9 +1,9 @@
-//! An identifier that stands for nothing.
+//! Unresolved identifiers.
 
 use ob_scan::Position;
 use std::sync::Arc;
 
-/// An identifier that stands for nothing: the path of its file, which all those of a file share, where it begins, and its text.
+/// An identifier that can't be resolved: the path of its file, which all identifiers of the file share, its position, and its name.
 #[derive(Drop)]
 pub struct Unresolved {
     pub path: Arc<String>,

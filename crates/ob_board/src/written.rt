@@ -1,37 +1,37 @@
 //! The document and the external symbols of a module.
 ghost use Rattle.std.specs.Prelude.{◌≡◌, ◌<◌, ◌≤◌, ◌^◌, false, length, map, IfOk, Ok};
 ghost use Rattle.std.specs.Arc.{arc_value};
-ghost use Rattle.ob_rows.specs.Tables.{rows_in};
-ghost use Rattle.ob_emit.specs.Named.{HaveNames};
+ghost use Rattle.module_table.specs.Tables.{rows_in};
+ghost use Rattle.ob_emit.specs.Named.{NamesAreIdentifiers};
 ghost use Rattle.ob_scan.specs.Spelling.{IsOutcome, Spells};
 ghost use Rattle.ob_scope.specs.Scoped.{AreScopes};
-ghost use Rattle.scip_index.specs.Plain.{plain_document, plain_symbol};
+ghost use Rattle.scip_index.specs.Plain.{document_model, symbol_model};
 ghost use Rattle.scip_symbol.specs.Outcomes.{is_wrong_part};
-ghost use Rattle.ob_board.specs.Ahead.{ServesAmong};
-ghost use Rattle.ob_board.specs.Entries.{AreAllNamed, IsWritten, IsWrittenBy};
-ghost use Rattle.ob_board.specs.Records.{IsRecorded, IsRecordedBy};
+ghost use Rattle.ob_board.specs.PrecomputedChains.{ServesModule};
+ghost use Rattle.ob_board.specs.Entries.{AreAllNamed, IsWritten, IsDocumentBy};
+ghost use Rattle.ob_board.specs.Records.{IsEncoded, IsEncodedBy};
 
-use crate::ahead::Ahead;
 use crate::module_types::module_types;
+use crate::precomputed_chains::PrecomputedChains;
 use ob_emit::laws::{names_of_references, names_of_scopes};
 use ob_emit::{EmitFault, document, document_record, externals};
 use ob_interface::Interface;
 use ob_resolve::references;
 use ob_scan::laws::tokens_in_text;
 use ob_types::Types;
-use oscip_tree::{ModuleParts, Source};
 use scip_index::{Document, SymbolInfo};
+use source_tree::{ModuleParts, Source};
 use std::alloc::{AllocError, Global};
 use std::sync::Arc;
 
-/// A module's document, and the symbols that it names of modules outside of the tree.
+/// A module's document, and the external symbols that the module uses.
 #[derive(Drop)]
 pub(crate) struct Written {
     pub(crate) document: Document,
     pub(crate) externals: Vec<SymbolInfo>,
 }
 
-/// What is written of a module at this path, by what its names and types mean.
+/// The document of a module at this path and its external symbols, by its types.
 fn written_by(
     alloc: Global,
     path: &str,
@@ -40,12 +40,12 @@ fn written_by(
 ) -> Result<Written, AllocError>
     requires short { length types.now.bytes < 2 ^ 31 }
     requires spelled { Spells types.now.bytes types.now.tokens }
-    requires named { HaveNames types.now }
+    requires named { NamesAreIdentifiers types.now }
     requires package { is_wrong_part package_name.now ≡ false }
-    ensures { IfOk result (λ w. IsWrittenBy types.now path.now package_name.now (plain_document w.document) (map plain_symbol w.externals.items)) }
+    ensures { IfOk result (λ w. IsDocumentBy types.now path.now package_name.now (document_model w.document) (map symbol_model w.externals.items)) }
 {
     names_of_references();
-    types.keeps();
+    types.invariants();
     let refs = references(alloc, types)?;
     match document(alloc, path, types, refs.as_slice(), package_name) {
         Ok(document) => {
@@ -60,86 +60,87 @@ fn written_by(
     }
 }
 
-/// What is written of a module, by its parts and the interfaces of what it reaches, with what is known ahead of all modules.
+/// The document of a module and its external symbols, by its parts, the interfaces of the modules that it reaches, and the precomputed type
+/// chains.
 pub(crate) fn write_module(
     alloc: Global,
     source: &Source,
     parts: &ModuleParts,
     reached: &[Arc<Interface>],
-    ahead: &Ahead,
+    precomputed_chains: &PrecomputedChains,
     package_name: &str,
 ) -> Result<Written, AllocError>
     requires spelled { IsOutcome source.now.bytes.items (Ok parts.now.tokens) }
     requires scoped { AreScopes source.now.bytes.items parts.now.tokens (rows_in parts.now.table) parts.now.scopes }
     requires named { AreAllNamed (map arc_value reached.now) }
     requires few { length (map arc_value reached.now) ≤ 2 ^ 32 }
-    requires ahead { ServesAmong (map arc_value reached.now) ahead.now }
+    requires precomputed_chains { ServesModule (map arc_value reached.now) precomputed_chains.now }
     requires package { is_wrong_part package_name.now ≡ false }
-    ensures { IfOk result (λ w. IsWritten source.now parts.now (map arc_value reached.now) package_name.now (plain_document w.document) (map plain_symbol w.externals.items)) }
+    ensures { IfOk result (λ w. IsWritten source.now parts.now (map arc_value reached.now) package_name.now (document_model w.document) (map symbol_model w.externals.items)) }
 {
     tokens_in_text();
     names_of_scopes();
-    let types = module_types(alloc, source, parts, reached, ahead)?;
+    let types = module_types(alloc, source, parts, reached, precomputed_chains)?;
     let written = written_by(alloc, source.path.as_str(), &types, package_name);
     drop(types);
     written
 }
 
-/// The record of a module's document, and the symbols that it names of modules outside of the tree.
+/// The record of a module's document, and the external symbols that the module uses.
 #[derive(Drop)]
-pub(crate) struct WrittenRecord {
+pub(crate) struct EncodedDocument {
     pub(crate) bytes: Vec<u8>,
     pub(crate) externals: Vec<SymbolInfo>,
 }
 
-/// The record of a module at this path, by what its names and types mean.
-fn recorded_by(
+/// The record of the document of a module at this path and its external symbols, by its types.
+fn encode_document(
     alloc: Global,
     path: &str,
     types: &Types<'_>,
     package_name: &str,
-) -> Result<WrittenRecord, AllocError>
+) -> Result<EncodedDocument, AllocError>
     requires short { length types.now.bytes < 2 ^ 31 }
     requires spelled { Spells types.now.bytes types.now.tokens }
-    requires named { HaveNames types.now }
+    requires named { NamesAreIdentifiers types.now }
     requires package { is_wrong_part package_name.now ≡ false }
-    ensures { IfOk result (λ w. IsRecordedBy types.now path.now package_name.now w.bytes.items (map plain_symbol w.externals.items)) }
+    ensures { IfOk result (λ w. IsEncodedBy types.now path.now package_name.now w.bytes.items (map symbol_model w.externals.items)) }
 {
     names_of_references();
-    types.keeps();
+    types.invariants();
     let refs = references(alloc, types)?;
     match document_record(alloc, path, types, refs.as_slice(), package_name) {
         Ok(bytes) => {
             let externals = externals(alloc, types, refs.as_slice())?;
-            Ok(WrittenRecord { bytes, externals })
+            Ok(EncodedDocument { bytes, externals })
         }
         Err(EmitFault::Memory) => Err(AllocError),
         Err(EmitFault::BadPackage) => unreachable!(),
     }
 }
 
-/// The record of a module, by its parts and the interfaces of what it reaches, with what is known ahead of all modules. No message is
-/// made on the way: what `write_module` answers, as bytes.
+/// The record of a module's document and its external symbols, by its parts, the interfaces of the modules that it reaches, and the
+/// precomputed type chains. It is the record of the document that `write_module` returns; no message is made.
 pub(crate) fn record_module(
     alloc: Global,
     source: &Source,
     parts: &ModuleParts,
     reached: &[Arc<Interface>],
-    ahead: &Ahead,
+    precomputed_chains: &PrecomputedChains,
     package_name: &str,
-) -> Result<WrittenRecord, AllocError>
+) -> Result<EncodedDocument, AllocError>
     requires spelled { IsOutcome source.now.bytes.items (Ok parts.now.tokens) }
     requires scoped { AreScopes source.now.bytes.items parts.now.tokens (rows_in parts.now.table) parts.now.scopes }
     requires named { AreAllNamed (map arc_value reached.now) }
     requires few { length (map arc_value reached.now) ≤ 2 ^ 32 }
-    requires ahead { ServesAmong (map arc_value reached.now) ahead.now }
+    requires precomputed_chains { ServesModule (map arc_value reached.now) precomputed_chains.now }
     requires package { is_wrong_part package_name.now ≡ false }
-    ensures { IfOk result (λ w. IsRecorded source.now parts.now (map arc_value reached.now) package_name.now w.bytes.items (map plain_symbol w.externals.items)) }
+    ensures { IfOk result (λ w. IsEncoded source.now parts.now (map arc_value reached.now) package_name.now w.bytes.items (map symbol_model w.externals.items)) }
 {
     tokens_in_text();
     names_of_scopes();
-    let types = module_types(alloc, source, parts, reached, ahead)?;
-    let recorded = recorded_by(alloc, source.path.as_str(), &types, package_name);
+    let types = module_types(alloc, source, parts, reached, precomputed_chains)?;
+    let encoded = encode_document(alloc, source.path.as_str(), &types, package_name);
     drop(types);
-    recorded
+    encoded
 }

@@ -4,36 +4,36 @@ use Rattle.std.specs.Prelude.{slice_get}
 use Rattle.std.specs.Option.{option_map, option_and_then, is_none}
 use Rattle.std.proofs.lemmas.Bool.{cases_Bool}
 use Rattle.scip_symbol.specs.declared.kind.DescriptorKind.TheVariants.{Term}
-use Rattle.scip_symbol.specs.SymbolTexts.{PlainDescriptor, PlainSymbol, Local, Global, SymbolText, plain_text}
+use Rattle.scip_symbol.specs.SymbolTexts.{DescriptorModel, SymbolModel, Local, Global, SymbolText, canonical_text}
 use Rattle.scip_symbol.proofs.PlainTexts.{texts_apart}
-use Rattle.scip_index.specs.Plain.{PlainSymbol as SymbolRow}
-use Rattle.ob_rows.specs.declared.rows.Import.{Import}
+use Rattle.scip_index.specs.Plain.{SymbolModel as SymbolRow}
+use Rattle.module_table.specs.declared.rows.Import.{Import}
 use Rattle.ob_targets.specs.declared.target.Reference.{Reference}
 use Rattle.ob_targets.specs.declared.target.Target.{Target}
 use Rattle.ob_targets.specs.declared.target.Target.TheVariants as targets
-use Rattle.ob_types.specs.World.{World, home_of, text}
+use Rattle.ob_types.specs.World.{World, module_of_item, text}
 use Rattle.ob_scope.proofs.Elements.{contains_slice, slice_contains, some_one}
-use Rattle.ob_emit.specs.Externals.{AreExternalRows, IsExternalRow, external_module, external_row, externals_in, of_module, of_name, shown}
-use Rattle.ob_emit.specs.Named.{HaveNames, AreOfNames, IsName}
+use Rattle.ob_emit.specs.Externals.{AreExternalRows, IsExternalRow, external_module, external_row, externals_in, of_module, of_name, symbol_info}
+use Rattle.ob_emit.specs.Named.{NamesAreIdentifiers, ReferencesAreIdentifiers, IsName}
 use Rattle.ob_emit.specs.Symbols.{descriptor, global, module_path, package_of}
 use Rattle.ob_emit.proofs.Naming.{import_named}
 use Rattle.ob_emit.proofs.NamesGiven.{row_of}
 use Rattle.ob_emit.proofs.SymbolsTexted.{external_named, global_text, module_named}
 
 -- the name of the last descriptor
-last_of : List ℕ → List PlainDescriptor → List ℕ
+last_of : List ℕ → List DescriptorModel → List ℕ
 last_of name [] = name
 last_of name (d ∷ ds) = last_of d.name ds
 
-last_name : PlainSymbol → List ℕ
+last_name : SymbolModel → List ℕ
 last_name (Local id) = []
 last_name (Global s m p v ds) = last_of [] ds
 
 -- a row is that of a symbol that has a text, with the symbol's last name
 record HasSymbol (x : SymbolRow) : Type 0 where
-  of_symbol : PlainSymbol
-  is : x ≡ shown (last_name of_symbol) of_symbol
-  written : SymbolText of_symbol (plain_text of_symbol)
+  of_symbol : SymbolModel
+  is : x ≡ symbol_info (last_name of_symbol) of_symbol
+  written : SymbolText of_symbol (canonical_text of_symbol)
 
 has_symbol : {x : SymbolRow} → IsExternalRow x → HasSymbol x
 unfolding last_name last_of
@@ -47,34 +47,34 @@ pub one_row : (x y : SymbolRow) → IsExternalRow x → IsExternalRow y → x.sy
 one_row x y i j e =
     let s = has_symbol i in
     let t = has_symbol j in
-    let f : plain_text s.of_symbol ≡ plain_text t.of_symbol = sym (ap (λ (r : SymbolRow). r.symbol) s.is) ∙ (e ∙ ap (λ (r : SymbolRow). r.symbol) t.is) in
+    let f : canonical_text s.of_symbol ≡ canonical_text t.of_symbol = sym (ap (λ (r : SymbolRow). r.symbol) s.is) ∙ (e ∙ ap (λ (r : SymbolRow). r.symbol) t.is) in
     let same : s.of_symbol ≡ t.of_symbol = texts_apart s.of_symbol t.of_symbol s.written t.written f in
-    s.is ∙ (ap (λ (u : PlainSymbol). shown (last_name u) u) same ∙ sym t.is)
+    s.is ∙ (ap (λ (u : SymbolModel). symbol_info (last_name u) u) same ∙ sym t.is)
 
 -- ---- the rows of a module are such rows
 
-module _ (w : World) (named : HaveNames w) where
+module _ (w : World) (named : NamesAreIdentifiers w) where
   name_row : (item name : ℕ) (x : SymbolRow) (o : Option Import) → IsName (text w name) → slice_get w.rows.imports item ≡ o
-      → option_map (shown (text w name)) (option_map (λ (i : Import). global [] (module_path (text w i.imported) ++ descriptor Term (text w name) ∷ [])) o) ≡ Some x → IsExternalRow x
+      → option_map (symbol_info (text w name)) (option_map (λ (i : Import). global [] (module_path (text w i.imported) ++ descriptor Term (text w name) ∷ [])) o) ≡ Some x → IsExternalRow x
   name_row item name x None is e f = absurd (let none : None ≡ Some x = f in cc)
   name_row item name x (Some i) is e f = subst IsExternalRow (some_one _ x f) (of_name (text w i.imported) (text w name) (import_named w named i item e) is)
 
-  package_none : (item : ℕ) (o : Option ℕ) → home_of w item ≡ o → package_of w [] item ≡ []
+  package_none : (item : ℕ) (o : Option ℕ) → module_of_item w item ≡ o → package_of w [] item ≡ []
   package_none item None e = rw e refl
-  package_none item (Some home) e = rw e refl
+  package_none item (Some module_number) e = rw e refl
 
   module_row : (item : ℕ) (x : SymbolRow) (o : Option Import) → slice_get w.rows.imports item ≡ o
-      → option_and_then (λ (i : Import). option_map (shown (text w i.imported)) (option_map (λ (j : Import). global [] (module_path (text w j.imported))) o)) o ≡ Some x → IsExternalRow x
+      → option_and_then (λ (i : Import). option_map (symbol_info (text w i.imported)) (option_map (λ (j : Import). global [] (module_path (text w j.imported))) o)) o ≡ Some x → IsExternalRow x
   module_row item x None e f = absurd (let none : None ≡ Some x = f in cc)
   module_row item x (Some i) e f = subst IsExternalRow (some_one _ x f) (of_module (text w i.imported) (import_named w named i item e))
 
   module_told : (item : ℕ) (x : SymbolRow) → external_module w item ≡ Some x → IsExternalRow x
-  module_told item x e = elim (cases_Bool (is_none (home_of w item))) [
+  module_told item x e = elim (cases_Bool (is_none (module_of_item w item))) [
     | inl a ↦ (
         let f = rw a at e in
         module_row item x (slice_get w.rows.imports item) refl
-        (sym (ap (λ (p : List ℕ). option_and_then (λ (i : Import). option_map (shown (text w i.imported)) (option_map (λ (j : Import). global p (module_path (text w j.imported))) (slice_get w.rows.imports item))) (slice_get w.rows.imports item))
-        (package_none item (home_of w item) refl)) ∙ f))
+        (sym (ap (λ (p : List ℕ). option_and_then (λ (i : Import). option_map (symbol_info (text w i.imported)) (option_map (λ (j : Import). global p (module_path (text w j.imported))) (slice_get w.rows.imports item))) (slice_get w.rows.imports item))
+        (package_none item (module_of_item w item) refl)) ∙ f))
     | inr b ↦ absurd (let none : None ≡ Some x = rw b at e in cc)
   ]
 
@@ -87,7 +87,7 @@ module _ (w : World) (named : HaveNames w) where
   row_told targets.Predeclared x names e = absurd (let none : None ≡ Some x = e in cc)
   row_told targets.Unresolved x names e = absurd (let none : None ≡ Some x = e in cc)
 
-  pub rows_told : (refs : List Reference) → AreOfNames w refs → AreExternalRows (externals_in w refs)
+  pub rows_told : (refs : List Reference) → ReferencesAreIdentifiers w refs → AreExternalRows (externals_in w refs)
   rows_told refs names x h =
       let at = slice_contains (externals_in w refs) x h in
       let r = row_of (λ (r : Reference). external_row w r.target) refs x at.0 at.1 in

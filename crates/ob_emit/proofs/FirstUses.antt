@@ -13,10 +13,10 @@ use Rattle.indexmap.specs.IndexSet.{contains, IndexSet}
 use Rattle.ob_scope.proofs.Elements.{contains_slice, slice_contains}
 use Rattle.ob_targets.specs.declared.target.Reference.{Reference}
 use Rattle.ob_types.specs.World.{World}
-use Rattle.scip_index.specs.Plain.{PlainSymbol as SymbolRow}
+use Rattle.scip_index.specs.Plain.{SymbolModel as SymbolRow}
 use Rattle.ob_emit.specs.Externals.{external_row, externals_in, AreExternals}
-use Rattle.ob_emit.specs.Made.{outside_row, same_outside, AreEnough, OutsideKey}
-use Rattle.ob_emit.specs.Named.{AreOfNames}
+use Rattle.ob_emit.specs.StoredTexts.{outside_row, is_same_outside_key, AreEnough, OutsideKey}
+use Rattle.ob_emit.specs.Named.{ReferencesAreIdentifiers}
 use Rattle.ob_emit.proofs.NamesGiven.{row_of}
 use Rattle.ob_emit.proofs.OneMember.{mapped}
 
@@ -28,26 +28,26 @@ module _ (w : World) where
   one_name item (Some m) None e = absurd cc
   one_name item (Some m) (Some n) e = rw ((bytes_eq-Decides m.now n.now).0 e) refl
 
-  one_outside : (a b : OutsideKey) → same_outside a b ≡ true → outside_row w a ≡ outside_row w b
+  one_outside : (a b : OutsideKey) → is_same_outside_key a b ≡ true → outside_row w a ≡ outside_row w b
   one_outside a b e =
       let parts = and_parts (nat_eq a.0 b.0) (option_eq (λ (m n : Bor (List ℕ)). bytes_eq m.now n.now) a.1 b.1) e in
       ap (λ (item : ℕ). outside_row w (item, a.1)) (eqb-true a.0 b.0 parts.0) ∙ one_name b.0 a.1 b.1 parts.1
 
 -- so far: those that are kept are references, and the rows of what was seen and of the references are theirs
-pub record AreFirst {S : Type 0} (w : World) (refs : List Reference) (seen : IndexSet OutsideKey S) (part kept : List Reference) : Type 0 where
-  pub among : (r : Reference) → Contains kept r → Contains refs r
-  pub known : (k : OutsideKey) (x : SymbolRow) → contains same_outside seen k ≡ true → outside_row w k ≡ Some x → Contains (externals_in w kept) x
-  pub each : (r : Reference) (x : SymbolRow) → Contains part r → external_row w r.target ≡ Some x → Contains (externals_in w kept) x
+pub record AreFirst {S : Type 0} (w : World) (refs : List Reference) (seen : IndexSet OutsideKey S) (part stored_text : List Reference) : Type 0 where
+  pub among : (r : Reference) → Contains stored_text r → Contains refs r
+  pub known : (k : OutsideKey) (x : SymbolRow) → contains is_same_outside_key seen k ≡ true → outside_row w k ≡ Some x → Contains (externals_in w stored_text) x
+  pub each : (r : Reference) (x : SymbolRow) → Contains part r → external_row w r.target ≡ Some x → Contains (externals_in w stored_text) x
 
 only_one : {X : Type 0} (x y : X) → Contains (x ∷ []) y → x ≡ y
 only_one x y (k, l, e) = let zero_is : k ≡ 0 = omega (arith, l) in subst (λ (n : ℕ). get_or (x ∷ []) n y ≡ y) zero_is e
 
-module _ {S : Type 0} (w : World) (refs : List Reference) (i : ℕ) (d : Reference) (l : i < length refs) (old : IndexSet OutsideKey S) (kept : List Reference) (before : AreFirst w refs old (take i refs) kept) where
+module _ {S : Type 0} (w : World) (refs : List Reference) (i : ℕ) (d : Reference) (l : i < length refs) (old : IndexSet OutsideKey S) (stored_text : List Reference) (before : AreFirst w refs old (take i refs) stored_text) where
   abbrev this : Reference
   this = get_or refs i d
 
   -- one reference more, whose row is there
-  module _ (more : List Reference) (stay : (x : SymbolRow) → Contains (externals_in w kept) x → Contains (externals_in w more) x)
+  module _ (more : List Reference) (stay : (x : SymbolRow) → Contains (externals_in w stored_text) x → Contains (externals_in w more) x)
       (here : (x : SymbolRow) → external_row w this.target ≡ Some x → Contains (externals_in w more) x) where
     each_more : (r : Reference) (x : SymbolRow) → Contains (take (i + 1) refs) r → external_row w r.target ≡ Some x → Contains (externals_in w more) x
     each_more r x there e = elim (Contains-append_cases (take i refs) (this ∷ []) r (subst (λ (rs : List Reference). Contains rs r) (take_more refs i d l) there)) [
@@ -56,45 +56,45 @@ module _ {S : Type 0} (w : World) (refs : List Reference) (i : ℕ) (d : Referen
     ]
 
   -- it stands for nothing outside
-  pub nothing_more : option_and_then (outside_row w) None ≡ external_row w this.target → AreFirst w refs old (take (i + 1) refs) kept
+  pub nothing_more : option_and_then (outside_row w) None ≡ external_row w this.target → AreFirst w refs old (take (i + 1) refs) stored_text
   nothing_more e = record {
     among = before.among;
     known = before.known;
-    each = each_more kept (λ x h. h) (λ x f. absurd (let none : None ≡ Some x = e ∙ f in cc));
+    each = each_more stored_text (λ x h. h) (λ x f. absurd (let none : None ≡ Some x = e ∙ f in cc));
   }
 
   module _ (new : IndexSet OutsideKey S) (key : OutsideKey) (is : outside_row w key ≡ external_row w this.target)
-      (updates : (q : OutsideKey) → contains same_outside new q ≡ cond (same_outside key q) true (contains same_outside old q)) where
-    known_more : (more : List Reference) → ((x : SymbolRow) → Contains (externals_in w kept) x → Contains (externals_in w more) x)
-        → ((x : SymbolRow) → external_row w this.target ≡ Some x → Contains (externals_in w more) x) → (q : OutsideKey) (x : SymbolRow) → contains same_outside new q ≡ true → outside_row w q ≡ Some x
+      (updates : (q : OutsideKey) → contains is_same_outside_key new q ≡ cond (is_same_outside_key key q) true (contains is_same_outside_key old q)) where
+    known_more : (more : List Reference) → ((x : SymbolRow) → Contains (externals_in w stored_text) x → Contains (externals_in w more) x)
+        → ((x : SymbolRow) → external_row w this.target ≡ Some x → Contains (externals_in w more) x) → (q : OutsideKey) (x : SymbolRow) → contains is_same_outside_key new q ≡ true → outside_row w q ≡ Some x
         → Contains (externals_in w more) x
-    known_more more stay here q x h e = at (same_outside key q) refl (sym (updates q) ∙ h)
+    known_more more stay here q x h e = at (is_same_outside_key key q) refl (sym (updates q) ∙ h)
       where
-        at : (b : Bool) → same_outside key q ≡ b → cond b true (contains same_outside old q) ≡ true → Contains (externals_in w more) x
+        at : (b : Bool) → is_same_outside_key key q ≡ b → cond b true (contains is_same_outside_key old q) ≡ true → Contains (externals_in w more) x
         at false s g = stay x (before.known q x g e)
         at true s g = here x (sym is ∙ one_outside w key q s ∙ e)
 
     -- it stands for something that was seen
-    pub seen_more : contains same_outside old key ≡ true → AreFirst w refs new (take (i + 1) refs) kept
+    pub seen_more : contains is_same_outside_key old key ≡ true → AreFirst w refs new (take (i + 1) refs) stored_text
     seen_more h =
-        let here : (x : SymbolRow) → external_row w this.target ≡ Some x → Contains (externals_in w kept) x = λ x f. before.known key x h (is ∙ f) in
+        let here : (x : SymbolRow) → external_row w this.target ≡ Some x → Contains (externals_in w stored_text) x = λ x f. before.known key x h (is ∙ f) in
         record {
           among = before.among;
-          known = known_more kept (λ x g. g) here;
-          each = each_more kept (λ x g. g) here;
+          known = known_more stored_text (λ x g. g) here;
+          each = each_more stored_text (λ x g. g) here;
         }
 
     -- it is the first
-    pub first_more : AreFirst w refs new (take (i + 1) refs) (kept ++ this ∷ [])
+    pub first_more : AreFirst w refs new (take (i + 1) refs) (stored_text ++ this ∷ [])
     first_more =
-        let more = kept ++ this ∷ [] in
-        let split = filter_map-append (λ (r : Reference). external_row w r.target) kept (this ∷ []) in
-        let stay : (x : SymbolRow) → Contains (externals_in w kept) x → Contains (externals_in w more) x =
-        λ x g. subst (λ (rows : List SymbolRow). Contains rows x) (sym split) (Contains-append_left (externals_in w kept) (externals_in w (this ∷ [])) x g) in
+        let more = stored_text ++ this ∷ [] in
+        let split = filter_map-append (λ (r : Reference). external_row w r.target) stored_text (this ∷ []) in
+        let stay : (x : SymbolRow) → Contains (externals_in w stored_text) x → Contains (externals_in w more) x =
+        λ x g. subst (λ (rows : List SymbolRow). Contains rows x) (sym split) (Contains-append_left (externals_in w stored_text) (externals_in w (this ∷ [])) x g) in
         let here : (x : SymbolRow) → external_row w this.target ≡ Some x → Contains (externals_in w more) x =
-        λ x f. mapped (λ (r : Reference). external_row w r.target) more this x (Contains-append_right kept (this ∷ []) this (0, omega arith, refl)) f in
+        λ x f. mapped (λ (r : Reference). external_row w r.target) more this x (Contains-append_right stored_text (this ∷ []) this (0, omega arith, refl)) f in
         record {
-          among = λ r h. elim (Contains-append_cases kept (this ∷ []) r h) [
+          among = λ r h. elim (Contains-append_cases stored_text (this ∷ []) r h) [
             | inl earlier ↦ before.among r earlier
             | inr last ↦ subst (λ (s : Reference). Contains refs s) (only_one this r last) (contains_slice refs i this (slice_get-get_or refs i d l))
           ];
@@ -102,35 +102,35 @@ module _ {S : Type 0} (w : World) (refs : List Reference) (i : ℕ) (d : Referen
           each = each_more more stay here;
         }
 
-pub none_yet : {S : Type 0} (w : World) (refs : List Reference) (seen : IndexSet OutsideKey S) (kept : List Reference) → seen.keys ≡ [] → kept ≡ [] → AreFirst w refs seen (take 0 refs) kept
-none_yet w refs seen kept e f = record {
+pub none_yet : {S : Type 0} (w : World) (refs : List Reference) (seen : IndexSet OutsideKey S) (stored_text : List Reference) → seen.keys ≡ [] → stored_text ≡ [] → AreFirst w refs seen (take 0 refs) stored_text
+none_yet w refs seen stored_text e f = record {
   among = λ r h. absurd (let g : Contains [] r = subst (λ (rs : List Reference). Contains rs r) f h in omega (arith, g.1));
   known = λ k x h is. absurd (let g : false ≡ true = rw e at h in cc);
   each = λ r x h is. absurd (omega (arith, h.1));
 }
 
-pub all_firsts : {S : Type 0} (w : World) (refs : List Reference) (i : ℕ) (seen : IndexSet OutsideKey S) (kept : List Reference) → length refs ≤ i → AreFirst w refs seen (take i refs) kept → AreEnough w refs kept
-all_firsts w refs i seen kept l h = record { among = h.among; each = λ r x there e. h.each r x (subst (λ (rs : List Reference). Contains rs r) (sym (take_all i refs l)) there) e }
+pub all_firsts : {S : Type 0} (w : World) (refs : List Reference) (i : ℕ) (seen : IndexSet OutsideKey S) (stored_text : List Reference) → length refs ≤ i → AreFirst w refs seen (take i refs) stored_text → AreEnough w refs stored_text
+all_firsts w refs i seen stored_text l h = record { among = h.among; each = λ r x there e. h.each r x (subst (λ (rs : List Reference). Contains rs r) (sym (take_all i refs l)) there) e }
 
 -- what is true of all references' names and rows
-module _ (w : World) (refs kept : List Reference) (enough : AreEnough w refs kept) where
-  pub kept_named : AreOfNames w refs → AreOfNames w kept
+module _ (w : World) (refs stored_text : List Reference) (enough : AreEnough w refs stored_text) where
+  pub kept_named : ReferencesAreIdentifiers w refs → ReferencesAreIdentifiers w stored_text
   kept_named names = record { own = λ r h. names.own r (enough.among r h); external = λ r h. names.external r (enough.among r h) }
 
   abbrev row : Reference → Option SymbolRow
   row r = external_row w r.target
 
-  pub in_all : (x : SymbolRow) → Contains (externals_in w kept) x → Contains (externals_in w refs) x
+  pub in_all : (x : SymbolRow) → Contains (externals_in w stored_text) x → Contains (externals_in w refs) x
   in_all x h =
-      let at = slice_contains (externals_in w kept) x h in
-      let r = row_of row kept x at.0 at.1 in
-      mapped row refs r.row x (enough.among r.row (contains_slice kept r.place r.row r.at)) r.tells
+      let at = slice_contains (externals_in w stored_text) x h in
+      let r = row_of row stored_text x at.0 at.1 in
+      mapped row refs r.row x (enough.among r.row (contains_slice stored_text r.place r.row r.at)) r.tells
 
-  pub in_kept : (x : SymbolRow) → Contains (externals_in w refs) x → Contains (externals_in w kept) x
+  pub in_kept : (x : SymbolRow) → Contains (externals_in w refs) x → Contains (externals_in w stored_text) x
   in_kept x h =
       let at = slice_contains (externals_in w refs) x h in
       let r = row_of row refs x at.0 at.1 in
       enough.each r.row x (contains_slice refs r.place r.row r.at) r.tells
 
-  pub of_all : (rows : List SymbolRow) → AreExternals (externals_in w kept) rows → AreExternals (externals_in w refs) rows
+  pub of_all : (rows : List SymbolRow) → AreExternals (externals_in w stored_text) rows → AreExternals (externals_in w refs) rows
   of_all rows e = record { ordered = e.ordered; each = λ x. (λ h. in_all x ((e.each x).0 h), λ h. (e.each x).1 (in_kept x h)) }

@@ -18,7 +18,7 @@ filled old payload key size at is =
     ∙ sym (moved old payload key size)
 
 put_in : (p payload : List ℕ) (b at : ℕ) → at ≡ length p → insert (p ++ payload) at b ≡ p ++ b ∷ payload
-put_in p payload b at is = ap₂ (λ (front behind : List ℕ). front ++ b ∷ behind) (take_at p payload at (sym is)) (drop_at p payload at (sym is))
+put_in p payload b at is = ap₂ (λ (prefix behind : List ℕ). prefix ++ b ∷ behind) (take_at p payload at (sym is)) (drop_at p payload at (sym is))
 
 -- one byte
 pub settled_low : (old payload : List ℕ) (key size at : ℕ) → size < 128 → at ≡ length old + 1 →
@@ -31,10 +31,10 @@ pub settled_high : (old payload : List ℕ) (key size at next : ℕ) → 128 ≤
 settled_high old payload key size at next g l is more =
     let low = size % 128 + 128 in
     let high = size / 128 in
-    let front : List ℕ = old ++ key ∷ low ∷ [] in
+    let prefix : List ℕ = old ++ key ∷ low ∷ [] in
     let two : varint size ≡ low ∷ high ∷ [] = varint-large size g (omega arith) ∙ ap (λ (bytes : List ℕ). low ∷ bytes) (varint-small high (omega arith)) in
     ap (λ (bytes : List ℕ). insert bytes next high) (filled old payload key low at is)
-    ∙ put_in front payload high next (omega (arith, more, length-append old (key ∷ low ∷ [])))
+    ∙ put_in prefix payload high next (omega (arith, more, length-append old (key ∷ low ∷ [])))
     ∙ append_assoc old (key ∷ low ∷ []) (high ∷ payload)
     ∙ sym (append_assoc old (key ∷ low ∷ high ∷ []) payload)
     ∙ ap (λ (bytes : List ℕ). (old ++ key ∷ bytes) ++ payload) (sym two)

@@ -11,9 +11,9 @@ use Rattle.std.specs.Str.{bytes_eq}
 use Rattle.std.proofs.lemmas.Slice.Eq.{bytes_eq-Decides}
 use Rattle.indexmap.specs.IndexMap.{get, IndexMap}
 use Rattle.ob_types.specs.World.{World}
-use Rattle.ob_emit.specs.declared.imported_kept.ImportedText.{ImportedText}
-use Rattle.scip_symbol.specs.SymbolTexts.{plain_text}
-use Rattle.ob_emit.specs.Made.{same_name, named_symbol, AreExternal, AreImported, AreTextsByKey, AreModules, NameKey}
+use Rattle.ob_emit.specs.declared.imported_cache.ImportedText.{ImportedText}
+use Rattle.scip_symbol.specs.SymbolTexts.{canonical_text}
+use Rattle.ob_emit.specs.StoredTexts.{is_same_name_key, named_symbol, AreExternal, AreImported, AreTextsByKey, AreModules, NameKey}
 use Rattle.ob_emit.specs.Symbols.{imported_symbol, module_symbol}
 
 module _ {K S : Type 0} (same : K → K → Bool) (text_of : K → Option (List ℕ)) (one : (a b : K) → same a b ≡ true → text_of a ≡ text_of b) (old new : IndexMap K (Option (String Global)) S) (k : K) (v : Option (String Global)) where
@@ -38,7 +38,7 @@ module _ (w : World) (p : List ℕ) (texts : List ImportedText) where
   pub imported_none : texts ≡ [] → AreImported w p texts
   imported_none is slot row at = absurd (let e : None ≡ Some row = sym (ap (λ (rows : List ImportedText). slice_get rows slot) is) ∙ at in cc)
 
-  pub imported_more : (one : ImportedText) → AreImported w p texts → option_map string_bytes one.text ≡ option_map plain_text (imported_symbol w p one.reached one.declaration) → AreImported w p (texts ++ one ∷ [])
+  pub imported_more : (one : ImportedText) → AreImported w p texts → option_map string_bytes one.text ≡ option_map canonical_text (imported_symbol w p one.reached one.declaration) → AreImported w p (texts ++ one ∷ [])
   imported_more one are is slot row at = elim (cases_lt slot (length texts)) [
     | inl below ↦ are slot row (sym (get_front texts one slot below) ∙ at)
     | inr above ↦ (
@@ -46,14 +46,14 @@ module _ (w : World) (p : List ℕ) (texts : List ImportedText) where
         let last : slot ≡ length texts = omega (arith, length-append texts (one ∷ []), above, within) in
         let there : Some one ≡ Some row = sym (get_last texts one) ∙ (ap (slice_get (texts ++ one ∷ [])) (sym last) ∙ at) in
         let same : one ≡ row = cc in
-        subst (λ (r : ImportedText). option_map string_bytes r.text ≡ option_map plain_text (imported_symbol w p r.reached r.declaration)) same is)
+        subst (λ (r : ImportedText). option_map string_bytes r.text ≡ option_map canonical_text (imported_symbol w p r.reached r.declaration)) same is)
   ]
 
 -- modules' texts, one more
 pub modules_none : (w : World) (p : List ℕ) → AreModules w p []
 modules_none w p item text at = absurd (let e : None ≡ Some text = at in cc)
 
-pub modules_more : (w : World) (p : List ℕ) (texts : List (Option (String Global))) (v : Option (String Global)) → AreModules w p texts → option_map string_bytes v ≡ option_map plain_text (module_symbol w p (length texts))
+pub modules_more : (w : World) (p : List ℕ) (texts : List (Option (String Global))) (v : Option (String Global)) → AreModules w p texts → option_map string_bytes v ≡ option_map canonical_text (module_symbol w p (length texts))
     → AreModules w p (texts ++ v ∷ [])
 modules_more w p texts v are is item text at = elim (cases_lt item (length texts)) [
   | inl below ↦ are item text (sym (get_front texts v item below) ∙ at)
@@ -62,16 +62,16 @@ modules_more w p texts v are is item text at = elim (cases_lt item (length texts
       let last : item ≡ length texts = omega (arith, length-append texts (v ∷ []), above, within) in
       let there : Some v ≡ Some text = sym (get_last texts v) ∙ (ap (slice_get (texts ++ v ∷ [])) (sym last) ∙ at) in
       let same : v ≡ text = cc in
-      ap (option_map string_bytes) (sym same) ∙ is ∙ ap (λ (n : ℕ). option_map plain_text (module_symbol w p n)) (sym last))
+      ap (option_map string_bytes) (sym same) ∙ is ∙ ap (λ (n : ℕ). option_map canonical_text (module_symbol w p n)) (sym last))
 ]
 
 module _ {S : Type 0} (w : World) (old new : IndexMap NameKey (Option (String Global)) S) (key : NameKey) (v : Option (String Global)) where
-  one_name : (a b : NameKey) → same_name a b ≡ true → option_map plain_text (named_symbol w a.0 a.1.now) ≡ option_map plain_text (named_symbol w b.0 b.1.now)
+  one_name : (a b : NameKey) → is_same_name_key a b ≡ true → option_map canonical_text (named_symbol w a.0 a.1.now) ≡ option_map canonical_text (named_symbol w b.0 b.1.now)
   one_name a b e =
       let both = both_true (nat_eq a.0 b.0) (bytes_eq a.1.now b.1.now) e in
-      ap (λ (n : ℕ). option_map plain_text (named_symbol w n a.1.now)) (eqb-true a.0 b.0 both.0)
-      ∙ ap (λ (name : List ℕ). option_map plain_text (named_symbol w b.0 name)) ((bytes_eq-Decides a.1.now b.1.now).0 both.1)
+      ap (λ (n : ℕ). option_map canonical_text (named_symbol w n a.1.now)) (eqb-true a.0 b.0 both.0)
+      ∙ ap (λ (name : List ℕ). option_map canonical_text (named_symbol w b.0 name)) ((bytes_eq-Decides a.1.now b.1.now).0 both.1)
 
-  pub names_more : AreExternal w old → ((q : NameKey) → get same_name new q ≡ cond (same_name key q) (Some v) (get same_name old q)) → option_map string_bytes v ≡ option_map plain_text (named_symbol w key.0 key.1.now)
+  pub names_more : AreExternal w old → ((q : NameKey) → get is_same_name_key new q ≡ cond (is_same_name_key key q) (Some v) (get is_same_name_key old q)) → option_map string_bytes v ≡ option_map canonical_text (named_symbol w key.0 key.1.now)
       → AreExternal w new
-  names_more = kept_more same_name (λ (k : NameKey). option_map plain_text (named_symbol w k.0 k.1.now)) one_name old new key v
+  names_more = kept_more is_same_name_key (λ (k : NameKey). option_map canonical_text (named_symbol w k.0 k.1.now)) one_name old new key v

@@ -12,25 +12,25 @@ use Rattle.ob_scan.specs.Spelling.{Spells}
 use Rattle.ob_scan.specs.Tokens.{is_name}
 use Rattle.ob_scan.proofs.NameTokens.{spelled_names}
 use Rattle.ob_scan.specs.Texts.{no_token, text_at, token_at}
-use Rattle.ob_rows.specs.declared.rows.Declared.{Declared}
-use Rattle.ob_rows.specs.declared.rows.Declarer.{Declarer}
-use Rattle.ob_rows.specs.Parts.{Rows}
-use Rattle.ob_interface.specs.Interfaces.{declaration, declaration_by, declaration_of, interface_of, is_outer, is_seen_outside, outer_by, Declaration}
+use Rattle.module_table.specs.declared.rows.Declared.{Declared}
+use Rattle.module_table.specs.declared.rows.DeclGroup.{DeclGroup}
+use Rattle.module_table.specs.Parts.{Rows}
+use Rattle.ob_interface.specs.Interfaces.{declaration, declaration_by, declaration_of, interface_of, is_module_level, is_exportable, module_level_by, Declaration}
 use Rattle.ob_scope.specs.Identified.{AreNames}
-use Rattle.ob_scope.specs.Members.{declarer_at, member_by, members_of}
+use Rattle.ob_scope.specs.Members.{decl_group_at, declared_member, members_of}
 use Rattle.ob_scope.proofs.Elements.{contains_of, contains_slice, slice_contains, some_one}
 use Rattle.ob_targets.specs.declared.target.Reference.{Reference}
 use Rattle.ob_targets.specs.declared.target.Target.{Target}
 use Rattle.ob_targets.specs.declared.target.Target.TheVariants as targets
-use Rattle.ob_targets.specs.Refers.{identifiers, is_identifier, identifier_number, AreReferences, Refers, own_name, item, declaration as declares, end, used, selected, second, nowhere}
-use Rattle.ob_targets.specs.declared.known.Known.{Known}
+use Rattle.ob_targets.specs.Refers.{identifiers, is_identifier, identifier_number, AreReferences, Refers, module_name_token, item, declaration as declares, end, used, selected, second, nowhere}
+use Rattle.ob_targets.specs.declared.known.DesignatorType.{DesignatorType}
 use Rattle.ob_targets.specs.Predeclared.{is_predeclared}
 use Rattle.ob_types.specs.declared.nodes.Field.{Field}
 use Rattle.ob_types.specs.declared.nodes.Field.TheVariants as fields
 use Rattle.ob_targets.specs.Steps.{Selects, exported, field, no_field, unknown}
 use Rattle.ob_targets.specs.Targets.{declared_target, end_target, exported_target, field_target, second_target, used_target}
-use Rattle.ob_types.specs.World.{World, exported as exported_place, home_of, item_of, meaning, text}
-use Rattle.ob_emit.specs.Named.{AreOfNames, IsName, HasNames}
+use Rattle.ob_types.specs.World.{World, exported as exported_place, module_of_item, item_of, meaning, text}
+use Rattle.ob_emit.specs.Named.{ReferencesAreIdentifiers, IsName, HasNames}
 use Rattle.ob_emit.proofs.Naming.{found_there, same_declarer, told_there}
 
 -- ---- what rows stand for
@@ -67,19 +67,19 @@ find_there test (z ∷ zs) (suc i) x e t = elim (cases_Bool (test z)) [
 
 module _ (bytes : List ℕ) (ts : List Token) (rows : Rows) (names : AreNames (text_at bytes ts) rows) where
   -- an identifier whose construct stands in the module's block has a name
-  outer_name : (r : Declared) (i : ℕ) (by : Declarer) → slice_get rows.declared i ≡ Some r → outer_by rows.declarers r.declared_by ≡ Some by → IsName (text_at bytes ts r.number)
+  outer_name : (r : Declared) (i : ℕ) (by : DeclGroup) → slice_get rows.declared i ≡ Some r → module_level_by rows.decl_groups r.declared_by ≡ Some by → IsName (text_at bytes ts r.number)
   outer_name r i by at e =
-      let f = found_there (is_outer r.declared_by) rows.declarers by e in
+      let f = found_there (is_module_level r.declared_by) rows.decl_groups by e in
       let parts = and_parts (by.block == 0) (by.first == r.declared_by) f.2 in
-      let g = find_there (λ (x : Declarer). x.first == r.declared_by) rows.declarers f.0 by f.1 parts.1 in
-      let h : declarer_at rows.declarers r.declared_by ≡ Some g.0 = same_declarer rows.declarers r.declared_by ∙ g.1 in
-      let told : member_by r (declarer_at rows.declarers r.declared_by) ≡ member_by r (Some g.0) = ap (member_by r) h in
-      let m = told_there (λ (x : Declared). member_by x (declarer_at rows.declarers x.declared_by)) rows.declared i r _ at told in
+      let g = find_there (λ (x : DeclGroup). x.first == r.declared_by) rows.decl_groups f.0 by f.1 parts.1 in
+      let h : decl_group_at rows.decl_groups r.declared_by ≡ Some g.0 = same_declarer rows.decl_groups r.declared_by ∙ g.1 in
+      let told : declared_member r (decl_group_at rows.decl_groups r.declared_by) ≡ declared_member r (Some g.0) = ap (declared_member r) h in
+      let m = told_there (λ (x : Declared). declared_member x (decl_group_at rows.decl_groups x.declared_by)) rows.declared i r _ at told in
       names.members _ (contains_slice (members_of rows) m.0 _ m.1)
 
-  seen_by : (r : Declared) (i : ℕ) (d : Declaration) (o : Option Declarer) → slice_get rows.declared i ≡ Some r → outer_by rows.declarers r.declared_by ≡ o → declaration_by bytes ts rows.parts r o ≡ Some d → IsName d.name
+  seen_by : (r : Declared) (i : ℕ) (d : Declaration) (o : Option DeclGroup) → slice_get rows.declared i ≡ Some r → module_level_by rows.decl_groups r.declared_by ≡ o → declaration_by bytes ts rows.parts r o ≡ Some d → IsName d.name
   seen_by r i d None at e f = absurd (let none : None ≡ Some d = f in cc)
-  seen_by r i d (Some by) at e f = elim (cases_Bool (is_seen_outside by.sort)) [
+  seen_by r i d (Some by) at e f = elim (cases_Bool (is_exportable by.decl_kind)) [
     | inl a ↦ (
         let same : declaration bytes ts rows.parts r by ≡ d = some_one (declaration bytes ts rows.parts r by) d (rw a at f) in
         subst IsName (ap (λ (x : Declaration). x.name) same) (outer_name r i by at e))
@@ -92,7 +92,7 @@ module _ (bytes : List ℕ) (ts : List Token) (rows : Rows) (names : AreNames (t
     declarations = λ d h.
         let at = slice_contains (interface_of bytes ts rows).declarations d h in
         let r = row_of (declaration_of bytes ts rows) rows.declared d at.0 at.1 in
-        seen_by r.row r.place d (outer_by rows.declarers r.row.declared_by) r.at refl r.tells;
+        seen_by r.row r.place d (module_level_by rows.decl_groups r.row.declared_by) r.at refl r.tells;
   }
 
 -- ---- references
@@ -136,7 +136,7 @@ module _ (bytes : List ℕ) (ts : List Token) (spells : Spells bytes ts) where
 
 -- what stands for a name of an external module is that name
 module _ (w : World) (v n : ℕ) where
-  export_named : (at k : ℕ) (o : Option ℕ) → home_of w at ≡ o → exported_target w at k ≡ targets.External v n → k ≡ n
+  export_named : (at k : ℕ) (o : Option ℕ) → module_of_item w at ≡ o → exported_target w at k ≡ targets.External v n → k ≡ n
   export_named at k None e f = (let g : targets.External at k ≡ targets.External v n = rw (e, exported_target) at f in cc)
   export_named at k (Some i) e f = by_place (exported_place w i (text w k)) refl (rw (e, exported_target) at f)
     where
@@ -156,7 +156,7 @@ module _ (w : World) (v n : ℕ) where
   ]
 
   second_named : (k : ℕ) (t : Target) → second_target w k t ≡ targets.External v n → k ≡ n
-  second_named k (targets.«Module» at) e = export_named at k (home_of w at) refl e
+  second_named k (targets.«Module» at) e = export_named at k (module_of_item w at) refl e
   second_named k (targets.Declared d) e = absurd (let c : targets.Unresolved ≡ targets.External v n = e in cc)
   second_named k (targets.Imported i d) e = absurd (let c : targets.Unresolved ≡ targets.External v n = e in cc)
   second_named k (targets.External at m) e = absurd (let c : targets.Unresolved ≡ targets.External v n = e in cc)
@@ -172,14 +172,14 @@ module _ (w : World) (v n : ℕ) where
   field_not (fields.Own k) e = absurd (let c : targets.Declared k ≡ targets.External v n = e in cc)
   field_not (fields.Other i d) e = absurd (let c : targets.Imported i d ≡ targets.External v n = e in cc)
 
-  selected_named : (k : ℕ) {o : Known} {t : Target} → Selects w o k t → t ≡ targets.External v n → k ≡ n
-  selected_named k (exported {at}) e = export_named at k (home_of w at) refl e
+  selected_named : (k : ℕ) {o : DesignatorType} {t : Target} → Selects w o k t → t ≡ targets.External v n → k ≡ n
+  selected_named k (exported {at}) e = export_named at k (module_of_item w at) refl e
   selected_named k (field {f = f} finds) e = absurd (field_not f e)
   selected_named k (no_field none) e = absurd (let c : targets.Unresolved ≡ targets.External v n = e in cc)
   selected_named k unknown e = absurd (let c : targets.Unresolved ≡ targets.External v n = e in cc)
 
   external_named : (k : ℕ) {t : Target} {role : ℕ} → Refers w k t role → t ≡ targets.External v n → k ≡ n
-  external_named k (own_name s) e = absurd (let c : targets.Own ≡ targets.External v n = e in cc)
+  external_named k (module_name_token s) e = absurd (let c : targets.Own ≡ targets.External v n = e in cc)
   external_named k (item {at} s) e = absurd (let c : targets.«Module» at ≡ targets.External v n = e in cc)
   external_named k (declares s) e = absurd (let c : targets.Declared k ≡ targets.External v n = e in cc)
   external_named k (end {e = x} s there) e = absurd (end_not x.of e)
@@ -196,7 +196,7 @@ module _ (w : World) (refs : List Reference) (spells : Spells w.bytes w.tokens) 
       let there : Contains (map (λ (x : Reference). x.number) refs) r.number = contains_of (λ (x : Reference). x.number) refs at.0 r at.1 in
       identifier_name w.bytes w.tokens spells r.number (subst (λ (ns : List ℕ). Contains ns r.number) are.numbers there)
 
-  pub references_named : AreOfNames w refs
+  pub references_named : ReferencesAreIdentifiers w refs
   references_named = record {
     own = reference_name;
     external = λ r h i n e.

@@ -6,14 +6,14 @@ use Rattle.std.specs.Option.{option_copied}
 use Rattle.std.specs.List.{position, position_or_len}
 use Rattle.std.proofs.lemmas.Option.{slice_get_within}
 use Rattle.std.proofs.lemmas.Bool.{cases_Bool, eq-eqb, eqb-true, lt-ltb, le-ltb}
-use Rattle.ob_rows.specs.Order.{AscendBy, HasNoneBy, IsPlaceBy}
+use Rattle.module_table.specs.Order.{IsIncreasingBy, HasNoneBy, IsIndexBy}
 use Rattle.ob_scope.proofs.Elements.{some_one, slice_contains}
 
 module _ {X : Type 0} (n : X → ℕ) where
-  ascend_tail : (x : X) (xs : List X) → AscendBy n (x ∷ xs) → AscendBy n xs
+  ascend_tail : (x : X) (xs : List X) → IsIncreasingBy n (x ∷ xs) → IsIncreasingBy n xs
   ascend_tail x xs up i j y z l p q = up (suc i) (suc j) y z (omega arith) p q
 
-  pub find_there : (xs : List X) (i k : ℕ) (x : X) → AscendBy n xs → slice_get xs i ≡ Some x → n x ≡ k → find (λ y. n y == k) xs ≡ Some x
+  pub find_there : (xs : List X) (i k : ℕ) (x : X) → IsIncreasingBy n xs → slice_get xs i ≡ Some x → n x ≡ k → find (λ y. n y == k) xs ≡ Some x
   find_there [] i k x up there is = absurd (let e : None ≡ Some x = there in cc)
   find_there (y ∷ ys) zero k x up there is =
       let same : y ≡ x = some_one y x there in
@@ -26,7 +26,7 @@ module _ {X : Type 0} (n : X → ℕ) where
         | inr f ↦ rw f (find_there ys i k x (ascend_tail y ys up) there is)
       ]
 
-  pub find_among : (xs : List X) (k : ℕ) (x : X) → AscendBy n xs → Contains xs x → n x ≡ k → find (λ y. n y == k) xs ≡ Some x
+  pub find_among : (xs : List X) (k : ℕ) (x : X) → IsIncreasingBy n xs → Contains xs x → n x ≡ k → find (λ y. n y == k) xs ≡ Some x
   find_among xs k x up h is = let p = slice_contains xs x h in find_there xs p.0 k x up p.1 is
 
   pub find_nowhere : (xs : List X) (k : ℕ) → ((x : X) → Contains xs x → n x ≡ k → ⊥) → find (λ y. n y == k) xs ≡ None
@@ -36,7 +36,7 @@ module _ {X : Type 0} (n : X → ℕ) where
     | inr f ↦ rw f (find_nowhere xs k (λ y h e. none y (suc h.0, omega (arith, h.1), h.2) e))
   ]
 
-  place_there : (xs : List X) (i k : ℕ) (x : X) → AscendBy n xs → slice_get xs i ≡ Some x → n x ≡ k → position_or_len (λ y. n y == k) xs ≡ i
+  place_there : (xs : List X) (i k : ℕ) (x : X) → IsIncreasingBy n xs → slice_get xs i ≡ Some x → n x ≡ k → position_or_len (λ y. n y == k) xs ≡ i
   place_there [] i k x up there is = absurd (let e : None ≡ Some x = there in cc)
   place_there (y ∷ ys) zero k x up there is =
       let e : n y ≡ k = ap n (some_one y x there) ∙ is in
@@ -48,7 +48,7 @@ module _ {X : Type 0} (n : X → ℕ) where
         | inr f ↦ rw f (let rest : position_or_len (λ z. n z == k) ys ≡ i = place_there ys i k x (ascend_tail y ys up) there is in omega arith)
       ]
 
-  pub position_there : (xs : List X) (i k : ℕ) → AscendBy n xs → IsPlaceBy n xs k i → position (λ y. n y == k) xs ≡ Some i
+  pub position_there : (xs : List X) (i k : ℕ) → IsIncreasingBy n xs → IsIndexBy n xs k i → position (λ y. n y == k) xs ≡ Some i
   position_there xs i k up f =
       let e : position_or_len (λ y. n y == k) xs ≡ i = place_there xs i k f.element up f.there f.has in
       let l : i < length xs = slice_get_within xs i f.element f.there in
@@ -65,12 +65,12 @@ module _ {X : Type 0} (n : X → ℕ) where
   position_nowhere xs k none = rw (no_place xs k none, le-ltb (length xs) (length xs) (omega arith)) refl
 
   -- what a look-up by the number answers
-  pub find_answer : (xs : List X) (k : ℕ) (o : Option (Bor X)) → AscendBy n xs → IfSome o (λ r. Contains xs r.now) → IfSome o (λ r. n r.now ≡ k)
+  pub find_answer : (xs : List X) (k : ℕ) (o : Option (Bor X)) → IsIncreasingBy n xs → IfSome o (λ r. Contains xs r.now) → IfSome o (λ r. n r.now ≡ k)
       → IfNone o ((x : X) → Contains xs x → n x ≡ k → ⊥) → option_copied o ≡ find (λ y. n y == k) xs
   find_answer xs k None up found number none = sym (find_nowhere xs k none)
   find_answer xs k (Some r) up found number none = sym (find_among xs k r.now up found number)
 
   -- what a search by the number answers
-  pub position_answer : (xs : List X) (k : ℕ) (o : Option ℕ) → AscendBy n xs → IfSome o (IsPlaceBy n xs k) → IfNone o (HasNoneBy n xs k) → o ≡ position (λ y. n y == k) xs
+  pub position_answer : (xs : List X) (k : ℕ) (o : Option ℕ) → IsIncreasingBy n xs → IfSome o (IsIndexBy n xs k) → IfNone o (HasNoneBy n xs k) → o ≡ position (λ y. n y == k) xs
   position_answer xs k None up found none = sym (position_nowhere xs k none)
   position_answer xs k (Some i) up found none = sym (position_there xs i k up found)

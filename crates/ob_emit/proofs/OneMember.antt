@@ -5,13 +5,13 @@ use Rattle.std.specs.List.{cons_option, filter_map}
 use Rattle.std.specs.Option.{option_map, option_and_then}
 use Rattle.std.proofs.lemmas.Bool.{cases_lt}
 use Rattle.std.proofs.lemmas.Option.{slice_get-get_or}
-use Rattle.ob_rows.specs.declared.rows.Declared.{Declared}
-use Rattle.ob_rows.specs.declared.rows.Declarer.{Declarer}
-use Rattle.ob_rows.specs.declared.rows.Record.{Record as RecordRow}
+use Rattle.module_table.specs.declared.rows.Declared.{Declared}
+use Rattle.module_table.specs.declared.rows.DeclGroup.{DeclGroup}
+use Rattle.module_table.specs.declared.rows.Record.{Record as RecordRow}
 use Rattle.ob_scope.specs.declared.members.Member.{Member}
-use Rattle.ob_scope.specs.Members.{declarer_at, member_by, members_of, scope_of}
-use Rattle.ob_scope.specs.Scope.{NoneTwice}
-use Rattle.ob_types.specs.World.{World, declared_at, declarer_from, declarer_of, owner_at, record_at}
+use Rattle.ob_scope.specs.Members.{decl_group_at, declared_member, members_of, scope_of}
+use Rattle.ob_scope.specs.Scope.{HasNoDuplicates}
+use Rattle.ob_types.specs.World.{World, declared_at, decl_group_from, decl_group_of, owner_at, record_at}
 
 pub in_head : {X : Type 0} (x : X) (xs : List X) → Contains (x ∷ xs) x
 in_head x xs = (zero, omega arith, refl)
@@ -41,9 +41,9 @@ found test [] x e = absurd (let f : None ≡ Some x = e in cc)
 found test (y ∷ ys) x e = found_step test y ys x (test y) refl (λ f. found test ys x f) e
 
 -- what is made of an element is among what is made of all
-kept : {X Y : Type 0} (h : X → Option Y) (x : X) (rest : List Y) (o : Option Y) (y : Y) → Contains rest y → Contains (cons_option o rest) y
-kept h x rest None y c = c
-kept h x rest (Some z) y c = in_tail z rest y c
+stored_text : {X Y : Type 0} (h : X → Option Y) (x : X) (rest : List Y) (o : Option Y) (y : Y) → Contains rest y → Contains (cons_option o rest) y
+stored_text h x rest None y c = c
+stored_text h x rest (Some z) y c = in_tail z rest y c
 
 made : {Y : Type 0} (rest : List Y) (o : Option Y) (y : Y) → o ≡ Some y → Contains (cons_option o rest) y
 made rest o y e = rw e (in_head y rest)
@@ -52,15 +52,15 @@ pub mapped : {X Y : Type 0} (h : X → Option Y) (xs : List X) (x : X) (y : Y) �
 mapped h [] x y (k, l, e) is = absurd (omega arith)
 mapped h (z ∷ xs) x y c is = elim (head_or_tail z xs x c) [
   | inl same ↦ made (filter_map h xs) (h z) y (ap h same ∙ is)
-  | inr later ↦ kept h z (filter_map h xs) (h z) y (mapped h xs x y later is)
+  | inr later ↦ stored_text h z (filter_map h xs) (h z) y (mapped h xs x y later is)
 ]
 
-declarer_is : (xs : List Declarer) (k : ℕ) → declarer_at xs k ≡ find (λ (c : Declarer). c.first == k) xs
+declarer_is : (xs : List DeclGroup) (k : ℕ) → decl_group_at xs k ≡ find (λ (c : DeclGroup). c.first == k) xs
 declarer_is [] k = refl
-declarer_is (x ∷ xs) k = ap (λ (o : Option Declarer). cond (x.first == k) (Some x) o) (declarer_is xs k)
+declarer_is (x ∷ xs) k = ap (λ (o : Option DeclGroup). cond (x.first == k) (Some x) o) (declarer_is xs k)
 
 -- one name in one place is of one member
-pub member_once : (name : ℕ → List ℕ) (ds : List Member) (f g : Member) → NoneTwice name ds → Contains ds f → Contains ds g → f.place ≡ g.place → name f.number ≡ name g.number → f.number ≡ g.number
+pub member_once : (name : ℕ → List ℕ) (ds : List Member) (f g : Member) → HasNoDuplicates name ds → Contains ds f → Contains ds g → f.place ≡ g.place → name f.number ≡ name g.number → f.number ≡ g.number
 member_once name ds f g once (i, l, a) (j, m, b) place named =
     let at_f : slice_get ds i ≡ Some f = slice_get-get_or ds i f l ∙ ap Some a in
     let at_g : slice_get ds j ≡ Some g = slice_get-get_or ds j g m ∙ ap Some b in
@@ -77,26 +77,26 @@ member_once name ds f g once (i, l, a) (j, m, b) place named =
     ]
 
 -- what a module declares with a token
-pub record DeclaresBy (w : World) (k : ℕ) (by : Declarer) : Type 0 where
+pub record DeclaresBy (w : World) (k : ℕ) (by : DeclGroup) : Type 0 where
   pub row : Declared
   pub number : row.number ≡ k
-  pub among : Contains (members_of w.rows) (record { place = scope_of by; number = row.number; sort = by.sort })
+  pub among : Contains (members_of w.rows) (record { place = scope_of by; number = row.number; decl_kind = by.decl_kind })
 
-pub declares : (w : World) (k : ℕ) (by : Declarer) → declarer_of w k ≡ Some by → DeclaresBy w k by
-unfolding declarer_of declarer_from declared_at
+pub declares : (w : World) (k : ℕ) (by : DeclGroup) → decl_group_of w k ≡ Some by → DeclaresBy w k by
+unfolding decl_group_of decl_group_from declared_at
 declares w k by e = by_row (find (λ (d : Declared). d.number == k) w.rows.declared) refl e
   where
     by_row : (o : Option Declared) → find (λ (d : Declared). d.number == k) w.rows.declared ≡ o →
-        option_and_then (λ (d : Declared). find (λ (c : Declarer). c.first == d.declared_by) w.rows.declarers) o ≡ Some by → DeclaresBy w k by
+        option_and_then (λ (d : Declared). find (λ (c : DeclGroup). c.first == d.declared_by) w.rows.decl_groups) o ≡ Some by → DeclaresBy w k by
     by_row None there f = absurd (let g : None ≡ Some by = f in cc)
     by_row (Some d) there f =
         let h : IsFoundBy (λ (x : Declared). x.number == k) w.rows.declared d = found (λ (x : Declared). x.number == k) w.rows.declared d there in
-        let by_it : declarer_at w.rows.declarers d.declared_by ≡ Some by = declarer_is w.rows.declarers d.declared_by ∙ f in
+        let by_it : decl_group_at w.rows.decl_groups d.declared_by ≡ Some by = declarer_is w.rows.decl_groups d.declared_by ∙ f in
         record {
           row = d;
           number = eqb-true d.number k h.passes;
-          among = mapped (λ (x : Declared). member_by x (declarer_at w.rows.declarers x.declared_by)) w.rows.declared d (record { place = scope_of by; number = d.number; sort = by.sort }) h.among
-              (ap (member_by d) by_it);
+          among = mapped (λ (x : Declared). declared_member x (decl_group_at w.rows.decl_groups x.declared_by)) w.rows.declared d (record { place = scope_of by; number = d.number; decl_kind = by.decl_kind }) h.among
+              (ap (declared_member d) by_it);
         }
 
 -- the record of an owner

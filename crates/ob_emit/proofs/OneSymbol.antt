@@ -9,45 +9,45 @@ use Rattle.std.proofs.lemmas.List.Quantifiers.{position-Some}
 use Rattle.std.proofs.lemmas.List.Sums.{count_by-le-length, count_by_more_yes, sum_by-cons}
 use Rattle.std.proofs.lemmas.Option.{get_or_from_slice_get, slice_get_within}
 use Rattle.std.specs.Str.Parse.{digits_value}
-use Rattle.ob_rows.specs.declared.rows.Declared.{Declared}
-use Rattle.ob_rows.specs.declared.rows.Declarer.{Declarer}
-use Rattle.ob_rows.specs.Tables.{own_name}
+use Rattle.module_table.specs.declared.rows.Declared.{Declared}
+use Rattle.module_table.specs.declared.rows.DeclGroup.{DeclGroup}
+use Rattle.module_table.specs.Tables.{module_name_token}
 use Rattle.ob_scope.specs.declared.members.Scope.{Scope}
 use Rattle.ob_scope.specs.declared.members.Scope.TheVariants.{Block, Record}
 use Rattle.ob_scope.specs.Members.{members_of, scope_of}
 use Rattle.ob_scan.specs.Texts.{text_at}
-use Rattle.ob_types.specs.World.{World, text, declarer_of, owner_at}
+use Rattle.ob_types.specs.World.{World, text, decl_group_of, owner_at}
 use Rattle.scip_symbol.specs.declared.kind.DescriptorKind.{DescriptorKind}
 use Rattle.scip_symbol.specs.declared.kind.DescriptorKind.TheVariants.{Namespace, Term}
-use Rattle.scip_symbol.specs.SymbolTexts.{PlainDescriptor, PlainSymbol, Local}
+use Rattle.scip_symbol.specs.SymbolTexts.{DescriptorModel, SymbolModel, Local}
 use Rattle.ob_emit.specs.Apart.{DeclaresOnce, IsLocal}
-use Rattle.ob_emit.specs.Symbols.{PathStep, descriptor, declared_symbol, global, step_in_record, is_local, kind_of, own_path, own_step, own_step_by, own_steps, symbol_at}
+use Rattle.ob_emit.specs.Symbols.{PathStep, descriptor, declared_symbol, global, step_in_record, is_local, kind_of, declared_path, declared_step, declared_step_by, declared_steps, symbol_at}
 use Rattle.ob_emit.proofs.OneMember.{declares, member_once, owns, DeclaresBy, Owns}
 use Rattle.ob_emit.proofs.OnePath.{begins, path_once, Begins}
 
 -- ---- steps of the module's own declarations
 
 -- a step of the module's block, or of a record
-data StepsBy (w : World) (k : ℕ) (by : Declarer) (s : PathStep) : Type 0 where
+data StepsBy (w : World) (k : ℕ) (by : DeclGroup) (s : PathStep) : Type 0 where
   block : {kind : DescriptorKind} → by.of_record ≡ None → by.block ≡ 0 → s ≡ record { own = descriptor kind (text w k); owner = None } → StepsBy w k by s
   field : {r o : ℕ} → by.of_record ≡ Some r → owner_at w r ≡ Some o → s ≡ record { own = descriptor Term (text w k); owner = Some o } → StepsBy w k by s
 
 record HasStepBy (w : World) (k : ℕ) (s : PathStep) : Type 0 where
-  by : Declarer
-  declared : declarer_of w k ≡ Some by
+  by : DeclGroup
+  declared : decl_group_of w k ≡ Some by
   steps : StepsBy w k by s
 
 module _ (w : World) (k : ℕ) (s : PathStep) where
-  by_kind : (by : Declarer) (kind : Option DescriptorKind) → by.of_record ≡ None → by.block ≡ 0 →
+  by_kind : (by : DeclGroup) (kind : Option DescriptorKind) → by.of_record ≡ None → by.block ≡ 0 →
       option_map (λ (v : DescriptorKind). record { own = descriptor v (text w k); owner = None }) kind ≡ Some s → StepsBy w k by s
-  by_kind by None is outer e = absurd (let f : None ≡ Some s = e in cc)
-  by_kind by (Some kind) is outer e =
+  by_kind by None is foreign e = absurd (let f : None ≡ Some s = e in cc)
+  by_kind by (Some kind) is foreign e =
       let made : PathStep = record { own = descriptor kind (text w k); owner = None } in
       let f : Some made ≡ Some s = e in
       let g : made ≡ s = cc in
-      block is outer (sym g)
+      block is foreign (sym g)
 
-  by_test : (by : Declarer) (r o : ℕ) (b : Bool) → by.of_record ≡ Some r → owner_at w r ≡ Some o →
+  by_test : (by : DeclGroup) (r o : ℕ) (b : Bool) → by.of_record ≡ Some r → owner_at w r ≡ Some o →
       cond b (Some (record { own = descriptor Term (text w k); owner = Some o })) None ≡ Some s → StepsBy w k by s
   by_test by r o false is owner e = absurd (let f : None ≡ Some s = e in cc)
   by_test by r o true is owner e =
@@ -56,30 +56,30 @@ module _ (w : World) (k : ℕ) (s : PathStep) where
       let g : made ≡ s = cc in
       field is owner (sym g)
 
-  by_owner : (by : Declarer) (r : ℕ) (v : Option ℕ) → by.of_record ≡ Some r → owner_at w r ≡ v → step_in_record k (text w k) v ≡ Some s → StepsBy w k by s
+  by_owner : (by : DeclGroup) (r : ℕ) (v : Option ℕ) → by.of_record ≡ Some r → owner_at w r ≡ v → step_in_record k (text w k) v ≡ Some s → StepsBy w k by s
   by_owner by r None is owner e = absurd (let f : None ≡ Some s = e in cc)
   by_owner by r (Some o) is owner e = by_test by r o _ is owner e
 
-  by_place : (by : Declarer) (v : Option ℕ) → by.of_record ≡ v → by.block ≡ 0 → own_step_by w k by.sort v ≡ Some s → StepsBy w k by s
-  by_place by None is outer e = by_kind by (kind_of by.sort) is outer e
-  by_place by (Some r) is outer e = by_owner by r (owner_at w r) is refl e
+  by_place : (by : DeclGroup) (v : Option ℕ) → by.of_record ≡ v → by.block ≡ 0 → declared_step_by w k by.decl_kind v ≡ Some s → StepsBy w k by s
+  by_place by None is foreign e = by_kind by (kind_of by.decl_kind) is foreign e
+  by_place by (Some r) is foreign e = by_owner by r (owner_at w r) is refl e
 
-  by_block : (by : Declarer) (b : Bool) → (by.block == 0) ≡ b → cond b (own_step_by w k by.sort by.of_record) None ≡ Some s → StepsBy w k by s
+  by_block : (by : DeclGroup) (b : Bool) → (by.block == 0) ≡ b → cond b (declared_step_by w k by.decl_kind by.of_record) None ≡ Some s → StepsBy w k by s
   by_block by false is e = absurd (let f : None ≡ Some s = e in cc)
   by_block by true is e = by_place by by.of_record refl (eqb-true by.block 0 is) e
 
-  by_declarer : (v : Option Declarer) → declarer_of w k ≡ v → option_and_then (own_step w k) v ≡ Some s → HasStepBy w k s
+  by_declarer : (v : Option DeclGroup) → decl_group_of w k ≡ v → option_and_then (declared_step w k) v ≡ Some s → HasStepBy w k s
   by_declarer None is e = absurd (let f : None ≡ Some s = e in cc)
   by_declarer (Some by) is e = record { by = by; declared = is; steps = by_block by (by.block == 0) refl e }
 
-  has_step_by : own_steps w k ≡ Some s → HasStepBy w k s
-  has_step_by e = by_declarer (declarer_of w k) refl e
+  has_step_by : declared_steps w k ≡ Some s → HasStepBy w k s
+  has_step_by e = by_declarer (decl_group_of w k) refl e
 
 -- ---- steps that are alike are of one declaration
 
 module _ (w : World) (once : DeclaresOnce w) where
   -- members of one name in one place
-  in_one_place : (k j : ℕ) (a b : Declarer) → declarer_of w k ≡ Some a → declarer_of w j ≡ Some b → scope_of a ≡ scope_of b → text w k ≡ text w j → k ≡ j
+  in_one_place : (k j : ℕ) (a b : DeclGroup) → decl_group_of w k ≡ Some a → decl_group_of w j ≡ Some b → scope_of a ≡ scope_of b → text w k ≡ text w j → k ≡ j
   unfolding text
   in_one_place k j a b at_k at_j place named =
       let f : DeclaresBy w k a = declares w k a at_k in
@@ -87,28 +87,28 @@ module _ (w : World) (once : DeclaresOnce w) where
       let same_text : text_at w.bytes w.tokens f.row.number ≡ text_at w.bytes w.tokens g.row.number =
       ap (text_at w.bytes w.tokens) f.number ∙ named ∙ ap (text_at w.bytes w.tokens) (sym g.number) in
       sym f.number
-      ∙ member_once (text_at w.bytes w.tokens) (members_of w.rows) (record { place = scope_of a; number = f.row.number; sort = a.sort }) (record { place = scope_of b; number = g.row.number; sort = b.sort })
+      ∙ member_once (text_at w.bytes w.tokens) (members_of w.rows) (record { place = scope_of a; number = f.row.number; decl_kind = a.decl_kind }) (record { place = scope_of b; number = g.row.number; decl_kind = b.decl_kind })
       once.once f.among g.among place same_text
       ∙ g.number
 
   -- the place of a construct by its record
-  place_by : Declarer → Option ℕ → Scope
+  place_by : DeclGroup → Option ℕ → Scope
   place_by a None = Block a.block
   place_by a (Some r) = Record r
 
-  alike_by : (k j : ℕ) (s t : PathStep) (a b : Declarer) → declarer_of w k ≡ Some a → declarer_of w j ≡ Some b → StepsBy w k a s → StepsBy w j b t → s.own ≡ t.own → s.owner ≡ t.owner → k ≡ j
-  alike_by k j s t a b at_k at_j (block {kind = kind} none outer is) (block {kind = other} none_too outer_too is_too) own owner =
-      let named : text w k ≡ text w j = ap (λ (v : PlainDescriptor). v.name) (ap (λ (v : PathStep). v.own) (sym is) ∙ own ∙ ap (λ (v : PathStep). v.own) is_too) in
-      in_one_place k j a b at_k at_j (block_place a none ∙ ap Block (outer ∙ sym outer_too) ∙ sym (block_place b none_too)) named
+  alike_by : (k j : ℕ) (s t : PathStep) (a b : DeclGroup) → decl_group_of w k ≡ Some a → decl_group_of w j ≡ Some b → StepsBy w k a s → StepsBy w j b t → s.own ≡ t.own → s.owner ≡ t.owner → k ≡ j
+  alike_by k j s t a b at_k at_j (block {kind = kind} none foreign is) (block {kind = other} none_too outer_too is_too) own owner =
+      let named : text w k ≡ text w j = ap (λ (v : DescriptorModel). v.name) (ap (λ (v : PathStep). v.own) (sym is) ∙ own ∙ ap (λ (v : PathStep). v.own) is_too) in
+      in_one_place k j a b at_k at_j (block_place a none ∙ ap Block (foreign ∙ sym outer_too) ∙ sym (block_place b none_too)) named
     where
-      block_place : (c : Declarer) → c.of_record ≡ None → scope_of c ≡ Block c.block
+      block_place : (c : DeclGroup) → c.of_record ≡ None → scope_of c ≡ Block c.block
       block_place c e = rw e refl
-  alike_by k j s t a b at_k at_j (block none outer is) (field {o = o} r at_o is_too) own owner =
+  alike_by k j s t a b at_k at_j (block none foreign is) (field {o = o} r at_o is_too) own owner =
       absurd (let e : None ≡ Some o = ap (λ (v : PathStep). v.owner) (sym is) ∙ owner ∙ ap (λ (v : PathStep). v.owner) is_too in cc)
-  alike_by k j s t a b at_k at_j (field {o = o} r at_o is) (block none outer is_too) own owner =
+  alike_by k j s t a b at_k at_j (field {o = o} r at_o is) (block none foreign is_too) own owner =
       absurd (let e : Some o ≡ None = ap (λ (v : PathStep). v.owner) (sym is) ∙ owner ∙ ap (λ (v : PathStep). v.owner) is_too in cc)
   alike_by k j s t a b at_k at_j (field {r = r} {o = o} in_r at_o is) (field {r = q} {o = p} in_q at_p is_too) own owner =
-      let named : text w k ≡ text w j = ap (λ (v : PlainDescriptor). v.name) (ap (λ (v : PathStep). v.own) (sym is) ∙ own ∙ ap (λ (v : PathStep). v.own) is_too) in
+      let named : text w k ≡ text w j = ap (λ (v : DescriptorModel). v.name) (ap (λ (v : PathStep). v.own) (sym is) ∙ own ∙ ap (λ (v : PathStep). v.own) is_too) in
       let e : Some o ≡ Some p = ap (λ (v : PathStep). v.owner) (sym is) ∙ owner ∙ ap (λ (v : PathStep). v.owner) is_too in
       let same_owner : o ≡ p = cc in
       let x : Owns w r o = owns w r o at_o in
@@ -116,17 +116,17 @@ module _ (w : World) (once : DeclaresOnce w) where
       let same_record : r ≡ q = sym x.number ∙ once.owners x.row y.row x.among y.among (x.owner ∙ same_owner ∙ sym y.owner) ∙ y.number in
       in_one_place k j a b at_k at_j (record_place a r in_r ∙ ap Record same_record ∙ sym (record_place b q in_q)) named
     where
-      record_place : (c : Declarer) (r : ℕ) → c.of_record ≡ Some r → scope_of c ≡ Record r
+      record_place : (c : DeclGroup) (r : ℕ) → c.of_record ≡ Some r → scope_of c ≡ Record r
       record_place c r e = rw e refl
 
-  alike : (k j : ℕ) (s t : PathStep) → own_steps w k ≡ Some s → own_steps w j ≡ Some t → s.own ≡ t.own → s.owner ≡ t.owner → k ≡ j
+  alike : (k j : ℕ) (s t : PathStep) → declared_steps w k ≡ Some s → declared_steps w j ≡ Some t → s.own ≡ t.own → s.owner ≡ t.owner → k ≡ j
   alike k j s t e f own owner =
       let a : HasStepBy w k s = has_step_by w k s e in
       let b : HasStepBy w j t = has_step_by w j t f in
       alike_by k j s t a.by b.by a.declared b.declared a.steps b.steps own owner
 
-  own_path_once : (k j : ℕ) (ds : List PlainDescriptor) → own_path w k ≡ Some ds → own_path w j ≡ Some ds → k ≡ j
-  own_path_once k j ds e f = path_once (text w own_name) (own_steps w) alike (suc k) (suc j) k j ds e f
+  own_path_once : (k j : ℕ) (ds : List DescriptorModel) → declared_path w k ≡ Some ds → declared_path w j ≡ Some ds → k ≡ j
+  own_path_once k j ds e f = path_once (text w module_name_token) (declared_steps w) alike (suc k) (suc j) k j ds e f
 
 -- ---- numbers of locals
 
@@ -151,11 +151,11 @@ count_passed p xs i j x at is l =
 -- ---- symbols
 
 -- a declaration with the symbol that it has
-pub data SymbolBy (w : World) (package_name : List ℕ) (i : ℕ) (d : Declared) (s : PlainSymbol) : Type 0 where
+pub data SymbolBy (w : World) (package_name : List ℕ) (i : ℕ) (d : Declared) (s : SymbolModel) : Type 0 where
   within : is_local w d ≡ true → s ≡ Local (decimal (count_by (is_local w) (take i w.rows.declared))) → SymbolBy w package_name i d s
-  outside : {ds : List PlainDescriptor} → own_path w d.number ≡ Some ds → s ≡ global package_name ds → SymbolBy w package_name i d s
+  outside : {ds : List DescriptorModel} → declared_path w d.number ≡ Some ds → s ≡ global package_name ds → SymbolBy w package_name i d s
 
-pub record HasSymbol (w : World) (package_name : List ℕ) (k : ℕ) (s : PlainSymbol) : Type 0 where
+pub record HasSymbol (w : World) (package_name : List ℕ) (k : ℕ) (s : SymbolModel) : Type 0 where
   pub at : ℕ
   pub row : Declared
   pub placed : position (λ (d : Declared). d.number == k) w.rows.declared ≡ Some at
@@ -163,8 +163,8 @@ pub record HasSymbol (w : World) (package_name : List ℕ) (k : ℕ) (s : PlainS
   pub number : row.number ≡ k
   pub has : SymbolBy w package_name at row s
 
-module _ (w : World) (package_name : List ℕ) (k : ℕ) (s : PlainSymbol) where
-  by_path : (i : ℕ) (d : Declared) (v : Option (List PlainDescriptor)) → own_path w d.number ≡ v → option_map (global package_name) v ≡ Some s → SymbolBy w package_name i d s
+module _ (w : World) (package_name : List ℕ) (k : ℕ) (s : SymbolModel) where
+  by_path : (i : ℕ) (d : Declared) (v : Option (List DescriptorModel)) → declared_path w d.number ≡ v → option_map (global package_name) v ≡ Some s → SymbolBy w package_name i d s
   by_path i d None is e = absurd (let f : None ≡ Some s = e in cc)
   by_path i d (Some ds) is e =
       let f : Some (global package_name ds) ≡ Some s = e in
@@ -172,13 +172,13 @@ module _ (w : World) (package_name : List ℕ) (k : ℕ) (s : PlainSymbol) where
       outside is (sym g)
 
   by_local : (i : ℕ) (d : Declared) (b : Bool) → is_local w d ≡ b →
-      cond b (Some (Local (decimal (count_by (is_local w) (take i w.rows.declared))))) (option_map (global package_name) (own_path w d.number)) ≡ Some s → SymbolBy w package_name i d s
+      cond b (Some (Local (decimal (count_by (is_local w) (take i w.rows.declared))))) (option_map (global package_name) (declared_path w d.number)) ≡ Some s → SymbolBy w package_name i d s
   by_local i d true is e =
-      let made : PlainSymbol = Local (decimal (count_by (is_local w) (take i w.rows.declared))) in
+      let made : SymbolModel = Local (decimal (count_by (is_local w) (take i w.rows.declared))) in
       let f : Some made ≡ Some s = e in
       let g : made ≡ s = cc in
       within is (sym g)
-  by_local i d false is e = by_path i d (own_path w d.number) refl e
+  by_local i d false is e = by_path i d (declared_path w d.number) refl e
 
   by_row : (i : ℕ) (v : Option Declared) → position (λ (d : Declared). d.number == k) w.rows.declared ≡ Some i → slice_get w.rows.declared i ≡ v →
       option_and_then (symbol_at w package_name i) v ≡ Some s → HasSymbol w package_name k s
@@ -220,7 +220,7 @@ module _ (w : World) (package_name : List ℕ) (once : DeclaresOnce w) where
     ])
   ]
 
-  symbol_once : (i j : ℕ) (d e : Declared) (s : PlainSymbol) → slice_get w.rows.declared i ≡ Some d → slice_get w.rows.declared j ≡ Some e →
+  symbol_once : (i j : ℕ) (d e : Declared) (s : SymbolModel) → slice_get w.rows.declared i ≡ Some d → slice_get w.rows.declared j ≡ Some e →
       SymbolBy w package_name i d s → SymbolBy w package_name j e s → d.number ≡ e.number
   symbol_once i j d e s at_d at_e (within is_d is) (within is_e is_too) =
       let f : Local (decimal (count_by (is_local w) (take i w.rows.declared))) ≡ Local (decimal (count_by (is_local w) (take j w.rows.declared))) = sym is ∙ is_too in
@@ -235,7 +235,7 @@ module _ (w : World) (package_name : List ℕ) (once : DeclaresOnce w) where
       let g : ds ≡ es = cc in
       own_path_once w once d.number e.number es (p ∙ ap Some g) q
 
-  pub declaration_once : (k j : ℕ) (s : PlainSymbol) → declared_symbol w package_name k ≡ Some s → declared_symbol w package_name j ≡ Some s → k ≡ j
+  pub declaration_once : (k j : ℕ) (s : SymbolModel) → declared_symbol w package_name k ≡ Some s → declared_symbol w package_name j ≡ Some s → k ≡ j
   declaration_once k j s e f =
       let a : HasSymbol w package_name k s = has_symbol w package_name k s e in
       let b : HasSymbol w package_name j s = has_symbol w package_name j s f in
@@ -243,20 +243,20 @@ module _ (w : World) (package_name : List ℕ) (once : DeclaresOnce w) where
 
 -- ---- two modules
 
-module _ (w v : World) (package_name : List ℕ) (other : text w own_name ≡ text v own_name → ⊥) where
-  apart : (i j : ℕ) (d e : Declared) (s : PlainSymbol) → SymbolBy w package_name i d s → SymbolBy v package_name j e s → IsLocal s
+module _ (w v : World) (package_name : List ℕ) (other : text w module_name_token ≡ text v module_name_token → ⊥) where
+  apart : (i j : ℕ) (d e : Declared) (s : SymbolModel) → SymbolBy w package_name i d s → SymbolBy v package_name j e s → IsLocal s
   apart i j d e s (within is_d is) b = rw is tt
   apart i j d e s (outside p is) (within is_e is_too) = rw is_too tt
   apart i j d e s (outside {ds = ds} p is) (outside {ds = es} q is_too) =
       let f : global package_name ds ≡ global package_name es = sym is ∙ is_too in
       let g : ds ≡ es = cc in
-      let a : Begins (text w own_name) (own_steps w) ds = begins (text w own_name) (own_steps w) (suc d.number) d.number ds p in
-      let b : Begins (text v own_name) (own_steps v) es = begins (text v own_name) (own_steps v) (suc e.number) e.number es q in
-      let h : descriptor Namespace (text w own_name) ∷ a.rest ≡ descriptor Namespace (text v own_name) ∷ b.rest = sym a.whole ∙ g ∙ b.whole in
-      let i : descriptor Namespace (text w own_name) ≡ descriptor Namespace (text v own_name) = cc in
-      absurd (other (ap (λ (x : PlainDescriptor). x.name) i))
+      let a : Begins (text w module_name_token) (declared_steps w) ds = begins (text w module_name_token) (declared_steps w) (suc d.number) d.number ds p in
+      let b : Begins (text v module_name_token) (declared_steps v) es = begins (text v module_name_token) (declared_steps v) (suc e.number) e.number es q in
+      let h : descriptor Namespace (text w module_name_token) ∷ a.rest ≡ descriptor Namespace (text v module_name_token) ∷ b.rest = sym a.whole ∙ g ∙ b.whole in
+      let i : descriptor Namespace (text w module_name_token) ≡ descriptor Namespace (text v module_name_token) = cc in
+      absurd (other (ap (λ (x : DescriptorModel). x.name) i))
 
-  pub only_local : (k j : ℕ) (s : PlainSymbol) → declared_symbol w package_name k ≡ Some s → declared_symbol v package_name j ≡ Some s → IsLocal s
+  pub only_local : (k j : ℕ) (s : SymbolModel) → declared_symbol w package_name k ≡ Some s → declared_symbol v package_name j ≡ Some s → IsLocal s
   only_local k j s e f =
       let a : HasSymbol w package_name k s = has_symbol w package_name k s e in
       let b : HasSymbol v package_name j s = has_symbol v package_name j s f in

@@ -8,9 +8,9 @@ use Rattle.std.proofs.lemmas.Option.{get_or_from_slice_get, slice_get-get_or}
 use Rattle.ob_targets.specs.declared.target.Reference.{Reference}
 use Rattle.ob_targets.specs.declared.target.Target.TheVariants as targets
 use Rattle.ob_types.specs.World.{World, text}
-use Rattle.ob_emit.specs.Named.{AreOfNames, IsName}
+use Rattle.ob_emit.specs.Named.{ReferencesAreIdentifiers, IsName}
 
-pub external_named : (w : World) (refs : List Reference) → AreOfNames w refs → (i : ℕ) (d : Reference) → i < length refs → (item name : ℕ) → (get_or refs i d).target ≡ targets.External item name → IsName (text w name)
+pub external_named : (w : World) (refs : List Reference) → ReferencesAreIdentifiers w refs → (i : ℕ) (d : Reference) → i < length refs → (item name : ℕ) → (get_or refs i d).target ≡ targets.External item name → IsName (text w name)
 external_named w refs names i d l = names.external (get_or refs i d) (i, l, get_or_from_slice_get refs i (get_or refs i d) (get_or refs i d) (slice_get-get_or refs i d l))
 
 module _ {X Y Z : Type 0} (f : Y → Z) (h : X → Option Z) (xs : List X) (n : ℕ) (d : X) (ys : List Y) (l : n < length xs) (before : map f ys ≡ filter_map h (take n xs)) where

@@ -5,7 +5,7 @@ use Rattle.std.specs.List.{filter, position_or_len}
 use Rattle.std.proofs.lemmas.Bool.{cases_Bool, lt-ltb}
 use Rattle.std.proofs.lemmas.List.{length-map}
 use Rattle.std.proofs.lemmas.Option.{slice_get_within, slice_get-map}
-use Rattle.ob_rows.specs.Order.{AscendBy}
+use Rattle.module_table.specs.Order.{IsIncreasingBy}
 use Rattle.ob_scope.proofs.Elements.{slice_contains, some_one}
 
 -- what passes, at its place
@@ -27,7 +27,7 @@ module _ {X : Type 0} (t : X → Bool) where
   last_behind x p (y ∷ ys) e = let n : length (x ∷ y ∷ ys) - 1 ≡ suc (length (y ∷ ys) - 1) = omega arith in ap (slice_get (x ∷ y ∷ ys)) n ∙ e
 
   -- of rows whose numbers ascend the last that passes has the greatest number
-  pub last_passed : (n : X → ℕ) (xs : List X) (i : ℕ) (p : X) → AscendBy n xs → slice_get xs i ≡ Some p → t p ≡ true → ((q : X) → Contains xs q → t q ≡ true → n q ≤ n p)
+  pub last_passed : (n : X → ℕ) (xs : List X) (i : ℕ) (p : X) → IsIncreasingBy n xs → slice_get xs i ≡ Some p → t p ≡ true → ((q : X) → Contains xs q → t q ≡ true → n q ≤ n p)
       → slice_get (filter t xs) (length (filter t xs) - 1) ≡ Some p
   last_passed n [] i p up at is last = absurd (let none : None ≡ Some p = at in cc)
   last_passed n (x ∷ xs) zero p up at is last =

@@ -3,7 +3,7 @@ use Rattle.std.proofs.Common.{◌≡◌, ℕ, zero, suc, ◌<◌, List, [], ◌�
 use Rattle.std.specs.Prelude.{slice_get}
 use Rattle.std.specs.List.{cons_option, filter_map}
 use Rattle.std.specs.Option.{option_map}
-use Rattle.ob_rows.specs.Order.{AscendBy}
+use Rattle.module_table.specs.Order.{IsIncreasingBy}
 use Rattle.ob_scope.proofs.Elements.{some_one}
 
 -- the place of what a row stands for, and there the row's number
@@ -31,13 +31,13 @@ module _ {X Y : Type 0} (f : X → Option Y) (n : X → ℕ) where
   here x None ys ks y e = absurd (let none : None ≡ Some y = e in cc)
   here x (Some z) ys ks y e = record { place = 0; at = e; number = refl }
 
-  pub place_of : (xs : List X) (i : ℕ) (x : X) (y : Y) → slice_get xs i ≡ Some x → f x ≡ Some y → PlaceOf (filter_map f xs) (numbers xs) y (n x)
-  place_of [] i x y e g = absurd (let none : None ≡ Some x = e in cc)
-  place_of (z ∷ zs) zero x y e g =
+  pub index_of : (xs : List X) (i : ℕ) (x : X) (y : Y) → slice_get xs i ≡ Some x → f x ≡ Some y → PlaceOf (filter_map f xs) (numbers xs) y (n x)
+  index_of [] i x y e g = absurd (let none : None ≡ Some x = e in cc)
+  index_of (z ∷ zs) zero x y e g =
       let same : z ≡ x = some_one z x e in
       let p : PlaceOf (cons_option (f z) (filter_map f zs)) (cons_option (option_map (λ (w : Y). n z) (f z)) (numbers zs)) y (n z) = here z (f z) (filter_map f zs) (numbers zs) y (ap f same ∙ g) in
       record { place = p.place; at = p.at; number = p.number ∙ ap Some (ap n same) }
-  place_of (z ∷ zs) (suc i) x y e g = at_front z (f z) (filter_map f zs) (numbers zs) y (n x) (place_of zs i x y e g)
+  index_of (z ∷ zs) (suc i) x y e g = at_front z (f z) (filter_map f zs) (numbers zs) y (n x) (index_of zs i x y e g)
 
   row_step : (x : X) (xs : List X) (o : Option Y) (j k : ℕ) → ((i : ℕ) → slice_get (numbers xs) i ≡ Some k → RowOf n xs k) →
       slice_get (cons_option (option_map (λ (z : Y). n x) o) (numbers xs)) j ≡ Some k → RowOf n (x ∷ xs) k
@@ -49,7 +49,7 @@ module _ {X Y : Type 0} (f : X → Option Y) (n : X → ℕ) where
   row_of [] j k e = absurd (let none : None ≡ Some k = e in cc)
   row_of (x ∷ xs) j k e = row_step x xs (f x) j k (λ i g. row_of xs i k g) e
 
-  ascend_step : (x : X) (xs : List X) (o : Option Y) (i j a b : ℕ) → AscendBy n (x ∷ xs) → ((s t : ℕ) → s < t → slice_get (numbers xs) s ≡ Some a → slice_get (numbers xs) t ≡ Some b → a < b) → i < j →
+  ascend_step : (x : X) (xs : List X) (o : Option Y) (i j a b : ℕ) → IsIncreasingBy n (x ∷ xs) → ((s t : ℕ) → s < t → slice_get (numbers xs) s ≡ Some a → slice_get (numbers xs) t ≡ Some b → a < b) → i < j →
       slice_get (cons_option (option_map (λ (z : Y). n x) o) (numbers xs)) i ≡ Some a → slice_get (cons_option (option_map (λ (z : Y). n x) o) (numbers xs)) j ≡ Some b → a < b
   ascend_step x xs None i j a b up rest l e g = rest i j l e g
   ascend_step x xs (Some z) i zero a b up rest l e g = absurd (omega arith)
@@ -62,7 +62,7 @@ module _ {X Y : Type 0} (f : X → Option Y) (n : X → ℕ) where
   ascend_step x xs (Some z) (suc i) (suc j) a b up rest l e g = rest i j (omega arith) e g
 
   -- of two that are seen the first has the lesser number
-  pub ascend : (xs : List X) → AscendBy n xs → (i j a b : ℕ) → i < j → slice_get (numbers xs) i ≡ Some a → slice_get (numbers xs) j ≡ Some b → a < b
+  pub ascend : (xs : List X) → IsIncreasingBy n xs → (i j a b : ℕ) → i < j → slice_get (numbers xs) i ≡ Some a → slice_get (numbers xs) j ≡ Some b → a < b
   ascend [] up i j a b l e g = absurd (let none : None ≡ Some a = e in cc)
   ascend (x ∷ xs) up i j a b l e g =
       ascend_step x xs (f x) i j a b up (λ s t m p q. ascend xs (λ s2 t2 y z w p2 q2. up (suc s2) (suc t2) y z (omega arith) p2 q2) s t a b m p q) l e g

@@ -10,7 +10,7 @@ use Rattle.proto_wire.specs.Writing.{Field, head_of, number_fields, packing, pay
 use Rattle.proto_wire.proofs.VarintLaws.{varint-large, varint-small}
 use Rattle.scip_index.specs.Written.{occurrence_fields, written_occurrence}
 use Rattle.ob_emit.specs.Documents.{range_by}
-use Rattle.ob_emit.specs.Places.{front_of, range_field, use_told}
+use Rattle.ob_emit.specs.Ranges.{prefix_of, range_field, compact_occurrence}
 
 -- a number of at most 14 bits
 varint-two : (n : ℕ) → 128 ≤ n → n < 16384 → varint n ≡ (n % 128 + 128) ∷ n / 128 ∷ []
@@ -42,19 +42,19 @@ head_short : (count : ℕ) → count < 128 → head_of 2 count ≡ 18 ∷ count 
 head_short count l = rw (varint-small 18 (omega arith), varint-small count l) refl
 
 pub front_low : (line column end rest : ℕ) → line < 128 → column < 128 → end < 128 → rest < 120 →
-    front_of line column end rest ≡ 18 ∷ (rest + 5) ∷ 10 ∷ 3 ∷ line ∷ column ∷ end ∷ []
+    prefix_of line column end rest ≡ 18 ∷ (rest + 5) ∷ 10 ∷ 3 ∷ line ∷ column ∷ end ∷ []
 front_low line column end rest l c e r =
     let count : length (range_field line column end) + rest ≡ rest + 5 = ap (λ (bytes : List ℕ). length bytes + rest) (range_low line column end l c e) ∙ omega arith in
     ap₂ (λ (a b : List ℕ). a ++ b) (ap (head_of 2) count ∙ head_short (rest + 5) (omega arith)) (range_low line column end l c e)
 
 pub front_high : (line column end rest : ℕ) → 128 ≤ line → line < 16384 → column < 128 → end < 128 → rest < 120 →
-    front_of line column end rest ≡ 18 ∷ (rest + 6) ∷ 10 ∷ 4 ∷ (line % 128 + 128) ∷ line / 128 ∷ column ∷ end ∷ []
+    prefix_of line column end rest ≡ 18 ∷ (rest + 6) ∷ 10 ∷ 4 ∷ (line % 128 + 128) ∷ line / 128 ∷ column ∷ end ∷ []
 front_high line column end rest g l c e r =
     let count : length (range_field line column end) + rest ≡ rest + 6 = ap (λ (bytes : List ℕ). length bytes + rest) (range_high line column end g l c e) ∙ omega arith in
     ap₂ (λ (a b : List ℕ). a ++ b) (ap (head_of 2) count ∙ head_short (rest + 6) (omega arith)) (range_high line column end g l c e)
 
 pub front_far : (line column end rest : ℕ) → 16384 ≤ line → line < 2097152 → column < 128 → end < 128 → rest < 120 →
-    front_of line column end rest ≡ 18 ∷ (rest + 7) ∷ 10 ∷ 5 ∷ (line % 128 + 128) ∷ (line / 128 % 128 + 128) ∷ line / 128 / 128 ∷ column ∷ end ∷ []
+    prefix_of line column end rest ≡ 18 ∷ (rest + 7) ∷ 10 ∷ 5 ∷ (line % 128 + 128) ∷ (line / 128 % 128 + 128) ∷ line / 128 / 128 ∷ column ∷ end ∷ []
 front_far line column end rest g l c e r =
     let count : length (range_field line column end) + rest ≡ rest + 7 = ap (λ (bytes : List ℕ). length bytes + rest) (range_far line column end g l c e) ∙ omega arith in
     ap₂ (λ (a b : List ℕ). a ++ b) (ap (head_of 2) count ∙ head_short (rest + 7) (omega arith)) (range_far line column end g l c e)
@@ -86,19 +86,19 @@ rest_length text role some l r =
 
 -- the bytes of an occurrence that declares nothing
 written_use : (line column end : ℕ) (text : List ℕ) (role : ℕ) →
-    written_occurrence (use_told line column end text role)
+    written_occurrence (compact_occurrence line column end text role)
     ≡ range_field line column end ++ (spelled_fields (text_fields 2 text) ++ spelled_fields (number_fields 3 (pos role)))
 unfolding written_occurrence
 written_use line column end text role =
     let symbols = text_fields 2 text in
     let roles = number_fields 3 (pos role) in
     let range = payload_field 1 (packing (pos line ∷ pos column ∷ pos end ∷ [])) in
-    let fields : occurrence_fields (use_told line column end text role) ≡ range ∷ (symbols ++ roles) = ap (λ (rest : List Field). range ∷ rest) (append-nil (symbols ++ roles)) in
+    let fields : occurrence_fields (compact_occurrence line column end text role) ≡ range ∷ (symbols ++ roles) = ap (λ (rest : List Field). range ∷ rest) (append-nil (symbols ++ roles)) in
     ap spelled_fields fields ∙ ap (λ (bytes : List ℕ). range_field line column end ++ bytes) (flat_map-append spelled symbols roles)
 
 pub use_record : (line column end rest : ℕ) (text : List ℕ) (role : ℕ) → length (spelled_fields (text_fields 2 text) ++ spelled_fields (number_fields 3 (pos role))) ≡ rest →
-    spelled (payload_field 2 (written_occurrence (use_told line column end text role)))
-    ≡ front_of line column end rest ++ (spelled_fields (text_fields 2 text) ++ spelled_fields (number_fields 3 (pos role)))
+    spelled (payload_field 2 (written_occurrence (compact_occurrence line column end text role)))
+    ≡ prefix_of line column end rest ++ (spelled_fields (text_fields 2 text) ++ spelled_fields (number_fields 3 (pos role)))
 use_record line column end rest text role is =
     let behind = spelled_fields (text_fields 2 text) ++ spelled_fields (number_fields 3 (pos role)) in
     let range = range_field line column end in
@@ -110,16 +110,16 @@ use_record line column end rest text role is =
 -- what is put piece by piece
 pub use_put : (old : List ℕ) (line column end rest : ℕ) (text : List ℕ) (role : ℕ) → 0 < length text → length text < 100 → role < 128 →
     rest ≡ length text + 2 + (if role == 0 then 0 else 2) →
-    ((old ++ (front_of line column end rest ++ 18 ∷ length text ∷ [])) ++ text) ++ spelled_fields (number_fields 3 (pos role))
-    ≡ old ++ spelled (payload_field 2 (written_occurrence (use_told line column end text role)))
+    ((old ++ (prefix_of line column end rest ++ 18 ∷ length text ∷ [])) ++ text) ++ spelled_fields (number_fields 3 (pos role))
+    ≡ old ++ spelled (payload_field 2 (written_occurrence (compact_occurrence line column end text role)))
 use_put old line column end rest text role some few fits is =
     let roles = spelled_fields (number_fields 3 (pos role)) in
-    let front = front_of line column end rest in
+    let prefix = prefix_of line column end rest in
     let head : List ℕ = 18 ∷ length text ∷ [] in
-    append_assoc (old ++ (front ++ head)) text roles
-    ∙ append_assoc old (front ++ head) (text ++ roles)
-    ∙ ap (λ (bytes : List ℕ). old ++ bytes) (append_assoc front head (text ++ roles))
-    ∙ ap (λ (bytes : List ℕ). old ++ (front ++ (bytes ++ roles))) (sym (text_bytes text some (omega arith)))
+    append_assoc (old ++ (prefix ++ head)) text roles
+    ∙ append_assoc old (prefix ++ head) (text ++ roles)
+    ∙ ap (λ (bytes : List ℕ). old ++ bytes) (append_assoc prefix head (text ++ roles))
+    ∙ ap (λ (bytes : List ℕ). old ++ (prefix ++ (bytes ++ roles))) (sym (text_bytes text some (omega arith)))
     ∙ ap (λ (bytes : List ℕ). old ++ bytes) (sym (use_record line column end rest text role (rest_length text role some few fits ∙ sym is)))
 
 same_line : (n : ℕ) → (n == n) ≡ true

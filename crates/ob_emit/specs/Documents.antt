@@ -5,13 +5,13 @@ use Rattle.std.specs.List.{filter_map, range_with_len}
 use Rattle.ob_scan.specs.declared.token.Token.{Token}
 use Rattle.ob_scan.specs.Position.{ends_line}
 use Rattle.ob_scan.specs.Texts.{token_at}
-use Rattle.ob_rows.specs.declared.rows.Declarer.{Declarer}
-use Rattle.ob_types.specs.World.{World, declarer_of, text}
+use Rattle.module_table.specs.declared.rows.DeclGroup.{DeclGroup}
+use Rattle.ob_types.specs.World.{World, decl_group_of, text}
 use Rattle.ob_targets.specs.declared.target.Reference.{Reference}
 use Rattle.ob_targets.specs.declared.target.Target.{Target}
 use Rattle.ob_targets.specs.declared.target.Target.TheVariants as targets
-use Rattle.scip_symbol.specs.SymbolTexts.{PlainSymbol, plain_text}
-use Rattle.scip_index.specs.Plain.{PlainDocument, PlainOccurrence, PlainSymbol as SymbolRow}
+use Rattle.scip_symbol.specs.SymbolTexts.{SymbolModel, canonical_text}
+use Rattle.scip_index.specs.Plain.{DocumentModel, OccurrenceModel, SymbolModel as SymbolRow}
 use Rattle.ob_emit.specs.Symbols.{symbol_of}
 
 -- ---- locations
@@ -43,7 +43,7 @@ range_of w k = span_of w k k
 
 -- the range of the construct that declares a target; the module itself goes from MODULE to its full stop, which is the last token
 abbrev pub construct_range : World → Target → List ℤ
-construct_range w (targets.Declared k) = option_map_or (λ (by : Declarer). span_of w by.first by.last) (declarer_of w k) []
+construct_range w (targets.Declared k) = option_map_or (λ (by : DeclGroup). span_of w by.first by.last) (decl_group_of w k) []
 construct_range w (targets.Imported i d) = []
 construct_range w (targets.External item name) = []
 construct_range w targets.Own = span_of w 0 (length w.tokens - 1)
@@ -58,19 +58,19 @@ enclosing_range w r = if r.role == 1 then construct_range w r.target else []
 -- ---- the document
 
 -- the occurrence of a reference: its range, symbol string, role and enclosing range; None if its target has no symbol
-abbrev pub occurrence : World → List ℕ → Reference → Option PlainOccurrence
+abbrev pub occurrence : World → List ℕ → Reference → Option OccurrenceModel
 occurrence w package_name r =
-    option_map (λ (s : PlainSymbol). record { range = range_of w r.number; symbol = plain_text s; symbol_roles = pos r.role; enclosing_range = enclosing_range w r }) (symbol_of w package_name r.target)
+    option_map (λ (s : SymbolModel). record { range = range_of w r.number; symbol = canonical_text s; symbol_roles = pos r.role; enclosing_range = enclosing_range w r }) (symbol_of w package_name r.target)
 
 -- the symbol information of a reference that is a declaration, with the identifier as its display name
 abbrev pub symbol_row : World → List ℕ → Reference → Option SymbolRow
 symbol_row w package_name r =
-    if r.role == 1 then option_map (λ (s : PlainSymbol). record { symbol = plain_text s; display_name = text w r.number }) (symbol_of w package_name r.target)
+    if r.role == 1 then option_map (λ (s : SymbolModel). record { symbol = canonical_text s; display_name = text w r.number }) (symbol_of w package_name r.target)
     else None
 
 -- the document at this path with these occurrences and symbols; its language is Oberon, and its columns count bytes of UTF-8
-abbrev pub filed : List ℕ → List PlainOccurrence → List SymbolRow → PlainDocument
-filed path occurrences symbols = record {
+abbrev pub document_at : List ℕ → List OccurrenceModel → List SymbolRow → DocumentModel
+document_at path occurrences symbols = record {
   relative_path = path;
   occurrences = occurrences;
   symbols = symbols;
@@ -79,5 +79,5 @@ filed path occurrences symbols = record {
 }
 
 -- the document of a module at this path: the occurrences and the declared symbols, each in the order of the references
-abbrev pub document_of : World → List ℕ → List ℕ → List Reference → PlainDocument
-document_of w path package_name refs = filed path (filter_map (occurrence w package_name) refs) (filter_map (symbol_row w package_name) refs)
+abbrev pub document_of : World → List ℕ → List ℕ → List Reference → DocumentModel
+document_of w path package_name refs = document_at path (filter_map (occurrence w package_name) refs) (filter_map (symbol_row w package_name) refs)

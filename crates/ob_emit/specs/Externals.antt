@@ -5,32 +5,32 @@ use Rattle.std.specs.List.{filter_map}
 use Rattle.std.specs.List.Sorted.{IsStrictlySortedBy}
 use Rattle.std.specs.Ordering.{nat_cmp}
 use Rattle.std.specs.Cmp.Lexicographic.{slice_cmp}
-use Rattle.ob_rows.specs.declared.rows.Import.{Import}
-use Rattle.ob_types.specs.World.{World, text, home_of}
+use Rattle.module_table.specs.declared.rows.Import.{Import}
+use Rattle.ob_types.specs.World.{World, text, module_of_item}
 use Rattle.ob_targets.specs.declared.target.Reference.{Reference}
 use Rattle.ob_targets.specs.declared.target.Target.{Target}
 use Rattle.ob_targets.specs.declared.target.Target.TheVariants as targets
-use Rattle.scip_symbol.specs.SymbolTexts.{PlainSymbol, plain_text}
-use Rattle.scip_index.specs.Plain.{PlainSymbol as SymbolRow}
+use Rattle.scip_symbol.specs.SymbolTexts.{SymbolModel, canonical_text}
+use Rattle.scip_index.specs.Plain.{SymbolModel as SymbolRow}
 use Rattle.scip_symbol.specs.declared.kind.DescriptorKind.TheVariants.{Term}
 use Rattle.ob_emit.specs.Named.{IsName}
 use Rattle.ob_emit.specs.Symbols.{descriptor, external_symbol, global, module_path, module_symbol}
 
 -- symbol information with this display name
-abbrev pub shown : List ℕ → PlainSymbol → SymbolRow
-shown name s = record { symbol = plain_text s; display_name = name }
+abbrev pub symbol_info : List ℕ → SymbolModel → SymbolRow
+symbol_info name s = record { symbol = canonical_text s; display_name = name }
 
 -- the symbol information of the module that an import item names, if the module isn't in the tree
 abbrev pub external_module : World → ℕ → Option SymbolRow
 external_module w item =
-    if is_none (home_of w item) then option_and_then (λ (i : Import). option_map (shown (text w i.imported)) (module_symbol w [] item)) (slice_get w.rows.imports item)
+    if is_none (module_of_item w item) then option_and_then (λ (i : Import). option_map (symbol_info (text w i.imported)) (module_symbol w [] item)) (slice_get w.rows.imports item)
     else None
 
 -- the symbol information of a target that isn't in the tree: of a module, with its name, or of a name of a module, with the name itself
 abbrev pub external_row : World → Target → Option SymbolRow
 external_row w (targets.Declared k) = None
 external_row w (targets.Imported i d) = None
-external_row w (targets.External item name) = option_map (shown (text w name)) (external_symbol w item name)
+external_row w (targets.External item name) = option_map (symbol_info (text w name)) (external_symbol w item name)
 external_row w targets.Own = None
 external_row w (targets.«Module» item) = external_module w item
 external_row w targets.Predeclared = None
@@ -49,8 +49,8 @@ pub record AreExternals (of rows : List SymbolRow) : Type 0 where
 
 -- the symbol information of a module, with its name, or of a name of a module, with the name itself
 pub data IsExternalRow : SymbolRow → Type 0 where
-  of_module : (n : List ℕ) → IsName n → IsExternalRow (shown n (global [] (module_path n)))
-  of_name : (n name : List ℕ) → IsName n → IsName name → IsExternalRow (shown name (global [] (module_path n ++ descriptor Term name ∷ [])))
+  of_module : (n : List ℕ) → IsName n → IsExternalRow (symbol_info n (global [] (module_path n)))
+  of_name : (n name : List ℕ) → IsName n → IsName name → IsExternalRow (symbol_info name (global [] (module_path n ++ descriptor Term name ∷ [])))
 
 -- each element is the symbol information of a module, or of a name of a module
 abbrev pub AreExternalRows : List SymbolRow → Type 0

@@ -1,9 +1,8 @@
 pub mod Apart
 pub mod Documents
 pub mod Externals
-pub mod Made
+pub mod StoredTexts
 pub mod Named
-pub mod Places
+pub mod Ranges
+pub mod Boundaries
 pub mod Symbols
-pub mod LinesFound
-pub mod RowsCut

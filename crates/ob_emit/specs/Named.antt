@@ -18,11 +18,11 @@ pub record HasNames (m : ModuleInterface) : Type 0 where
   pub declarations : (d : Declaration) → Contains m.declarations d → IsName d.name
 
 -- the module's own name, what it declares and what its import items name are identifiers, and so are the names in the reached interfaces
-pub record HaveNames (w : World) : Type 0 where
+pub record NamesAreIdentifiers (w : World) : Type 0 where
   pub here : AreNames (text_at w.bytes w.tokens) w.rows
   pub reached : (m : ModuleInterface) → Contains w.reached m → HasNames m
 
 -- the token of each reference is an identifier, and so is each token that denotes a name of an external module
-pub record AreOfNames (w : World) (refs : List Reference) : Type 0 where
+pub record ReferencesAreIdentifiers (w : World) (refs : List Reference) : Type 0 where
   pub own : (r : Reference) → Contains refs r → IsName (text w r.number)
   pub external : (r : Reference) → Contains refs r → (item name : ℕ) → r.target ≡ targets.External item name → IsName (text w name)

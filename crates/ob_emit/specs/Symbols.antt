@@ -2,57 +2,57 @@
 use Rattle.std.specs.Prelude.{ℕ, zero, suc, ◌==◌, List, [], ◌∷◌, ◌++◌, codes, Bool, true, false, not, nat_lt, Option, Some, None, slice_get, take, count_by, position, if◌then◌else◌}
 use Rattle.std.specs.Option.{option_map, option_map_or, option_and_then}
 use Rattle.std.specs.Fmt.{decimal}
-use Rattle.ob_rows.specs.declared.rows.Declared.{Declared}
-use Rattle.ob_rows.specs.declared.rows.Declarer.{Declarer}
-use Rattle.ob_rows.specs.declared.rows.Import.{Import}
-use Rattle.ob_rows.specs.declared.rows.Sort.{Sort}
-use Rattle.ob_rows.specs.declared.rows.Sort.TheVariants as sorts
-use Rattle.ob_rows.specs.Tables.{own_name}
+use Rattle.module_table.specs.declared.rows.Declared.{Declared}
+use Rattle.module_table.specs.declared.rows.DeclGroup.{DeclGroup}
+use Rattle.module_table.specs.declared.rows.Import.{Import}
+use Rattle.module_table.specs.declared.rows.DeclKind.{DeclKind}
+use Rattle.module_table.specs.declared.rows.DeclKind.TheVariants as decl_kinds
+use Rattle.module_table.specs.Tables.{module_name_token}
 use Rattle.ob_interface.specs.Interfaces.{Declaration, ModuleInterface}
-use Rattle.ob_interface.specs.Placed.{declaration_at, owner_place}
-use Rattle.ob_types.specs.World.{World, text, declarer_from, declarer_of, owner_at, home_of}
+use Rattle.ob_interface.specs.Placed.{declaration_at, owner_index}
+use Rattle.ob_types.specs.World.{World, text, decl_group_from, decl_group_of, owner_at, module_of_item}
 use Rattle.ob_targets.specs.declared.target.Target.{Target}
 use Rattle.ob_targets.specs.declared.target.Target.TheVariants as targets
 use Rattle.scip_symbol.specs.declared.kind.DescriptorKind.{DescriptorKind}
 use Rattle.scip_symbol.specs.declared.kind.DescriptorKind.TheVariants.{Namespace, TypeName, Term, Method}
-use Rattle.scip_symbol.specs.SymbolTexts.{PlainDescriptor, PlainSymbol, Local, Global}
+use Rattle.scip_symbol.specs.SymbolTexts.{DescriptorModel, SymbolModel, Local, Global}
 
 -- the scheme of all symbols of this program
 abbrev pub scheme : List ℕ
 scheme = codes "scip-oberon"
 
 -- a global symbol of this package
-abbrev pub global : List ℕ → List PlainDescriptor → PlainSymbol
+abbrev pub global : List ℕ → List DescriptorModel → SymbolModel
 global package_name path = Global scheme [] package_name [] path
 
 -- a descriptor without a disambiguator
-abbrev pub descriptor : DescriptorKind → List ℕ → PlainDescriptor
+abbrev pub descriptor : DescriptorKind → List ℕ → DescriptorModel
 descriptor kind name = record { kind = kind; name = name; disambiguator = [] }
 
 -- the descriptors of a module: `M/`
-abbrev pub module_path : List ℕ → List PlainDescriptor
+abbrev pub module_path : List ℕ → List DescriptorModel
 module_path name = descriptor Namespace name ∷ []
 
 -- the kind of a declaration's descriptor: a type is `T#`, a procedure `p().`, and all else `x.`; an import item has none
-abbrev pub kind_of : Sort → Option DescriptorKind
-kind_of sorts.Import = None
-kind_of sorts.Constant = Some Term
-kind_of sorts.Type = Some TypeName
-kind_of sorts.Variable = Some Term
-kind_of sorts.Procedure = Some Method
-kind_of sorts.Parameter = Some Term
-kind_of sorts.Field = Some Term
+abbrev pub kind_of : DeclKind → Option DescriptorKind
+kind_of decl_kinds.Import = None
+kind_of decl_kinds.Constant = Some Term
+kind_of decl_kinds.Type = Some TypeName
+kind_of decl_kinds.Variable = Some Term
+kind_of decl_kinds.Procedure = Some Method
+kind_of decl_kinds.Parameter = Some Term
+kind_of decl_kinds.Field = Some Term
 
 -- ---- paths
 
 -- the last step of a declaration's path: its own descriptor, and for a field the number of its owner, the declaration whose type holds the record
 pub record PathStep : Type 0 where
-  pub own : PlainDescriptor
+  pub own : DescriptorModel
   pub owner : Option ℕ
 
 -- the step of a declaration in the module's block
-abbrev pub step_in_block : Sort → List ℕ → Option PathStep
-step_in_block sort name = option_map (λ kind. record { own = descriptor kind name; owner = None }) (kind_of sort)
+abbrev pub step_in_block : DeclKind → List ℕ → Option PathStep
+step_in_block decl_kind name = option_map (λ kind. record { own = descriptor kind name; owner = None }) (kind_of decl_kind)
 
 -- the step of a field, by its number, its name and its owner's number, which is smaller
 abbrev pub step_in_record : ℕ → List ℕ → Option ℕ → Option PathStep
@@ -60,46 +60,46 @@ step_in_record k name None = None
 step_in_record k name (Some o) = if nat_lt o k then Some (record { own = descriptor Term name; owner = Some o }) else None
 
 -- the descriptors of a declaration after those of its owner, or else of the module, if this many steps suffice
-unfoldable pub path_within : List ℕ → (ℕ → Option PathStep) → ℕ → ℕ → Option (List PlainDescriptor)
+unfoldable pub path_within : List ℕ → (ℕ → Option PathStep) → ℕ → ℕ → Option (List DescriptorModel)
 path_within m steps zero k = None
 path_within m steps (suc n) k =
-    option_and_then (λ (s : PathStep). option_map (λ (ds : List PlainDescriptor). ds ++ s.own ∷ []) (option_map_or (path_within m steps n) s.owner (Some (module_path m)))) (steps k)
+    option_and_then (λ (s : PathStep). option_map (λ (ds : List DescriptorModel). ds ++ s.own ∷ []) (option_map_or (path_within m steps n) s.owner (Some (module_path m)))) (steps k)
 
 -- the descriptors of a declaration; owners have smaller numbers, so its number plus one steps suffice
-abbrev pub path : List ℕ → (ℕ → Option PathStep) → ℕ → Option (List PlainDescriptor)
+abbrev pub path : List ℕ → (ℕ → Option PathStep) → ℕ → Option (List DescriptorModel)
 path m steps k = path_within m steps (suc k) k
 
 -- ---- the module's own declarations, by token number
 
 -- the step of a token declared with this kind, in this record if it is a field
-abbrev pub own_step_by : World → ℕ → Sort → Option ℕ → Option PathStep
-own_step_by w k sort None = step_in_block sort (text w k)
-own_step_by w k sort (Some r) = step_in_record k (text w k) (owner_at w r)
+abbrev pub declared_step_by : World → ℕ → DeclKind → Option ℕ → Option PathStep
+declared_step_by w k decl_kind None = step_in_block decl_kind (text w k)
+declared_step_by w k decl_kind (Some r) = step_in_record k (text w k) (owner_at w r)
 
 -- the step of a token that this construct declares, if the construct is in the module's block
-abbrev pub own_step : World → ℕ → Declarer → Option PathStep
-own_step w k by = if by.block == 0 then own_step_by w k by.sort by.of_record else None
+abbrev pub declared_step : World → ℕ → DeclGroup → Option PathStep
+declared_step w k by = if by.block == 0 then declared_step_by w k by.decl_kind by.of_record else None
 
 -- the step of a token that is declared in the module's block or in a record there
-abbrev pub own_steps : World → ℕ → Option PathStep
-own_steps w k = option_and_then (own_step w k) (declarer_of w k)
+abbrev pub declared_steps : World → ℕ → Option PathStep
+declared_steps w k = option_and_then (declared_step w k) (decl_group_of w k)
 
 -- the descriptors of what a token declares, in the module's block or in a record there
-abbrev pub own_path : World → ℕ → Option (List PlainDescriptor)
-own_path w k = path (text w own_name) (own_steps w) k
+abbrev pub declared_path : World → ℕ → Option (List DescriptorModel)
+declared_path w k = path (text w module_name_token) (declared_steps w) k
 
 -- whether an identifier is declared in another block than the module's, also as a field
 abbrev pub is_local : World → Declared → Bool
-is_local w d = option_map_or (λ (by : Declarer). not (by.block == 0)) (declarer_from w d.declared_by) false
+is_local w d = option_map_or (λ (by : DeclGroup). not (by.block == 0)) (decl_group_from w d.declared_by) false
 
 -- the symbol of the declaration at an index, if it has one: local symbols, of other blocks than the module's, are numbered from 0
-abbrev pub symbol_at : World → List ℕ → ℕ → Declared → Option PlainSymbol
+abbrev pub symbol_at : World → List ℕ → ℕ → Declared → Option SymbolModel
 symbol_at w package_name i d =
     if is_local w d then Some (Local (decimal (count_by (is_local w) (take i w.rows.declared))))
-    else option_map (global package_name) (own_path w d.number)
+    else option_map (global package_name) (declared_path w d.number)
 
 -- the symbol of what a token declares
-abbrev pub declared_symbol : World → List ℕ → ℕ → Option PlainSymbol
+abbrev pub declared_symbol : World → List ℕ → ℕ → Option SymbolModel
 declared_symbol w package_name k =
     option_and_then (λ (i : ℕ). option_and_then (symbol_at w package_name i) (slice_get w.rows.declared i)) (position (λ (d : Declared). d.number == k) w.rows.declared)
 
@@ -107,61 +107,61 @@ declared_symbol w package_name k =
 
 -- the step of a declaration of an interface, in this record if it is a field
 abbrev pub step_by : ModuleInterface → ℕ → Declaration → Option ℕ → Option PathStep
-step_by m d it None = step_in_block it.sort it.name
-step_by m d it (Some r) = step_in_record d it.name (owner_place m r)
+step_by m d it None = step_in_block it.decl_kind it.name
+step_by m d it (Some r) = step_in_record d it.name (owner_index m r)
 
 -- the step of a declaration of an interface
-abbrev pub step_there : ModuleInterface → ℕ → Declaration → Option PathStep
-step_there m d it = step_by m d it it.of_record
+abbrev pub interface_step : ModuleInterface → ℕ → Declaration → Option PathStep
+interface_step m d it = step_by m d it it.of_record
 
 -- the step of the declaration at an index of an interface
-abbrev pub steps_there : ModuleInterface → ℕ → Option PathStep
-steps_there m d = option_and_then (step_there m d) (declaration_at m d)
+abbrev pub interface_steps : ModuleInterface → ℕ → Option PathStep
+interface_steps m d = option_and_then (interface_step m d) (declaration_at m d)
 
 -- the descriptors of the declaration at an index of an interface
-abbrev pub path_there : ModuleInterface → ℕ → Option (List PlainDescriptor)
-path_there m d = path m.name (steps_there m) d
+abbrev pub interface_path : ModuleInterface → ℕ → Option (List DescriptorModel)
+interface_path m d = path m.name (interface_steps m) d
 
 -- the symbol of a declaration of a reached module, by the indices of both
-abbrev pub imported_symbol : World → List ℕ → ℕ → ℕ → Option PlainSymbol
-imported_symbol w package_name i d = option_and_then (λ (m : ModuleInterface). option_map (global package_name) (path_there m d)) (slice_get w.reached i)
+abbrev pub imported_symbol : World → List ℕ → ℕ → ℕ → Option SymbolModel
+imported_symbol w package_name i d = option_and_then (λ (m : ModuleInterface). option_map (global package_name) (interface_path m d)) (slice_get w.reached i)
 
 -- ---- modules
 
 -- the package of the module that an import item names: none if the module isn't in the tree
 abbrev pub package_of : World → List ℕ → ℕ → List ℕ
-package_of w package_name item = option_map_or (λ (home : ℕ). package_name) (home_of w item) []
+package_of w package_name item = option_map_or (λ (module_number : ℕ). package_name) (module_of_item w item) []
 
 -- the symbol of the module that an import item names
-abbrev pub module_symbol : World → List ℕ → ℕ → Option PlainSymbol
+abbrev pub module_symbol : World → List ℕ → ℕ → Option SymbolModel
 module_symbol w package_name item = option_map (λ (i : Import). global (package_of w package_name item) (module_path (text w i.imported))) (slice_get w.rows.imports item)
 
 -- the symbol of a name of a module that isn't in the tree: `N/x.`, without a package
-abbrev pub external_symbol : World → ℕ → ℕ → Option PlainSymbol
+abbrev pub external_symbol : World → ℕ → ℕ → Option SymbolModel
 external_symbol w item name =
     option_map (λ (i : Import). global [] (module_path (text w i.imported) ++ descriptor Term (text w name) ∷ [])) (slice_get w.rows.imports item)
 
 -- ---- targets
 
 -- the symbol of a target; predeclared names and Unresolved have none
-abbrev pub symbol_of : World → List ℕ → Target → Option PlainSymbol
+abbrev pub symbol_of : World → List ℕ → Target → Option SymbolModel
 symbol_of w package_name (targets.Declared k) = declared_symbol w package_name k
 symbol_of w package_name (targets.Imported i d) = imported_symbol w package_name i d
 symbol_of w package_name (targets.External item name) = external_symbol w item name
-symbol_of w package_name targets.Own = Some (global package_name (module_path (text w own_name)))
+symbol_of w package_name targets.Own = Some (global package_name (module_path (text w module_name_token)))
 symbol_of w package_name (targets.«Module» item) = module_symbol w package_name item
 symbol_of w package_name targets.Predeclared = None
 symbol_of w package_name targets.Unresolved = None
 
 -- whether the target is neither a predeclared name nor Unresolved
-abbrev pub stands_for_something : Target → Bool
-stands_for_something (targets.Declared k) = true
-stands_for_something (targets.Imported i d) = true
-stands_for_something (targets.External item name) = true
-stands_for_something targets.Own = true
-stands_for_something (targets.«Module» item) = true
-stands_for_something targets.Predeclared = false
-stands_for_something targets.Unresolved = false
+abbrev pub denotes_something : Target → Bool
+denotes_something (targets.Declared k) = true
+denotes_something (targets.Imported i d) = true
+denotes_something (targets.External item name) = true
+denotes_something targets.Own = true
+denotes_something (targets.«Module» item) = true
+denotes_something targets.Predeclared = false
+denotes_something targets.Unresolved = false
 
 -- whether the target is a declaration of another module of the tree
 abbrev pub is_of_another_module : Target → Bool

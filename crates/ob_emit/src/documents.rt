@@ -6,17 +6,17 @@ ghost use Rattle.ob_scan.specs.Position.{line_starts};
 ghost use Rattle.ob_scan.specs.Spelling.{AreInText};
 ghost use Rattle.ob_targets.specs.declared.target.Target.TheVariants.{External};
 ghost use Rattle.ob_types.specs.World.{text};
-ghost use Rattle.scip_index.specs.Plain.{plain_document, plain_occurrence, plain_symbol};
+ghost use Rattle.scip_index.specs.Plain.{document_model, occurrence_model, symbol_model};
 ghost use Rattle.scip_symbol.specs.Outcomes.{is_wrong_part};
 ghost use Rattle.ob_emit.specs.declared.fault.EmitFault.TheVariants.{BadPackage};
-ghost use Rattle.ob_emit.specs.Documents.{document_of, filed, occurrence, symbol_row};
-ghost use Rattle.ob_emit.specs.Made.{AreSymbolTexts};
-ghost use Rattle.ob_emit.specs.Named.{HaveNames, AreOfNames, IsName};
+ghost use Rattle.ob_emit.specs.Documents.{document_of, document_at, occurrence, symbol_row};
+ghost use Rattle.ob_emit.specs.StoredTexts.{AreSymbolTexts};
+ghost use Rattle.ob_emit.specs.Named.{NamesAreIdentifiers, ReferencesAreIdentifiers, IsName};
 
 use crate::EmitFault;
-use crate::own_texts::Texts;
 use crate::path::name_of;
 use crate::ranges::{enclosing_range, range_of};
+use crate::target_texts::Texts;
 use ob_scan::{Lines, lines};
 use ob_targets::Reference;
 use ob_types::Types;
@@ -41,9 +41,9 @@ fn occurrence_of(
     requires in_text { AreInText types.now.bytes types.now.tokens }
     requires short { length types.now.bytes < 2 ^ 31 }
     requires lined { lines.now ≡ line_starts types.now.bytes }
-    requires named { HaveNames types.now }
+    requires named { NamesAreIdentifiers types.now }
     requires external { (item name : ℕ) → reference.now.target ≡ External item name → IsName (text types.now name) }
-    ensures { (package_name : List ℕ) → AreSymbolTexts types.now package_name texts.now → IfOk result (λ o. option_map plain_occurrence o ≡ occurrence types.now package_name reference.now) }
+    ensures { (package_name : List ℕ) → AreSymbolTexts types.now package_name texts.now → IfOk result (λ o. option_map occurrence_model o ≡ occurrence types.now package_name reference.now) }
 {
     let Some(symbol) = texts.symbol(alloc, types, reference.target)? else {
         return Ok(None);
@@ -65,9 +65,9 @@ fn occurrences(
 ) -> Result<Vec<Occurrence>, AllocError>
     requires in_text { AreInText types.now.bytes types.now.tokens }
     requires short { length types.now.bytes < 2 ^ 31 }
-    requires named { HaveNames types.now }
-    requires of_names { AreOfNames types.now refs.now }
-    ensures { (package_name : List ℕ) → AreSymbolTexts types.now package_name texts.now → IfOk result (λ v. map plain_occurrence v.items ≡ filter_map (occurrence types.now package_name) refs.now) }
+    requires named { NamesAreIdentifiers types.now }
+    requires of_names { ReferencesAreIdentifiers types.now refs.now }
+    ensures { (package_name : List ℕ) → AreSymbolTexts types.now package_name texts.now → IfOk result (λ v. map occurrence_model v.items ≡ filter_map (occurrence types.now package_name) refs.now) }
 {
     let lines = lines(alloc, types.bytes())?;
     let mut found = Vec::with_capacity(alloc, refs.len())?;
@@ -86,10 +86,10 @@ fn symbol_row(
     texts: &Texts<'_>,
     reference: &Reference,
 ) -> Result<Option<SymbolInfo>, AllocError>
-    requires named { HaveNames types.now }
+    requires named { NamesAreIdentifiers types.now }
     requires own { IsName (text types.now reference.now.number) }
     requires external { (item name : ℕ) → reference.now.target ≡ External item name → IsName (text types.now name) }
-    ensures { (package_name : List ℕ) → AreSymbolTexts types.now package_name texts.now → IfOk result (λ s. option_map plain_symbol s ≡ symbol_row types.now package_name reference.now) }
+    ensures { (package_name : List ℕ) → AreSymbolTexts types.now package_name texts.now → IfOk result (λ s. option_map symbol_model s ≡ symbol_row types.now package_name reference.now) }
 {
     if reference.role != 1 {
         return Ok(None);
@@ -111,9 +111,9 @@ fn symbols(
     texts: &Texts<'_>,
     refs: &[Reference],
 ) -> Result<Vec<SymbolInfo>, AllocError>
-    requires named { HaveNames types.now }
-    requires of_names { AreOfNames types.now refs.now }
-    ensures { (package_name : List ℕ) → AreSymbolTexts types.now package_name texts.now → IfOk result (λ v. map plain_symbol v.items ≡ filter_map (symbol_row types.now package_name) refs.now) }
+    requires named { NamesAreIdentifiers types.now }
+    requires of_names { ReferencesAreIdentifiers types.now refs.now }
+    ensures { (package_name : List ℕ) → AreSymbolTexts types.now package_name texts.now → IfOk result (λ v. map symbol_model v.items ≡ filter_map (symbol_row types.now package_name) refs.now) }
 {
     let mut found = Vec::new(alloc);
     for reference in refs {
@@ -125,13 +125,13 @@ fn symbols(
 }
 
 /// The document at this path with these occurrences and symbols.
-fn filed(
+fn document_at(
     alloc: Global,
     path: &str,
     occurrences: Vec<Occurrence>,
     symbols: Vec<SymbolInfo>,
 ) -> Result<Document, AllocError>
-    ensures { IfOk result (λ d. plain_document d ≡ filed path.now (map plain_occurrence occurrences.items) (map plain_symbol symbols.items)) }
+    ensures { IfOk result (λ d. document_model d ≡ document_at path.now (map occurrence_model occurrences.items) (map symbol_model symbols.items)) }
 {
     let relative_path = String::from_str(alloc, path)?;
     let language = String::from_str(alloc, "Oberon")?;
@@ -154,13 +154,13 @@ fn document_with(
 ) -> Result<Document, AllocError>
     requires in_text { AreInText types.now.bytes types.now.tokens }
     requires short { length types.now.bytes < 2 ^ 31 }
-    requires named { HaveNames types.now }
-    requires of_names { AreOfNames types.now refs.now }
-    ensures { (package_name : List ℕ) → AreSymbolTexts types.now package_name texts.now → IfOk result (λ d. plain_document d ≡ document_of types.now path.now package_name refs.now) }
+    requires named { NamesAreIdentifiers types.now }
+    requires of_names { ReferencesAreIdentifiers types.now refs.now }
+    ensures { (package_name : List ℕ) → AreSymbolTexts types.now package_name texts.now → IfOk result (λ d. document_model d ≡ document_of types.now path.now package_name refs.now) }
 {
     let occurrences = occurrences(alloc, types, texts, refs)?;
     let symbols = symbols(alloc, types, texts, refs)?;
-    filed(alloc, path, occurrences, symbols)
+    document_at(alloc, path, occurrences, symbols)
 }
 
 /// The document of a module at this path, in a package that symbol strings can contain.
@@ -173,9 +173,9 @@ fn document_in(
 ) -> Result<Document, AllocError>
     requires in_text { AreInText types.now.bytes types.now.tokens }
     requires short { length types.now.bytes < 2 ^ 31 }
-    requires named { HaveNames types.now }
-    requires of_names { AreOfNames types.now refs.now }
-    ensures { IfOk result (λ d. plain_document d ≡ document_of types.now path.now package_name.now refs.now) }
+    requires named { NamesAreIdentifiers types.now }
+    requires of_names { ReferencesAreIdentifiers types.now refs.now }
+    ensures { IfOk result (λ d. document_model d ≡ document_of types.now path.now package_name.now refs.now) }
 {
     let texts = Texts::new(alloc, types, refs, package_name)?;
     document_with(alloc, path, types, refs, &texts)
@@ -198,12 +198,12 @@ pub fn document(
     // The module has fewer than 2^31 bytes.
     requires short { length types.now.bytes < 2 ^ 31 }
     // The module's own name, what it declares and imports, and the names in the reached interfaces are identifiers.
-    requires named { HaveNames types.now }
+    requires named { NamesAreIdentifiers types.now }
     // The bytes of each reference's token, and of each external name, are an identifier.
-    requires of_names { AreOfNames types.now refs.now }
+    requires of_names { ReferencesAreIdentifiers types.now refs.now }
     // With `Ok` the document is exactly the module's: its path, an occurrence for each reference that has a symbol, and the declared
     // symbols.
-    ensures exact { IfOk result (λ d. plain_document d ≡ document_of types.now path.now package_name.now refs.now) }
+    ensures exact { IfOk result (λ d. document_model d ≡ document_of types.now path.now package_name.now refs.now) }
     // The result is `BadPackage` if and only if the package is `.` or begins with a space.
     ensures bad_package { (result ≡ Err BadPackage) ↔ (is_wrong_part package_name.now ≡ true) }
 {

@@ -2,29 +2,29 @@
 ghost use Rattle.std.specs.Prelude.{◌≡◌, ℕ, List, IfOk};
 ghost use Rattle.std.specs.Option.{option_map};
 ghost use Rattle.std.specs.String.{string_bytes};
-ghost use Rattle.scip_symbol.specs.SymbolTexts.{plain_text};
-ghost use Rattle.ob_emit.specs.Made.{front_text};
-ghost use Rattle.ob_emit.specs.Named.{HaveNames};
+ghost use Rattle.scip_symbol.specs.SymbolTexts.{canonical_text};
+ghost use Rattle.ob_emit.specs.StoredTexts.{prefix_text};
+ghost use Rattle.ob_emit.specs.Named.{NamesAreIdentifiers};
 ghost use Rattle.ob_emit.specs.Symbols.{imported_symbol};
 
 use crate::path::path_text;
 use ob_types::Types;
 use std::alloc::{AllocError, Global};
 
-/// The symbol string of a declaration of a reached module, by the indices of both; `front` is the prefix of the tree's package.
+/// The symbol string of a declaration of a reached module, by the indices of both; `prefix` is the prefix of the tree's package.
 pub(crate) fn imported_text(
     alloc: Global,
     types: &Types<'_>,
-    front: &str,
+    prefix: &str,
     reached: u32,
     declaration: u32,
 ) -> Result<Option<String>, AllocError>
-    requires { HaveNames types.now }
-    ensures { (package_name : List ℕ) → front.now ≡ front_text package_name →
-        IfOk result (λ text. option_map string_bytes text ≡ option_map plain_text (imported_symbol types.now package_name reached declaration)) }
+    requires { NamesAreIdentifiers types.now }
+    ensures { (package_name : List ℕ) → prefix.now ≡ prefix_text package_name →
+        IfOk result (λ text. option_map string_bytes text ≡ option_map canonical_text (imported_symbol types.now package_name reached declaration)) }
 {
     let Some(interface) = types.interface(reached) else {
         return Ok(None);
     };
-    path_text(alloc, front, interface.name(), interface, declaration)
+    path_text(alloc, prefix, interface.name(), interface, declaration)
 }

@@ -1,4 +1,4 @@
-//! Length-delimited fields appended without a buffer, byte for byte as `push_message` and `put_packed` of `proto_wire` append them.
+//! Length-delimited fields appended without a buffer, byte for byte as `push_message` and `write_packed` of `proto_wire` append them.
 ghost use Rattle.std.specs.Prelude.{◌≡◌, ◌<◌, ◌+◌, ◌++◌, ◌∷◌, [], ℕ, List, OnOk, length, vec_len};
 ghost use Rattle.proto_wire.specs.Varints.{varint};
 ghost use Rattle.proto_wire.specs.Writing.{packed_fields, packing, payload_field, spelled, spelled_fields, text_fields};
@@ -8,7 +8,7 @@ use std::alloc::AllocError;
 
 /// Stores the length `size` of a payload in the free byte after its key, which is at index `start`. Inserts a second byte if the length
 /// needs two.
-fn settle(out: &mut Vec<u8>, start: usize, size: usize) -> Result<(), AllocError>
+fn store_length(out: &mut Vec<u8>, start: usize, size: usize) -> Result<(), AllocError>
     requires there { start + 1 < vec_len out.old }
     requires few { size < 16384 }
     ensures { (old payload : List ℕ) (key : ℕ) → out.old.items ≡ (old ++ key ∷ 0 ∷ []) ++ payload → start ≡ length old →
@@ -41,14 +41,14 @@ pub(crate) fn push_in_place<M: Written>(
     message.push_into(scratch, out)?;
     let size = out.len() - start - 2;
     if size < LONG {
-        return settle(out, start, size);
+        return store_length(out, start, size);
     }
     out.truncate(start);
     push_message(scratch, out, field, message)
 }
 
-/// Appends bytes as a field of this number, unless they are empty, as `put_text` does.
-pub(crate) fn put_bytes(out: &mut Vec<u8>, field: u32, bytes: &[u8]) -> Result<(), AllocError>
+/// Appends bytes as a field of this number, unless they are empty, as `write_text` does.
+pub(crate) fn write_bytes(out: &mut Vec<u8>, field: u32, bytes: &[u8]) -> Result<(), AllocError>
     requires some { 0 < field }
     requires few { field < 16 }
     ensures { OnOk result (out.new.items ≡ out.old.items ++ spelled_fields (text_fields field bytes.now)) }
@@ -63,11 +63,11 @@ pub(crate) fn put_bytes(out: &mut Vec<u8>, field: u32, bytes: &[u8]) -> Result<(
 
 /// Numbers of a packed field, each a varint.
 #[derive(Clone, Copy)]
-struct Numbers<'a> {
+struct PackedNumbers<'a> {
     numbers: &'a [i32],
 }
 
-impl Written for Numbers<'_> {
+impl Written for PackedNumbers<'_> {
     ghost written = { λ n. packing n.numbers.now };
 
     ghost fits = { λ _. Unit {0} };
@@ -80,8 +80,8 @@ impl Written for Numbers<'_> {
     }
 }
 
-/// Appends numbers as one packed field of this number, unless there are none, as `put_packed` does.
-pub(crate) fn put_numbers(
+/// Appends numbers as one packed field of this number, unless there are none, as `write_packed` does.
+pub(crate) fn write_numbers(
     scratch: &mut Scratch,
     out: &mut Vec<u8>,
     field: u32,
@@ -94,5 +94,5 @@ pub(crate) fn put_numbers(
     if numbers.is_empty() {
         return Ok(());
     }
-    push_in_place(scratch, out, field, &Numbers { numbers })
+    push_in_place(scratch, out, field, &PackedNumbers { numbers })
 }

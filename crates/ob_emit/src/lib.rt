@@ -6,31 +6,30 @@
 //! It rejects a package if and only if no symbol string can contain it.
 #![tactic(auto)]
 
+mod capacity;
+mod declaration_index;
 mod documents;
 mod fault;
-mod fronts;
-mod imported_kept;
+mod foreign_texts;
+mod hinted_lookup;
+mod imported_cache;
 mod imported_texts;
 mod in_place;
-mod known_texts;
 pub mod laws;
+mod locations;
 mod module_texts;
-mod near_rows;
-mod outer_texts;
 mod outside;
 mod own;
-mod own_texts;
 mod path;
 mod pieces;
-mod places;
+mod prefixes;
 mod ranges;
 mod record_head;
 mod records;
-mod room;
-mod row_places;
 mod steps;
+mod stored_texts;
 mod symbol_texts;
-mod text_lines;
+mod target_texts;
 mod there;
 mod uses;
 

@@ -2,25 +2,25 @@
 ghost use Rattle.std.specs.Prelude.{◌≡◌, ◌++◌, ℕ, List, IfOk, []};
 ghost use Rattle.std.specs.Option.{option_map};
 ghost use Rattle.std.specs.String.{string_bytes};
-ghost use Rattle.scip_symbol.specs.SymbolTexts.{plain_text};
-ghost use Rattle.ob_emit.specs.Made.{front_text, named_symbol, path_text, AreFronts};
-ghost use Rattle.ob_emit.specs.Named.{HaveNames, IsName};
+ghost use Rattle.scip_symbol.specs.SymbolTexts.{canonical_text};
+ghost use Rattle.ob_emit.specs.StoredTexts.{prefix_text, named_symbol, path_text, ArePrefixes};
+ghost use Rattle.ob_emit.specs.Named.{NamesAreIdentifiers, IsName};
 ghost use Rattle.ob_emit.specs.Symbols.{module_path, module_symbol};
 
-use crate::fronts::Fronts;
 use crate::own::import_at;
-use crate::path::{name_of, room_for};
+use crate::path::{capacity_for, name_of};
+use crate::prefixes::Prefixes;
 use ob_types::Types;
 use scip_symbol::{DescriptorKind, push_step};
 use std::alloc::{AllocError, Global};
 
 /// The symbol string of a module with this prefix and name.
-pub(crate) fn module_text(alloc: Global, front: &str, name: &[u8]) -> Result<String, AllocError>
+pub(crate) fn module_text(alloc: Global, prefix: &str, name: &[u8]) -> Result<String, AllocError>
     requires { IsName name.now }
-    ensures { IfOk result (λ text. string_bytes text ≡ front.now ++ path_text (module_path name.now)) }
+    ensures { IfOk result (λ text. string_bytes text ≡ prefix.now ++ path_text (module_path name.now)) }
 {
-    let mut out = String::with_capacity(alloc, room_for(front, name))?;
-    out.push_str(front)?;
+    let mut out = String::with_capacity(alloc, capacity_for(prefix, name))?;
+    out.push_str(prefix)?;
     push_step(&mut out, DescriptorKind::Namespace, name_of(name))?;
     Ok(out)
 }
@@ -29,19 +29,19 @@ pub(crate) fn module_text(alloc: Global, front: &str, name: &[u8]) -> Result<Str
 pub(crate) fn item_text(
     alloc: Global,
     types: &Types<'_>,
-    fronts: &Fronts,
+    prefixes: &Prefixes,
     item: u32,
 ) -> Result<Option<String>, AllocError>
-    requires { HaveNames types.now }
-    ensures { (package_name : List ℕ) → AreFronts package_name fronts.now →
-        IfOk result (λ text. option_map string_bytes text ≡ option_map plain_text (module_symbol types.now package_name item)) }
+    requires { NamesAreIdentifiers types.now }
+    ensures { (package_name : List ℕ) → ArePrefixes package_name prefixes.now →
+        IfOk result (λ text. option_map string_bytes text ≡ option_map canonical_text (module_symbol types.now package_name item)) }
 {
     let Some(import) = import_at(types, item) else {
         return Ok(None);
     };
     let text = module_text(
         alloc,
-        fronts.front_of(types, item),
+        prefixes.prefix_of(types, item),
         types.text(import.imported),
     )?;
     Ok(Some(text))
@@ -55,10 +55,10 @@ pub(crate) fn external_text(
     item: u32,
     name: &[u8],
 ) -> Result<Option<String>, AllocError>
-    requires named { HaveNames types.now }
+    requires named { NamesAreIdentifiers types.now }
     requires of_name { IsName name.now }
-    ensures { outside.now ≡ front_text [] →
-        IfOk result (λ text. option_map string_bytes text ≡ option_map plain_text (named_symbol types.now item name.now)) }
+    ensures { outside.now ≡ prefix_text [] →
+        IfOk result (λ text. option_map string_bytes text ≡ option_map canonical_text (named_symbol types.now item name.now)) }
 {
     let Some(import) = import_at(types, item) else {
         return Ok(None);

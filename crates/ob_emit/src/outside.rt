@@ -4,17 +4,17 @@ ghost use Rattle.std.specs.Option.{option_and_then, option_map};
 ghost use Rattle.std.specs.String.{string_bytes};
 ghost use Rattle.ob_targets.specs.declared.target.Target.TheVariants.{External};
 ghost use Rattle.ob_types.specs.World.{text};
-ghost use Rattle.scip_index.specs.Plain.{plain_symbol};
+ghost use Rattle.scip_index.specs.Plain.{symbol_model};
 ghost use Rattle.ob_emit.specs.Externals.{AreExternalRows, AreExternals, external_module, external_row, externals_in};
-ghost use Rattle.ob_emit.specs.Made.{front_text, outside_row, AreEnough};
-ghost use Rattle.ob_emit.specs.Named.{HaveNames, AreOfNames, IsName};
+ghost use Rattle.ob_emit.specs.StoredTexts.{prefix_text, outside_row, AreEnough};
+ghost use Rattle.ob_emit.specs.Named.{NamesAreIdentifiers, ReferencesAreIdentifiers, IsName};
 ghost use Rattle.std.specs.Prelude.{ℕ};
 
-use crate::fronts::front_text;
+use crate::foreign_texts::outside_seed;
 use crate::module_texts::{external_text, module_text};
-use crate::outer_texts::outside_seed;
 use crate::own::import_at;
 use crate::path::name_of;
+use crate::prefixes::prefix_text;
 use indexmap::IndexSet;
 use ob_targets::{Reference, Target};
 use ob_types::Types;
@@ -22,9 +22,9 @@ use scip_index::SymbolInfo;
 use std::alloc::{AllocError, Global};
 
 /// The symbol information of a symbol string with this display name.
-fn shown(alloc: Global, symbol: String, name: &[u8]) -> Result<SymbolInfo, AllocError>
+fn symbol_info(alloc: Global, symbol: String, name: &[u8]) -> Result<SymbolInfo, AllocError>
     requires { IsName name.now }
-    ensures { IfOk result (λ s. plain_symbol s ≡ record { symbol = string_bytes symbol; display_name = name.now }) }
+    ensures { IfOk result (λ s. symbol_model s ≡ record { symbol = string_bytes symbol; display_name = name.now }) }
 {
     Ok(SymbolInfo {
         symbol,
@@ -39,11 +39,11 @@ fn external_module(
     outside: &str,
     item: u32,
 ) -> Result<Option<SymbolInfo>, AllocError>
-    requires named { HaveNames types.now }
-    requires front { outside.now ≡ front_text [] }
-    ensures { IfOk result (λ s. option_map plain_symbol s ≡ external_module types.now item) }
+    requires named { NamesAreIdentifiers types.now }
+    requires prefix { outside.now ≡ prefix_text [] }
+    ensures { IfOk result (λ s. option_map symbol_model s ≡ external_module types.now item) }
 {
-    if types.home(item).is_some() {
+    if types.module_number(item).is_some() {
         return Ok(None);
     }
     let Some(import) = import_at(types, item) else {
@@ -51,7 +51,7 @@ fn external_module(
     };
     let name = types.text(import.imported);
     let symbol = module_text(alloc, outside, name)?;
-    Ok(Some(shown(alloc, symbol, name)?))
+    Ok(Some(symbol_info(alloc, symbol, name)?))
 }
 
 /// The symbol information of a name of a module that isn't in the tree.
@@ -62,16 +62,16 @@ fn external_name(
     item: u32,
     name: u32,
 ) -> Result<Option<SymbolInfo>, AllocError>
-    requires named { HaveNames types.now }
+    requires named { NamesAreIdentifiers types.now }
     requires of_name { IsName (text types.now name) }
-    requires front { outside.now ≡ front_text [] }
-    ensures { IfOk result (λ s. option_map plain_symbol s ≡ external_row types.now (External item name)) }
+    requires prefix { outside.now ≡ prefix_text [] }
+    ensures { IfOk result (λ s. option_map symbol_model s ≡ external_row types.now (External item name)) }
 {
     let name = types.text(name);
     let Some(symbol) = external_text(alloc, types, outside, item, name)? else {
         return Ok(None);
     };
-    Ok(Some(shown(alloc, symbol, name)?))
+    Ok(Some(symbol_info(alloc, symbol, name)?))
 }
 
 /// The symbol information of a target that isn't in the tree.
@@ -81,10 +81,10 @@ fn external_row(
     outside: &str,
     target: Target,
 ) -> Result<Option<SymbolInfo>, AllocError>
-    requires named { HaveNames types.now }
+    requires named { NamesAreIdentifiers types.now }
     requires external { (item name : ℕ) → target ≡ External item name → IsName (text types.now name) }
-    requires front { outside.now ≡ front_text [] }
-    ensures { IfOk result (λ s. option_map plain_symbol s ≡ external_row types.now target) }
+    requires prefix { outside.now ≡ prefix_text [] }
+    ensures { IfOk result (λ s. option_map symbol_model s ≡ external_row types.now target) }
 {
     match target {
         Target::External { item, name } => external_name(alloc, types, outside, item, name),
@@ -105,7 +105,7 @@ fn outside_key<'a>(types: &Types<'a>, target: Target) -> Option<(u32, Option<&'a
 {
     match target {
         Target::External { item, name } => Some((item, Some(types.text(name)))),
-        Target::Module(item) => match types.home(item) {
+        Target::Module(item) => match types.module_number(item) {
             Some(_) => None,
             None => Some((item, None)),
         },
@@ -143,11 +143,11 @@ fn external_rows(
     types: &Types<'_>,
     refs: &[Reference],
 ) -> Result<Vec<SymbolInfo>, AllocError>
-    requires named { HaveNames types.now }
-    requires of_names { AreOfNames types.now refs.now }
-    ensures { IfOk result (λ v. map plain_symbol v.items ≡ externals_in types.now refs.now) }
+    requires named { NamesAreIdentifiers types.now }
+    requires of_names { ReferencesAreIdentifiers types.now refs.now }
+    ensures { IfOk result (λ v. map symbol_model v.items ≡ externals_in types.now refs.now) }
 {
-    let outside = front_text(alloc, "")?;
+    let outside = prefix_text(alloc, "")?;
     let mut found = Vec::new(alloc);
     for reference in refs {
         if let Some(row) = external_row(alloc, types, outside.as_str(), reference.target)? {
@@ -158,9 +158,9 @@ fn external_rows(
 }
 
 /// Sorts symbol information by symbol string, and removes repeated symbols.
-fn put_in_order(rows: &mut Vec<SymbolInfo>)
-    requires { AreExternalRows (map plain_symbol rows.old.items) }
-    ensures { AreExternals (map plain_symbol rows.old.items) (map plain_symbol rows.new.items) }
+fn sort_and_dedup(rows: &mut Vec<SymbolInfo>)
+    requires { AreExternalRows (map symbol_model rows.old.items) }
+    ensures { AreExternals (map symbol_model rows.old.items) (map symbol_model rows.new.items) }
 {
     rows.sort_unstable_by(|a, b| a.symbol.cmp(&b.symbol));
     rows.dedup_by(|a, b| a.symbol == b.symbol);
@@ -175,27 +175,27 @@ pub fn externals(
     refs: &[Reference],
 ) -> Result<Vec<SymbolInfo>, AllocError>
     // The module's own name, what it declares and imports, and the names in the reached interfaces are identifiers.
-    requires named { HaveNames types.now }
+    requires named { NamesAreIdentifiers types.now }
     // The bytes of each reference's token, and of each external name, are an identifier.
-    requires of_names { AreOfNames types.now refs.now }
+    requires of_names { ReferencesAreIdentifiers types.now refs.now }
     // With `Ok` the list has exactly the external symbols of the references, sorted by symbol string, each once.
-    ensures exact { IfOk result (λ v. AreExternals (externals_in types.now refs.now) (map plain_symbol v.items)) }
+    ensures exact { IfOk result (λ v. AreExternals (externals_in types.now refs.now) (map symbol_model v.items)) }
     // With `Ok` each element is the symbol information of a module, or of a name of a module.
-    ensures rows { IfOk result (λ v. AreExternalRows (map plain_symbol v.items)) }
+    ensures rows { IfOk result (λ v. AreExternalRows (map symbol_model v.items)) }
 {
     let uses = first_uses(alloc, types, refs)?;
     let mut rows = external_rows(alloc, types, uses.as_slice())?;
-    put_in_order(&mut rows);
+    sort_and_dedup(&mut rows);
     Ok(rows)
 }
 
 /// Merges the external symbols of several modules, given as one list. Sorts them by symbol string, each once.
 pub fn all_externals(mut rows: Vec<SymbolInfo>) -> Vec<SymbolInfo>
     // Each element is the symbol information of a module, or of a name of a module.
-    requires { AreExternalRows (map plain_symbol rows.items) }
+    requires { AreExternalRows (map symbol_model rows.items) }
     // The result has exactly the elements of the list, sorted by symbol string, each once.
-    ensures { AreExternals (map plain_symbol rows.items) (map plain_symbol result.items) }
+    ensures { AreExternals (map symbol_model rows.items) (map symbol_model result.items) }
 {
-    put_in_order(&mut rows);
+    sort_and_dedup(&mut rows);
     rows
 }

@@ -1,31 +1,31 @@
 //! The module's own declarations, by token number.
 ghost use Rattle.std.specs.Prelude.{◌≡◌, ◌==◌, find, slice_get};
 ghost use Rattle.std.specs.Option.{option_map};
-ghost use Rattle.ob_rows.specs.declared.rows.Declared.{Declared};
-ghost use Rattle.ob_rows.specs.declared.rows.Declarer.{Declarer};
-ghost use Rattle.ob_rows.specs.Tables.{rows_in};
-ghost use Rattle.ob_types.specs.World.{declarer_of};
-ghost use Rattle.ob_emit.specs.Made.{step_told};
-ghost use Rattle.ob_emit.specs.Symbols.{is_local, own_step, own_steps};
+ghost use Rattle.module_table.specs.declared.rows.Declared.{Declared};
+ghost use Rattle.module_table.specs.declared.rows.DeclGroup.{DeclGroup};
+ghost use Rattle.module_table.specs.Tables.{rows_in};
+ghost use Rattle.ob_types.specs.World.{decl_group_of};
+ghost use Rattle.ob_emit.specs.StoredTexts.{step_model};
+ghost use Rattle.ob_emit.specs.Symbols.{is_local, declared_step, declared_steps};
 
-use crate::near_rows::declarer_near;
+use crate::hinted_lookup::declarer_by_hint;
 use crate::steps::{Nested, StepRow, step_in_block, step_in_record};
-use ob_rows::{Declared, Declarer, Import, Table};
+use module_table::{DeclGroup, Declared, Import, Table};
 use ob_types::Types;
 
 /// The construct that declares and begins with this token.
-fn declarer_from(table: &Table, first: u32) -> Option<Declarer>
-    ensures { result ≡ find (λ (by : Declarer). by.first == first) (rows_in table.now).declarers }
+fn decl_group_from(table: &Table, first: u32) -> Option<DeclGroup>
+    ensures { result ≡ find (λ (by : DeclGroup). by.first == first) (rows_in table.now).decl_groups }
 {
-    table.keeps();
-    table.declarer(first).copied()
+    table.invariants();
+    table.decl_group(first).copied()
 }
 
 /// The entry of the identifier that this token declares.
 fn declared_at(table: &Table, number: u32) -> Option<Declared>
     ensures { result ≡ find (λ (d : Declared). d.number == number) (rows_in table.now).declared }
 {
-    table.keeps();
+    table.invariants();
     table.declaration(number).copied()
 }
 
@@ -36,45 +36,45 @@ pub(crate) fn import_at<'a>(types: &Types<'a>, item: u32) -> Option<&'a Import>
     types.table().imports().get(item as usize)
 }
 
-/// Whether an identifier is declared in another block than the module's. The search for its construct begins at index `near`.
-pub(crate) fn is_local(types: &Types<'_>, near: &mut usize, declared: &Declared) -> bool
+/// Whether an identifier is declared in another block than the module's. The search for its construct begins at index `hint`.
+pub(crate) fn is_local(types: &Types<'_>, hint: &mut usize, declared: &Declared) -> bool
     ensures { result ≡ is_local types.now declared.now }
 {
-    match declarer_near(types.table(), near, declared.declared_by) {
+    match declarer_by_hint(types.table(), hint, declared.declared_by) {
         Some(by) => by.block != 0,
         None => false,
     }
 }
 
 /// The construct that declares this token.
-pub(crate) fn declarer_of(types: &Types<'_>, number: u32) -> Option<Declarer>
-    ensures { result ≡ declarer_of types.now number }
+pub(crate) fn decl_group_of(types: &Types<'_>, number: u32) -> Option<DeclGroup>
+    ensures { result ≡ decl_group_of types.now number }
 {
     let declared = declared_at(types.table(), number)?;
-    declarer_from(types.table(), declared.declared_by)
+    decl_group_from(types.table(), declared.declared_by)
 }
 
 /// The path step of a token that a construct declares, if the construct is in the module's block.
-fn own_step<'a>(types: &Types<'a>, number: u32, by: Declarer) -> Option<StepRow<'a>>
-    ensures { option_map step_told result ≡ own_step types.now number by }
+fn declared_step<'a>(types: &Types<'a>, number: u32, by: DeclGroup) -> Option<StepRow<'a>>
+    ensures { option_map step_model result ≡ declared_step types.now number by }
 {
     if by.block != 0 {
         return None;
     }
     let name = types.text(number);
     match by.of_record {
-        None => step_in_block(by.sort, name),
+        None => step_in_block(by.decl_kind, name),
         Some(record) => step_in_record(number, name, types.owner(record)),
     }
 }
 
 impl Nested for Types<'_> {
-    ghost use Rattle.ob_emit.specs.Symbols.{own_steps};
+    ghost use Rattle.ob_emit.specs.Symbols.{declared_steps};
 
-    ghost steps_in = { λ w. own_steps w };
+    ghost steps_in = { λ w. declared_steps w };
 
     fn step(&self, number: u32) -> Option<StepRow<'_>> {
-        let by = declarer_of(self, number)?;
-        own_step(self, number, by)
+        let by = decl_group_of(self, number)?;
+        declared_step(self, number, by)
     }
 }

@@ -2,8 +2,8 @@
 ghost use Rattle.std.specs.Prelude.{◌≡◌, ◌++◌, IfOk};
 ghost use Rattle.std.specs.Option.{option_map};
 ghost use Rattle.std.specs.String.{string_bytes};
-ghost use Rattle.scip_symbol.specs.SymbolTexts.{PlainDescriptor};
-ghost use Rattle.ob_emit.specs.Made.{path_text, AreBefore, AreStepNames, IsPushed};
+ghost use Rattle.scip_symbol.specs.SymbolTexts.{DescriptorModel};
+ghost use Rattle.ob_emit.specs.StoredTexts.{path_text, AreBefore, AreStepNames, IsPushed};
 ghost use Rattle.ob_emit.specs.Named.{IsName};
 ghost use Rattle.ob_emit.specs.Symbols.{path};
 ghost use Rattle.std.specs.Prelude.{List};
@@ -24,9 +24,9 @@ pub(crate) fn name_of(bytes: &[u8]) -> &str
 }
 
 /// The initial capacity of a symbol string with this prefix and a name of this module, so that the string rarely has to grow.
-pub(crate) fn room_for(front: &str, module_name: &[u8]) -> usize {
+pub(crate) fn capacity_for(prefix: &str, module_name: &[u8]) -> usize {
     const NAME: usize = 24;
-    front
+    prefix
         .len()
         .saturating_add(module_name.len())
         .saturating_add(NAME)
@@ -64,7 +64,7 @@ pub(crate) fn push_path<S: Nested>(
 /// The symbol string with this prefix and the path of the declaration with this number, if it has a path.
 pub(crate) fn path_text<S: Nested>(
     alloc: Global,
-    front: &str,
+    prefix: &str,
     module_name: &[u8],
     source: &S,
     number: u32,
@@ -72,10 +72,10 @@ pub(crate) fn path_text<S: Nested>(
     requires module_named { IsName module_name.now }
     requires named { AreStepNames (S.steps_in source.now) }
     requires before { AreBefore (S.steps_in source.now) }
-    ensures { IfOk result (λ text. option_map string_bytes text ≡ option_map (λ (ds : List PlainDescriptor). front.now ++ path_text ds) (path module_name.now (S.steps_in source.now) number)) }
+    ensures { IfOk result (λ text. option_map string_bytes text ≡ option_map (λ (ds : List DescriptorModel). prefix.now ++ path_text ds) (path module_name.now (S.steps_in source.now) number)) }
 {
-    let mut out = String::with_capacity(alloc, room_for(front, module_name))?;
-    out.push_str(front)?;
+    let mut out = String::with_capacity(alloc, capacity_for(prefix, module_name))?;
+    out.push_str(prefix)?;
     if push_path(&mut out, module_name, source, number)? {
         Ok(Some(out))
     } else {

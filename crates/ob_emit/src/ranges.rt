@@ -6,14 +6,14 @@ ghost use Rattle.ob_scan.specs.Texts.{token_at};
 ghost use Rattle.ob_emit.specs.Documents.{column_of, construct_range, enclosing_range, line_number, range_by, range_of, span_of};
 ghost use Rattle.std.specs.Prelude.{List, ℕ};
 
-use crate::own::declarer_of;
+use crate::own::decl_group_of;
 use ob_scan::{Lines, Position};
 use ob_targets::{Reference, Target};
 use ob_types::Types;
 use std::alloc::{AllocError, Global};
 
 /// The line and the column of an offset.
-pub(crate) fn place_at(lines: &Lines, offset: u32) -> Position
+pub(crate) fn position_at(lines: &Lines, offset: u32) -> Position
     ensures line { (bytes : List ℕ) → lines.now ≡ line_starts bytes → offset ≤ length bytes → result.line ≡ line_number bytes offset }
     ensures column { (bytes : List ℕ) → lines.now ≡ line_starts bytes → offset ≤ length bytes → result.column ≡ column_of bytes offset }
 {
@@ -67,8 +67,8 @@ pub(crate) fn span_of(
 {
     let (start, _) = ends_of(types, first);
     let (_, end) = ends_of(types, last);
-    let from = place_at(lines, start);
-    let to = place_at(lines, end);
+    let from = position_at(lines, start);
+    let to = position_at(lines, end);
     range_by(alloc, from.line, from.column, to.line, to.column)
 }
 
@@ -85,7 +85,7 @@ fn construct_range(
     ensures { IfOk result (λ v. v.items ≡ construct_range types.now target) }
 {
     match target {
-        Target::Declared(number) => match declarer_of(types, number) {
+        Target::Declared(number) => match decl_group_of(types, number) {
             Some(by) => span_of(alloc, types, lines, by.first as usize, by.last as usize),
             None => Ok(Vec::new(alloc)),
         },

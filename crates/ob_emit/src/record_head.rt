@@ -2,12 +2,12 @@
 ghost use Rattle.std.specs.Prelude.{◌≡◌, ◌≤◌, ◌++◌, ℕ, List, IfOk, length, vec_len};
 ghost use Rattle.proto_wire.specs.Writing.{head_of, payload_field, spelled};
 
-use crate::room::cut;
+use crate::capacity::cut;
 use proto_wire::push_varint;
 use std::alloc::{AllocError, Global};
 
 /// The estimated number of bytes of the head of a document of about `count` bytes, whose exact length isn't known yet.
-pub(crate) fn room_for_head(count: usize) -> usize {
+pub(crate) fn head_capacity(count: usize) -> usize {
     if count < 16_384 {
         3
     } else if count < 2_097_152 {
@@ -30,30 +30,30 @@ fn head(alloc: Global, count: usize) -> Result<Vec<u8>, AllocError>
 }
 
 /// Overwrites the first bytes with a head.
-fn put_front(bytes: &mut [u8], head: &[u8])
+fn overwrite_header(bytes: &mut [u8], head: &[u8])
     requires { length head.now ≤ length bytes.old }
-    ensures { (front payload : List ℕ) → bytes.old ≡ front ++ payload → length head.now ≡ length front → bytes.new ≡ head.now ++ payload }
+    ensures { (prefix payload : List ℕ) → bytes.old ≡ prefix ++ payload → length head.now ≡ length prefix → bytes.new ≡ head.now ++ payload }
 {
     bytes[..head.len()].copy_from_slice(head);
 }
 
-/// The record of a document whose bytes follow `room` reserved bytes. A head of `room` bytes is written there, so that nothing is copied.
+/// The record of a document whose bytes follow `capacity` reserved bytes. A head of `capacity` bytes is written there, so that nothing is copied.
 /// A head of another length requires a copy of the bytes.
-pub(crate) fn record_behind(
+pub(crate) fn record_after_head(
     alloc: Global,
     bytes: Vec<u8>,
-    room: usize,
+    capacity: usize,
 ) -> Result<Vec<u8>, AllocError>
-    requires { room ≤ vec_len bytes }
-    ensures { (front payload : List ℕ) → bytes.items ≡ front ++ payload → room ≡ length front → IfOk result (λ v. v.items ≡ spelled (payload_field 2 payload)) }
+    requires { capacity ≤ vec_len bytes }
+    ensures { (prefix payload : List ℕ) → bytes.items ≡ prefix ++ payload → capacity ≡ length prefix → IfOk result (λ v. v.items ≡ spelled (payload_field 2 payload)) }
 {
     let mut record = bytes;
-    let mut head = head(alloc, record.len() - room)?;
-    if head.len() != room {
-        head.extend_from_slice(&record[room..])?;
+    let mut head = head(alloc, record.len() - capacity)?;
+    if head.len() != capacity {
+        head.extend_from_slice(&record[capacity..])?;
         return Ok(head);
     }
-    put_front(record.as_mut_slice(), head.as_slice());
+    overwrite_header(record.as_mut_slice(), head.as_slice());
     cut(&mut record);
     Ok(record)
 }

@@ -11,32 +11,32 @@ ghost use Rattle.scip_index.specs.Written.{document_part, written_document, writ
 ghost use Rattle.scip_symbol.specs.Outcomes.{is_wrong_part};
 ghost use Rattle.ob_emit.specs.declared.fault.EmitFault.TheVariants.{BadPackage};
 ghost use Rattle.ob_emit.specs.Documents.{document_of, enclosing_range, occurrence, range_of, symbol_row};
-ghost use Rattle.ob_emit.specs.Made.{AreSymbolTexts};
-ghost use Rattle.ob_emit.specs.Named.{AreOfNames, HaveNames, IsName};
+ghost use Rattle.ob_emit.specs.StoredTexts.{AreSymbolTexts};
+ghost use Rattle.ob_emit.specs.Named.{ReferencesAreIdentifiers, NamesAreIdentifiers, IsName};
 
 use crate::EmitFault;
+use crate::capacity::{CapacityPlan, reserve_symbols};
 use crate::documents::is_bad;
+use crate::hinted_lookup::Hints;
 use crate::in_place::push_in_place;
-use crate::near_rows::Near;
-use crate::own_texts::Texts;
-use crate::pieces::{Place, Shown};
-use crate::places::{enclosing_range, range_by, token_span};
-use crate::record_head::{record_behind, room_for_head};
-use crate::room::{Ahead, room_for_symbols};
-use crate::text_lines::{LineTable, line_table};
-use crate::uses::{is_short, push_use};
+use crate::locations::{enclosing_range, range_by, token_span};
+use crate::pieces::{BorrowedOccurrence, BorrowedSymbol};
+use crate::record_head::{head_capacity, record_after_head};
+use crate::target_texts::Texts;
+use crate::uses::{is_compact, push_use};
+use ob_scan::{Lines, lines};
 use ob_targets::Reference;
 use ob_types::Types;
-use proto_wire::{Scratch, put_number, put_text};
+use proto_wire::{Scratch, write_number, write_text};
 use std::alloc::{AllocError, Global};
 
 /// Appends the record of an occurrence with this symbol string.
-fn push_place(
+fn push_occurrence_record(
     scratch: &mut Scratch,
     out: &mut Vec<u8>,
     types: &Types<'_>,
-    lines: &LineTable,
-    near: &mut Near,
+    lines: &Lines,
+    hint: &mut Hints,
     reference: &Reference,
     symbol: &str,
 ) -> Result<(), AllocError>
@@ -46,68 +46,78 @@ fn push_place(
     ensures { OnOk result (out.new.items ≡ out.old.items ++ spelled (payload_field 2 (written_occurrence
         (record { range = range_of types.now reference.now.number; symbol = symbol.now; symbol_roles = pos reference.now.role; enclosing_range = enclosing_range types.now reference.now })))) }
 {
-    let span = token_span(types, lines, &mut near.line, reference.number);
-    if is_short(&span, symbol, reference.role) {
+    let span = token_span(types, lines, &mut hint.line, reference.number);
+    if is_compact(&span, symbol, reference.role) {
         return push_use(out, &span, symbol, reference.role);
     }
-    let place = Place {
+    let place = BorrowedOccurrence {
         range: range_by(&span),
         symbol,
         symbol_roles: i32::from(reference.role),
-        enclosing_range: enclosing_range(types, lines, near, reference),
+        enclosing_range: enclosing_range(types, lines, hint, reference),
     };
     push_in_place(scratch, out, 2, &place)
 }
 
 /// Appends the record of a reference's occurrence, if it has one. Makes the symbol string, as it isn't stored.
-fn push_unknown(
+fn push_unstored(
     alloc: Global,
     scratch: &mut Scratch,
     out: &mut Vec<u8>,
     types: &Types<'_>,
     texts: &Texts<'_>,
-    lines: &LineTable,
-    near: &mut Near,
+    lines: &Lines,
+    hint: &mut Hints,
     reference: &Reference,
 ) -> Result<(), AllocError>
     requires in_text { AreInText types.now.bytes types.now.tokens }
     requires short { length types.now.bytes < 2 ^ 31 }
     requires lined { lines.now ≡ line_starts types.now.bytes }
-    requires named { HaveNames types.now }
+    requires named { NamesAreIdentifiers types.now }
     requires external { (item name : ℕ) → reference.now.target ≡ External item name → IsName (text types.now name) }
     ensures { (package_name : List ℕ) → AreSymbolTexts types.now package_name texts.now →
         OnOk result (out.new.items ≡ out.old.items ++ spelled_fields (payload_fields 2 (map written_occurrence (option_to_list (occurrence types.now package_name reference.now))))) }
 {
     match texts.symbol(alloc, types, reference.target)? {
         None => Ok(()),
-        Some(symbol) => push_place(scratch, out, types, lines, near, reference, symbol.as_str()),
+        Some(symbol) => push_occurrence_record(
+            scratch,
+            out,
+            types,
+            lines,
+            hint,
+            reference,
+            symbol.as_str(),
+        ),
     }
 }
 
 /// Appends the record of a reference's occurrence, if it has one. Reads the symbol string from the stored ones; `slot` is the hint for it.
-fn push_kept(
+fn push_stored(
     alloc: Global,
     scratch: &mut Scratch,
     out: &mut Vec<u8>,
     types: &Types<'_>,
     texts: &Texts<'_>,
-    lines: &LineTable,
-    near: &mut Near,
+    lines: &Lines,
+    hint: &mut Hints,
     reference: &Reference,
     slot: usize,
 ) -> Result<(), AllocError>
     requires in_text { AreInText types.now.bytes types.now.tokens }
     requires short { length types.now.bytes < 2 ^ 31 }
     requires lined { lines.now ≡ line_starts types.now.bytes }
-    requires named { HaveNames types.now }
+    requires named { NamesAreIdentifiers types.now }
     requires external { (item name : ℕ) → reference.now.target ≡ External item name → IsName (text types.now name) }
     ensures { (package_name : List ℕ) → AreSymbolTexts types.now package_name texts.now →
         OnOk result (out.new.items ≡ out.old.items ++ spelled_fields (payload_fields 2 (map written_occurrence (option_to_list (occurrence types.now package_name reference.now))))) }
 {
     match texts.known(types, reference.target, slot) {
-        Some(Some(symbol)) => push_place(scratch, out, types, lines, near, reference, symbol),
+        Some(Some(symbol)) => push_occurrence_record(
+            scratch, out, types, lines, hint, reference, symbol,
+        ),
         Some(None) => Ok(()),
-        None => push_unknown(alloc, scratch, out, types, texts, lines, near, reference),
+        None => push_unstored(alloc, scratch, out, types, texts, lines, hint, reference),
     }
 }
 
@@ -118,22 +128,22 @@ fn push_occurrence<'a>(
     out: &mut Vec<u8>,
     types: &Types<'a>,
     texts: &mut Texts<'a>,
-    lines: &LineTable,
-    near: &mut Near,
+    lines: &Lines,
+    hint: &mut Hints,
     reference: &Reference,
 ) -> Result<(), AllocError>
     requires in_text { AreInText types.now.bytes types.now.tokens }
     requires short { length types.now.bytes < 2 ^ 31 }
     requires lined { lines.now ≡ line_starts types.now.bytes }
-    requires named { HaveNames types.now }
+    requires named { NamesAreIdentifiers types.now }
     requires external { (item name : ℕ) → reference.now.target ≡ External item name → IsName (text types.now name) }
     ensures texts { (package_name : List ℕ) → AreSymbolTexts types.now package_name texts.old → OnOk result (AreSymbolTexts types.now package_name texts.new) }
     ensures bytes { (package_name : List ℕ) → AreSymbolTexts types.now package_name texts.old →
         OnOk result (out.new.items ≡ out.old.items ++ spelled_fields (payload_fields 2 (map written_occurrence (option_to_list (occurrence types.now package_name reference.now))))) }
 {
-    let slot = texts.meet(alloc, types, reference.target)?;
-    push_kept(
-        alloc, scratch, out, types, texts, lines, near, reference, slot,
+    let slot = texts.intern(alloc, types, reference.target)?;
+    push_stored(
+        alloc, scratch, out, types, texts, lines, hint, reference, slot,
     )
 }
 
@@ -148,19 +158,19 @@ fn push_occurrences<'a>(
 ) -> Result<(), AllocError>
     requires in_text { AreInText types.now.bytes types.now.tokens }
     requires short { length types.now.bytes < 2 ^ 31 }
-    requires named { HaveNames types.now }
-    requires of_names { AreOfNames types.now refs.now }
+    requires named { NamesAreIdentifiers types.now }
+    requires of_names { ReferencesAreIdentifiers types.now refs.now }
     ensures texts { (package_name : List ℕ) → AreSymbolTexts types.now package_name texts.old → OnOk result (AreSymbolTexts types.now package_name texts.new) }
     ensures bytes { (package_name : List ℕ) → AreSymbolTexts types.now package_name texts.old →
         OnOk result (out.new.items ≡ out.old.items ++ spelled_fields (payload_fields 2 (map written_occurrence (filter_map (occurrence types.now package_name) refs.now)))) }
 {
-    let lines = line_table(alloc, types.bytes())?;
-    let mut near = Near::new();
-    let mut ahead = Ahead::new();
+    let lines = lines(alloc, types.bytes())?;
+    let mut hint = Hints::new();
+    let mut ahead = CapacityPlan::new();
     for reference in refs {
         let start = out.len();
         push_occurrence(
-            alloc, scratch, out, types, texts, &lines, &mut near, reference,
+            alloc, scratch, out, types, texts, &lines, &mut hint, reference,
         )?;
         ahead.pass(out, start, types, texts, refs);
     }
@@ -168,7 +178,7 @@ fn push_occurrences<'a>(
 }
 
 /// Appends the record of the symbol information of a declaration.
-fn push_shown(
+fn push_symbol_info(
     scratch: &mut Scratch,
     out: &mut Vec<u8>,
     types: &Types<'_>,
@@ -177,15 +187,15 @@ fn push_shown(
 ) -> Result<(), AllocError>
     ensures { OnOk result (out.new.items ≡ out.old.items ++ spelled (payload_field 3 (written_symbol (record { symbol = symbol.now; display_name = text types.now reference.now.number })))) }
 {
-    let shown = Shown {
+    let symbol_info = BorrowedSymbol {
         symbol,
         display_name: types.text(reference.number),
     };
-    push_in_place(scratch, out, 3, &shown)
+    push_in_place(scratch, out, 3, &symbol_info)
 }
 
 /// Appends the record of the symbol information of a declaration, if it has a symbol. Makes the symbol string, as it isn't stored.
-fn push_unknown_symbol(
+fn push_unstored_symbol(
     alloc: Global,
     scratch: &mut Scratch,
     out: &mut Vec<u8>,
@@ -193,7 +203,7 @@ fn push_unknown_symbol(
     texts: &Texts<'_>,
     reference: &Reference,
 ) -> Result<(), AllocError>
-    requires named { HaveNames types.now }
+    requires named { NamesAreIdentifiers types.now }
     requires declares { reference.now.role ≡ 1 }
     requires external { (item name : ℕ) → reference.now.target ≡ External item name → IsName (text types.now name) }
     ensures { (package_name : List ℕ) → AreSymbolTexts types.now package_name texts.now →
@@ -201,7 +211,7 @@ fn push_unknown_symbol(
 {
     match texts.symbol(alloc, types, reference.target)? {
         None => Ok(()),
-        Some(symbol) => push_shown(scratch, out, types, reference, symbol.as_str()),
+        Some(symbol) => push_symbol_info(scratch, out, types, reference, symbol.as_str()),
     }
 }
 
@@ -214,7 +224,7 @@ fn push_symbol(
     texts: &Texts<'_>,
     reference: &Reference,
 ) -> Result<(), AllocError>
-    requires named { HaveNames types.now }
+    requires named { NamesAreIdentifiers types.now }
     requires external { (item name : ℕ) → reference.now.target ≡ External item name → IsName (text types.now name) }
     ensures { (package_name : List ℕ) → AreSymbolTexts types.now package_name texts.now →
         OnOk result (out.new.items ≡ out.old.items ++ spelled_fields (payload_fields 3 (map written_symbol (option_to_list (symbol_row types.now package_name reference.now))))) }
@@ -223,9 +233,9 @@ fn push_symbol(
         return Ok(());
     }
     match texts.known(types, reference.target, 0) {
-        Some(Some(symbol)) => push_shown(scratch, out, types, reference, symbol),
+        Some(Some(symbol)) => push_symbol_info(scratch, out, types, reference, symbol),
         Some(None) => Ok(()),
-        None => push_unknown_symbol(alloc, scratch, out, types, texts, reference),
+        None => push_unstored_symbol(alloc, scratch, out, types, texts, reference),
     }
 }
 
@@ -238,8 +248,8 @@ fn push_symbols(
     texts: &Texts<'_>,
     refs: &[Reference],
 ) -> Result<(), AllocError>
-    requires named { HaveNames types.now }
-    requires of_names { AreOfNames types.now refs.now }
+    requires named { NamesAreIdentifiers types.now }
+    requires of_names { ReferencesAreIdentifiers types.now refs.now }
     ensures { (package_name : List ℕ) → AreSymbolTexts types.now package_name texts.now →
         OnOk result (out.new.items ≡ out.old.items ++ spelled_fields (payload_fields 3 (map written_symbol (filter_map (symbol_row types.now package_name) refs.now)))) }
 {
@@ -260,42 +270,45 @@ fn push_document<'a>(
 ) -> Result<(), AllocError>
     requires in_text { AreInText types.now.bytes types.now.tokens }
     requires short { length types.now.bytes < 2 ^ 31 }
-    requires named { HaveNames types.now }
-    requires of_names { AreOfNames types.now refs.now }
+    requires named { NamesAreIdentifiers types.now }
+    requires of_names { ReferencesAreIdentifiers types.now refs.now }
     ensures { (package_name : List ℕ) → AreSymbolTexts types.now package_name texts.old →
         OnOk result (out.new.items ≡ out.old.items ++ written_document (document_of types.now path.now package_name refs.now)) }
 {
     let mut scratch = Scratch::new(alloc);
-    put_text(out, 1, path)?;
+    write_text(out, 1, path)?;
     push_occurrences(alloc, &mut scratch, out, types, texts, refs)?;
-    room_for_symbols(out, types, texts, refs);
+    reserve_symbols(out, types, texts, refs);
     push_symbols(alloc, &mut scratch, out, types, texts, refs)?;
-    put_text(out, 4, "Oberon")?;
-    put_number(out, 6, 1)
+    write_text(out, 4, "Oberon")?;
+    write_number(out, 6, 1)
 }
 
 /// The estimated number of bytes of an occurrence. With this capacity the bytes rarely move as they grow.
 const OCCURRENCE: usize = 48;
 
-/// The bytes of a module's document at this path after `room` zeros, in a package that symbol strings can contain.
-fn bytes_behind(
+/// The bytes of a module's document at this path after `capacity` zeros, in a package that symbol strings can contain.
+fn bytes_after_head(
     alloc: Global,
     path: &str,
     types: &Types<'_>,
     refs: &[Reference],
     package_name: &str,
-    room: usize,
+    capacity: usize,
 ) -> Result<Vec<u8>, AllocError>
     requires in_text { AreInText types.now.bytes types.now.tokens }
     requires short { length types.now.bytes < 2 ^ 31 }
-    requires named { HaveNames types.now }
-    requires of_names { AreOfNames types.now refs.now }
-    ensures { IfOk result (λ v. v.items ≡ replicate room 0 ++ written_document (document_of types.now path.now package_name.now refs.now)) }
+    requires named { NamesAreIdentifiers types.now }
+    requires of_names { ReferencesAreIdentifiers types.now refs.now }
+    ensures { IfOk result (λ v. v.items ≡ replicate capacity 0 ++ written_document (document_of types.now path.now package_name.now refs.now)) }
 {
     let mut texts = Texts::begun(alloc, types, refs, package_name)?;
-    let most = refs.len().saturating_mul(OCCURRENCE).saturating_add(room);
+    let most = refs
+        .len()
+        .saturating_mul(OCCURRENCE)
+        .saturating_add(capacity);
     let mut bytes = Vec::with_capacity(alloc, most)?;
-    bytes.resize(room, 0)?;
+    bytes.resize(capacity, 0)?;
     push_document(alloc, &mut bytes, path, types, &mut texts, refs)?;
     Ok(bytes)
 }
@@ -310,18 +323,18 @@ fn record_in(
 ) -> Result<Vec<u8>, AllocError>
     requires in_text { AreInText types.now.bytes types.now.tokens }
     requires short { length types.now.bytes < 2 ^ 31 }
-    requires named { HaveNames types.now }
-    requires of_names { AreOfNames types.now refs.now }
+    requires named { NamesAreIdentifiers types.now }
+    requires of_names { ReferencesAreIdentifiers types.now refs.now }
     ensures { IfOk result (λ v. v.items ≡ document_part (document_of types.now path.now package_name.now refs.now)) }
 {
     let each = OCCURRENCE.saturating_add(package_name.len());
-    let room = room_for_head(refs.len().saturating_mul(each));
-    let bytes = bytes_behind(alloc, path, types, refs, package_name, room)?;
-    record_behind(alloc, bytes, room)
+    let capacity = head_capacity(refs.len().saturating_mul(each));
+    let bytes = bytes_after_head(alloc, path, types, refs, package_name, capacity)?;
+    record_after_head(alloc, bytes, capacity)
 }
 
 /// Makes the record of a module's document as an index contains it (scip.proto, `Index.documents`): its key, its length and its bytes.
-/// The document is the one that `document` makes. Here each occurrence is written at once, and no message is made.
+/// Equals the encoding of what `document` returns, but encodes each occurrence directly, without building the message.
 /// Fails with `BadPackage` if the package is `.` or begins with a space, and with `Memory` if an allocation fails.
 pub fn document_record(
     alloc: Global,
@@ -335,9 +348,9 @@ pub fn document_record(
     // The module has fewer than 2^31 bytes.
     requires short { length types.now.bytes < 2 ^ 31 }
     // The module's own name, what it declares and imports, and the names in the reached interfaces are identifiers.
-    requires named { HaveNames types.now }
+    requires named { NamesAreIdentifiers types.now }
     // The bytes of each reference's token, and of each external name, are an identifier.
-    requires of_names { AreOfNames types.now refs.now }
+    requires of_names { ReferencesAreIdentifiers types.now refs.now }
     // With `Ok` the bytes are exactly the record of the module's document: its key, its length and its written form.
     ensures exact { IfOk result (λ v. v.items ≡ document_part (document_of types.now path.now package_name.now refs.now)) }
     // The result is `BadPackage` if and only if the package is `.` or begins with a space.

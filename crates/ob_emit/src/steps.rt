@@ -1,10 +1,10 @@
 //! The steps of a path of descriptors: declarations in a module's block, and fields of records there.
 ghost use Rattle.std.specs.Prelude.{◌≡◌, ℕ, Option};
 ghost use Rattle.std.specs.Option.{option_map};
-ghost use Rattle.ob_emit.specs.Made.{step_told};
+ghost use Rattle.ob_emit.specs.StoredTexts.{step_model};
 ghost use Rattle.ob_emit.specs.Symbols.{PathStep, step_in_block, step_in_record, kind_of};
 
-use ob_rows::Sort;
+use module_table::DeclKind;
 use scip_symbol::DescriptorKind;
 
 /// The last step of a declaration's path: the kind and the name of its own descriptor, and for a field the number of its owner.
@@ -21,28 +21,28 @@ pub(crate) trait Nested {
 
     /// The last step of the path of the declaration with this number, if it is in the module's block or a field of a record there.
     fn step(&self, number: u32) -> Option<StepRow<'_>>
-        ensures { option_map step_told result ≡ steps_in self.now number };
+        ensures { option_map step_model result ≡ steps_in self.now number };
 }
 
 /// The kind of a declaration's descriptor; `None` for an import item.
-fn kind_of(sort: Sort) -> Option<DescriptorKind>
-    ensures { result ≡ kind_of sort }
+fn kind_of(decl_kind: DeclKind) -> Option<DescriptorKind>
+    ensures { result ≡ kind_of decl_kind }
 {
-    match sort {
-        Sort::Import => None,
-        Sort::Type => Some(DescriptorKind::TypeName),
-        Sort::Procedure => Some(DescriptorKind::Method),
-        Sort::Constant | Sort::Variable | Sort::Parameter | Sort::Field => {
+    match decl_kind {
+        DeclKind::Import => None,
+        DeclKind::Type => Some(DescriptorKind::TypeName),
+        DeclKind::Procedure => Some(DescriptorKind::Method),
+        DeclKind::Constant | DeclKind::Variable | DeclKind::Parameter | DeclKind::Field => {
             Some(DescriptorKind::Term)
         }
     }
 }
 
 /// The step of a declaration in the module's block.
-pub(crate) fn step_in_block(sort: Sort, name: &[u8]) -> Option<StepRow<'_>>
-    ensures { option_map step_told result ≡ step_in_block sort name.now }
+pub(crate) fn step_in_block(decl_kind: DeclKind, name: &[u8]) -> Option<StepRow<'_>>
+    ensures { option_map step_model result ≡ step_in_block decl_kind name.now }
 {
-    let kind = kind_of(sort)?;
+    let kind = kind_of(decl_kind)?;
     Some(StepRow {
         kind,
         name,
@@ -52,7 +52,7 @@ pub(crate) fn step_in_block(sort: Sort, name: &[u8]) -> Option<StepRow<'_>>
 
 /// The step of a field; `None` unless its owner has a smaller number. So the recursion along owners ends.
 pub(crate) fn step_in_record(number: u32, name: &[u8], owner: Option<u32>) -> Option<StepRow<'_>>
-    ensures { option_map step_told result ≡ step_in_record number name.now owner }
+    ensures { option_map step_model result ≡ step_in_record number name.now owner }
 {
     match owner {
         Some(before) if before < number => Some(StepRow {

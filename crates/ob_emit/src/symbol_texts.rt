@@ -2,16 +2,16 @@
 ghost use Rattle.std.specs.Prelude.{◌≡◌, ℕ, List, IfOk};
 ghost use Rattle.std.specs.Option.{option_map};
 ghost use Rattle.std.specs.String.{string_bytes};
-ghost use Rattle.scip_symbol.specs.SymbolTexts.{plain_text};
+ghost use Rattle.scip_symbol.specs.SymbolTexts.{canonical_text};
 ghost use Rattle.ob_targets.specs.declared.target.Target.TheVariants.{External};
-ghost use Rattle.ob_emit.specs.Made.{named_symbol, AreSymbolTexts};
-ghost use Rattle.ob_emit.specs.Named.{HaveNames, IsName};
+ghost use Rattle.ob_emit.specs.StoredTexts.{named_symbol, AreSymbolTexts};
+ghost use Rattle.ob_emit.specs.Named.{NamesAreIdentifiers, IsName};
 ghost use Rattle.ob_emit.specs.Symbols.{declared_symbol, imported_symbol, module_symbol, symbol_of};
 ghost use Rattle.ob_types.specs.World.{text};
 
 use crate::imported_texts::imported_text;
 use crate::module_texts::{external_text, item_text};
-use crate::own_texts::Texts;
+use crate::target_texts::Texts;
 use ob_targets::Target;
 use ob_types::Types;
 use std::alloc::{AllocError, Global};
@@ -35,10 +35,10 @@ impl Texts<'_> {
         number: u32,
     ) -> Result<Option<String>, AllocError>
         ensures { (package_name : List ℕ) → AreSymbolTexts types.now package_name self.now →
-            IfOk result (λ text. option_map string_bytes text ≡ option_map plain_text (declared_symbol types.now package_name number)) }
+            IfOk result (λ text. option_map string_bytes text ≡ option_map canonical_text (declared_symbol types.now package_name number)) }
     {
         let _ = types;
-        let Some(at) = self.places.place_of(number) else {
+        let Some(at) = self.locations.index_of(number) else {
             return Ok(None);
         };
         match self.declared.get(at) {
@@ -55,16 +55,16 @@ impl Texts<'_> {
         reached: u32,
         declaration: u32,
     ) -> Result<Option<String>, AllocError>
-        requires { HaveNames types.now }
+        requires { NamesAreIdentifiers types.now }
         ensures { (package_name : List ℕ) → AreSymbolTexts types.now package_name self.now →
-            IfOk result (λ text. option_map string_bytes text ≡ option_map plain_text (imported_symbol types.now package_name reached declaration)) }
+            IfOk result (λ text. option_map string_bytes text ≡ option_map canonical_text (imported_symbol types.now package_name reached declaration)) }
     {
-        match self.outer.imported.kept(reached, declaration) {
+        match self.foreign.imported.stored_text(reached, declaration) {
             Some(text) => copied(text),
             None => imported_text(
                 alloc,
                 types,
-                self.fronts.tree.as_str(),
+                self.prefixes.tree.as_str(),
                 reached,
                 declaration,
             ),
@@ -78,13 +78,13 @@ impl Texts<'_> {
         types: &Types<'_>,
         item: u32,
     ) -> Result<Option<String>, AllocError>
-        requires { HaveNames types.now }
+        requires { NamesAreIdentifiers types.now }
         ensures { (package_name : List ℕ) → AreSymbolTexts types.now package_name self.now →
-            IfOk result (λ text. option_map string_bytes text ≡ option_map plain_text (module_symbol types.now package_name item)) }
+            IfOk result (λ text. option_map string_bytes text ≡ option_map canonical_text (module_symbol types.now package_name item)) }
     {
-        match self.outer.modules.get(item as usize) {
+        match self.foreign.modules.get(item as usize) {
             Some(text) => copied(text),
-            None => item_text(alloc, types, &self.fronts, item),
+            None => item_text(alloc, types, &self.prefixes, item),
         }
     }
 
@@ -96,14 +96,14 @@ impl Texts<'_> {
         item: u32,
         name: &[u8],
     ) -> Result<Option<String>, AllocError>
-        requires named { HaveNames types.now }
+        requires named { NamesAreIdentifiers types.now }
         requires of_name { IsName name.now }
         ensures { (package_name : List ℕ) → AreSymbolTexts types.now package_name self.now →
-            IfOk result (λ text. option_map string_bytes text ≡ option_map plain_text (named_symbol types.now item name.now)) }
+            IfOk result (λ text. option_map string_bytes text ≡ option_map canonical_text (named_symbol types.now item name.now)) }
     {
-        match self.outer.names.get(&(item, name)) {
+        match self.foreign.names.get(&(item, name)) {
             Some(text) => copied(text),
-            None => external_text(alloc, types, self.fronts.outside.as_str(), item, name),
+            None => external_text(alloc, types, self.prefixes.outside.as_str(), item, name),
         }
     }
 
@@ -114,10 +114,10 @@ impl Texts<'_> {
         types: &Types<'_>,
         target: Target,
     ) -> Result<Option<String>, AllocError>
-        requires named { HaveNames types.now }
+        requires named { NamesAreIdentifiers types.now }
         requires external { (item name : ℕ) → target ≡ External item name → IsName (text types.now name) }
         ensures { (package_name : List ℕ) → AreSymbolTexts types.now package_name self.now →
-            IfOk result (λ text. option_map string_bytes text ≡ option_map plain_text (symbol_of types.now package_name target)) }
+            IfOk result (λ text. option_map string_bytes text ≡ option_map canonical_text (symbol_of types.now package_name target)) }
     {
         match target {
             Target::Declared(number) => self.declared(alloc, types, number),

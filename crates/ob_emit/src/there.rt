@@ -1,30 +1,34 @@
 //! The declarations of a reached module, by their indices in its interface.
 ghost use Rattle.std.specs.Prelude.{◌≡◌};
 ghost use Rattle.std.specs.Option.{option_map};
-ghost use Rattle.ob_interface.specs.Answered.{declaration_told};
-ghost use Rattle.ob_emit.specs.Made.{step_told};
-ghost use Rattle.ob_emit.specs.Symbols.{step_there, steps_there};
+ghost use Rattle.ob_interface.specs.Views.{declaration_value};
+ghost use Rattle.ob_emit.specs.StoredTexts.{step_model};
+ghost use Rattle.ob_emit.specs.Symbols.{interface_step, interface_steps};
 
 use crate::steps::{Nested, StepRow, step_in_block, step_in_record};
 use ob_interface::{Declaration, Interface};
 
 /// The path step of a declaration of an interface.
-fn step_there<'a>(interface: &'a Interface, place: u32, it: &Declaration<'a>) -> Option<StepRow<'a>>
-    ensures { option_map step_told result ≡ step_there interface.now place (declaration_told it.now) }
+fn interface_step<'a>(
+    interface: &'a Interface,
+    place: u32,
+    it: &Declaration<'a>,
+) -> Option<StepRow<'a>>
+    ensures { option_map step_model result ≡ interface_step interface.now place (declaration_value it.now) }
 {
     match it.record {
-        None => step_in_block(it.sort, it.name),
+        None => step_in_block(it.decl_kind, it.name),
         Some(record) => step_in_record(place, it.name, interface.owner(record)),
     }
 }
 
 impl Nested for Interface {
-    ghost use Rattle.ob_emit.specs.Symbols.{steps_there};
+    ghost use Rattle.ob_emit.specs.Symbols.{interface_steps};
 
-    ghost steps_in = { λ m. steps_there m };
+    ghost steps_in = { λ m. interface_steps m };
 
     fn step(&self, number: u32) -> Option<StepRow<'_>> {
         let it = self.declaration_at(number)?;
-        step_there(self, number, &it)
+        interface_step(self, number, &it)
     }
 }

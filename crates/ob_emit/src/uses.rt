@@ -3,15 +3,15 @@ ghost use Rattle.std.specs.Prelude.{◌≡◌, ◌++◌, ◌<◌, ◌==◌, ◌+
 ghost use Rattle.std.specs.Bool.{OnTrue};
 ghost use Rattle.proto_wire.specs.Writing.{number_fields, payload_field, spelled, spelled_fields};
 ghost use Rattle.scip_index.specs.Written.{written_occurrence};
-ghost use Rattle.ob_emit.specs.Places.{front_of, use_told, IsShort};
+ghost use Rattle.ob_emit.specs.Ranges.{prefix_of, compact_occurrence, IsCompact};
 
-use crate::places::Span;
+use crate::locations::TokenSpan;
 use std::alloc::AllocError;
 
 /// Whether an occurrence is short: it declares nothing, and its line, columns, symbol string and role take few bytes.
 /// Then the length of its record is known before it is written.
-pub(crate) fn is_short(span: &Span, symbol: &str, role: u8) -> bool
-    ensures { OnTrue result (IsShort span.now (length symbol.now) role) }
+pub(crate) fn is_compact(span: &TokenSpan, symbol: &str, role: u8) -> bool
+    ensures { OnTrue result (IsCompact span.now (length symbol.now) role) }
 {
     if span.last != span.line {
         return false;
@@ -40,7 +40,7 @@ pub(crate) fn is_short(span: &Span, symbol: &str, role: u8) -> bool
 /// Appends the bytes of a short occurrence's record that precede the symbol string of `size` bytes; `rest` bytes follow the field of the
 /// range.
 #[tactic(auto, using(crate::proofs::ShortUses::front_low, crate::proofs::ShortUses::front_high))]
-fn push_front(
+fn push_prefix(
     out: &mut Vec<u8>,
     line: u32,
     column: u32,
@@ -52,7 +52,7 @@ fn push_front(
     requires column { column < 128 }
     requires end { end < 128 }
     requires rest { rest < 120 }
-    ensures { OnOk result (out.new.items ≡ out.old.items ++ (front_of line column end rest ++ 18 ∷ size ∷ [])) }
+    ensures { OnOk result (out.new.items ≡ out.old.items ++ (prefix_of line column end rest ++ 18 ∷ size ∷ [])) }
 {
     let (column, end) = (column as u8, end as u8);
     if line < 128 {
@@ -100,16 +100,16 @@ fn push_role(out: &mut Vec<u8>, role: u8) -> Result<(), AllocError>
 /// Appends the record of a short occurrence.
 pub(crate) fn push_use(
     out: &mut Vec<u8>,
-    span: &Span,
+    span: &TokenSpan,
     symbol: &str,
     role: u8,
 ) -> Result<(), AllocError>
-    requires { IsShort span.now (length symbol.now) role }
-    ensures { OnOk result (out.new.items ≡ out.old.items ++ spelled (payload_field 2 (written_occurrence (use_told span.now.line span.now.column span.now.end symbol.now role)))) }
+    requires { IsCompact span.now (length symbol.now) role }
+    ensures { OnOk result (out.new.items ≡ out.old.items ++ spelled (payload_field 2 (written_occurrence (compact_occurrence span.now.line span.now.column span.now.end symbol.now role)))) }
 {
     let size = symbol.len() as u8;
     let rest = size + 2 + role_size(role);
-    push_front(out, span.line, span.column, span.end, size, rest)?;
+    push_prefix(out, span.line, span.column, span.end, size, rest)?;
     out.extend_from_slice(symbol.as_bytes())?;
     push_role(out, role)
 }

@@ -41,8 +41,8 @@ named_by names (p ∷ ps) h =
 
 pub is_by_name : (names : List (List ℕ)) (ps sorted : List (Bor (List ℕ) × ℕ)) (order : List ℕ) → IsDistinct bytes_eq names → map name_in ps ≡ names → All (IsNumbered names) ps
     → IsPermutation ps sorted → IsSorted pair_cmp sorted → order ≡ map (λ p. p.1) sorted → IsByName names order
-is_by_name names ps sorted order once are numbered moved in_order is =
-    let all = All-permutation (IsNumbered names) ps sorted moved numbered in
+is_by_name names ps sorted order once are with_numbers moved in_order is =
+    let all = All-permutation (IsNumbered names) ps sorted moved with_numbers in
     let named : names_by names order ≡ map name_in sorted = ap (names_by names) is ∙ named_by names sorted all in
     let same : IsPermutation names (map name_in sorted) = subst (λ (ns : List (List ℕ)). IsPermutation ns (map name_in sorted)) are (IsPermutation-map name_in ps sorted moved) in
     record {

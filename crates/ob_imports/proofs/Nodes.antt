@@ -11,7 +11,7 @@ use Rattle.std.proofs.lemmas.Slice.Eq.{bytes_eq-Decides}
 use Rattle.digraph.specs.declared.edge.Edge.{Edge}
 use Rattle.ob_imports.specs.Files.{AreNodes, DifferInName, File, Imports, IsExternal, IsNode, names_of}
 use Rattle.ob_imports.specs.Names.{AreAscending, LeadsBy}
-use Rattle.ob_imports.specs.Numbering.{all_lacked, all_pairs, has_name, lacked, pairs_from, place_of}
+use Rattle.ob_imports.specs.Numbering.{all_lacked, all_pairs, has_name, lacked, pairs_from, index_or_len}
 use Rattle.digraph.specs.Edges.{Leads}
 use Rattle.digraph.proofs.Names.{ascending_apart}
 use Rattle.digraph.proofs.Members.{first_member, first_or_later, from_map, in_filter, in_map, later_member, no_member, of_filter}
@@ -57,20 +57,20 @@ pairs_lead names files once known v w = (
   λ h. (
       let r = from_flat_map (λ (f : File). pairs_from names f.name f.imports) files (record { from = v; to = w }) h in
       let f = r.0 in
-      let p = from_map (λ n. record { from = place_of names f.name; to = place_of names n }) f.imports (record { from = v; to = w }) r.2 in
+      let p = from_map (λ n. record { from = index_or_len names f.name; to = index_or_len names n }) f.imports (record { from = v; to = w }) r.2 in
       let n = p.0 in
-      let from : place_of names f.name ≡ v = ap (λ (q : Edge). q.from) p.2 in
-      let to : place_of names n ≡ w = ap (λ (q : Edge). q.to) p.2 in
+      let from : index_or_len names f.name ≡ v = ap (λ (q : Edge). q.from) p.2 in
+      let to : index_or_len names n ≡ w = ap (λ (q : Edge). q.to) p.2 in
       let here : Contains names f.name = known f.name (inl (in_map (λ (g : File). g.name) files f r.1)) in
       let imported : Contains names n = known n (inr (f.name, (f, r.1, refl, p.1))) in
       (f.name, n, subst (λ (k : ℕ). slice_get names k ≡ Some f.name) from (name_at names f.name here), subst (λ (k : ℕ). slice_get names k ≡ Some n) to (name_at names n imported), (f, r.1, refl, p.1))),
   λ (m, n, at_v, at_w, (f, has, is, imports)). (
-      let from : place_of names f.name ≡ v = ap (place_of names) is ∙ place_is names m v once at_v in
-      let to : place_of names n ≡ w = place_is names n w once at_w in
-      let pair : record { from = place_of names f.name; to = place_of names n } ≡ record { from = v; to = w } =
-      ap (λ (x : ℕ). record { from = x; to = place_of names n }) from ∙ ap (λ (x : ℕ). record { from = v; to = x }) to in
+      let from : index_or_len names f.name ≡ v = ap (index_or_len names) is ∙ place_is names m v once at_v in
+      let to : index_or_len names n ≡ w = place_is names n w once at_w in
+      let pair : record { from = index_or_len names f.name; to = index_or_len names n } ≡ record { from = v; to = w } =
+      ap (λ (x : ℕ). record { from = x; to = index_or_len names n }) from ∙ ap (λ (x : ℕ). record { from = v; to = x }) to in
       in_flat_map (λ (g : File). pairs_from names g.name g.imports) files f (record { from = v; to = w }) has
-      (subst (Contains (pairs_from names f.name f.imports)) pair (in_map (λ k. record { from = place_of names f.name; to = place_of names k }) f.imports n imports))),
+      (subst (Contains (pairs_from names f.name f.imports)) pair (in_map (λ k. record { from = index_or_len names f.name; to = index_or_len names k }) f.imports n imports))),
 )
 
 -- ---- names of one file and of all

@@ -9,13 +9,13 @@ use Rattle.std.proofs.lemmas.Map.Keys.{apart_from_distinct}
 use Rattle.std.proofs.lemmas.Slice.Eq.{bytes_eq-Decides}
 use Rattle.digraph.specs.declared.edge.Edge.{Edge}
 use Rattle.digraph.specs.Chains.{IsAcyclic}
-use Rattle.digraph.specs.Cycle.{NamesCycle}
+use Rattle.digraph.specs.Cycle.{IsCanonicalCycle}
 use Rattle.ob_imports.specs.declared.fault.GraphFault.{GraphFault}
 use Rattle.ob_imports.specs.declared.fault.GraphFault.TheVariants as faults
 use Rattle.ob_imports.specs.Files.{AreNodes, DifferInName, File, Imports, names_of, paths_of}
 use Rattle.ob_imports.specs.Graphs.{ImportGraph, IsGraphOf}
 use Rattle.ob_imports.specs.Names.{LeadsBy, texts}
-use Rattle.ob_imports.specs.Outcomes.{AreFilesOfGraph, Cycle, GraphRefusal, IsCycle, IsCycleOf, IsGraphOutcome, IsTwoModules, Tells, TooMany, TwoModules}
+use Rattle.ob_imports.specs.Outcomes.{AreFilesOfGraph, Cycle, GraphError, IsCycle, IsCycleOf, IsGraphOutcome, IsTwoModules, HasOutcome, TooMany, TwoModules}
 use Rattle.digraph.proofs.Ascending.{same_edges, same_names}
 use Rattle.ob_imports.proofs.KeptGraphs.{acyclic_places}
 use Rattle.digraph.proofs.OneCycle.{cyclic, one_cycle}
@@ -46,7 +46,7 @@ one_cycle_of files nodes a b s t =
     let order : s.order ≡ t.order = same_names s.order t.order s.ascend t.ascend
     (λ n h. Contains-permutation nodes t.order n t.same (Contains-permutation s.order nodes n (IsPermutation-sym nodes s.order s.same) h))
     (λ n h. Contains-permutation nodes s.order n s.same (Contains-permutation t.order nodes n (IsPermutation-sym nodes t.order t.same) h)) in
-    let cycle : s.cycle ≡ t.cycle = one_cycle (LeadsBy (Imports files) s.order) s.cycle t.cycle s.is_cycle (subst (λ (ns : List (List ℕ)). NamesCycle (LeadsBy (Imports files) ns) t.cycle) (sym order) t.is_cycle) in
+    let cycle : s.cycle ≡ t.cycle = one_cycle (LeadsBy (Imports files) s.order) s.cycle t.cycle s.is_cycle (subst (λ (ns : List (List ℕ)). IsCanonicalCycle (LeadsBy (Imports files) ns) t.cycle) (sym order) t.is_cycle) in
     s.are_names ∙ ap (λ (ns : List (List ℕ)). map (λ r. get_or ns r []) s.cycle) order ∙ ap (map (λ r. get_or t.order r [])) cycle ∙ sym t.are_names
 
 no_cycle : (files : List File) (names : List (List ℕ)) → IsAcyclic (Imports files) → IsCycle files names → ⊥
@@ -106,7 +106,7 @@ not_kept_many files g kept (inr (inr h)) =
 
 -- ---- what is made
 
-pub one_outcome : (files : List File) (o p : Result ImportGraph GraphRefusal) → IsGraphOutcome files o → IsGraphOutcome files p → o ≡ p
+pub one_outcome : (files : List File) (o p : Result ImportGraph GraphError) → IsGraphOutcome files o → IsGraphOutcome files p → o ≡ p
 one_outcome files (Ok g) (Ok h) a b = ap Ok (one_graph files g h a.0.is_graph b.0.is_graph)
 one_outcome files (Ok g) (Err (TwoModules m c d)) a b = absurd (not_differ files m c d b a.0.are_files.differ)
 one_outcome files (Ok g) (Err (Cycle names)) a b = absurd (no_cycle files names a.1 b)
@@ -127,7 +127,7 @@ one_outcome files (Err TooMany) (Err (TwoModules m c d)) a b = absurd (not_two_m
 one_outcome files (Err TooMany) (Err (Cycle names)) a b = absurd (not_kept_many files b.graph b.kept a)
 one_outcome files (Err TooMany) (Err TooMany) a b = refl
 
-pub only_said : (files : List File) (answer : Result ImportGraph GraphFault) → Tells answer (IsGraphOutcome files) → (o : Result ImportGraph GraphRefusal) → IsGraphOutcome files o → Tells answer (λ p. p ≡ o)
+pub only_said : (files : List File) (answer : Result ImportGraph GraphFault) → HasOutcome answer (IsGraphOutcome files) → (o : Result ImportGraph GraphError) → IsGraphOutcome files o → HasOutcome answer (λ p. p ≡ o)
 only_said files (Ok g) told o is = one_outcome files (Ok g) o told is
 only_said files (Err (faults.TwoModules name first second)) told o is = one_outcome files (Err (TwoModules (string_bytes name) (string_bytes first) (string_bytes second))) o told is
 only_said files (Err (faults.Cycle names)) told o is = one_outcome files (Err (Cycle (texts names.items))) o told is

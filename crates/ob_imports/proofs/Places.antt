@@ -16,8 +16,8 @@ use Rattle.std.proofs.lemmas.Slice.Eq.{bytes_eq-Decides}
 use Rattle.std.proofs.Math.Seq.{get_or-append_seam, take-suc}
 use Rattle.indexmap.specs.IndexSet.{insert_key}
 use Rattle.digraph.proofs.Names.{any_text, position-map}
-use Rattle.ob_imports.specs.Names.{place_in, texts}
-use Rattle.ob_imports.specs.Numbering.{has_name, lacked, place_of}
+use Rattle.ob_imports.specs.Names.{index_in, texts}
+use Rattle.ob_imports.specs.Numbering.{has_name, lacked, index_or_len}
 
 -- ---- lists with the name
 
@@ -73,33 +73,33 @@ module _ {Z : Type 0} where
       → lacked keys (texts (take (k + 1) names)) ≡ lacked keys (texts (take k names)) ++ lacked keys (string_bytes d ∷ [])
   lacked_more keys names k d l is = ap (lacked keys) (texts_more names k d l is) ∙ filter-append (λ n. not (has_name keys n)) (texts (take k names)) (string_bytes d ∷ [])
 
-  pub position_texts : (name : List ℕ) (keys : List (String Z)) → position (λ x. bytes_eq name (string_bytes x)) keys ≡ place_in (texts keys) name
+  pub position_texts : (name : List ℕ) (keys : List (String Z)) → position (λ x. bytes_eq name (string_bytes x)) keys ≡ index_in (texts keys) name
   position_texts name keys = sym (position-map (bytes_eq name) string_bytes keys)
 
 -- ---- the place of a name
 
-place_below : (names : List (List ℕ)) (name : List ℕ) (k : ℕ) → k < length names → get_or names k name ≡ name → place_of names name < length names
+place_below : (names : List (List ℕ)) (name : List ℕ) (k : ℕ) → k < length names → get_or names k name ≡ name → index_or_len names name < length names
 place_below [] name k l is = absurd (omega arith)
 place_below (x ∷ xs) name zero l is = rw ((bytes_eq-Decides name x).1 (sym is)) (omega arith)
 place_below (x ∷ xs) name (suc k) l is = elim (cases_Bool (bytes_eq name x)) [
   | inl t ↦ rw t (omega arith)
-  | inr f ↦ let later : place_of xs name < length xs = place_below xs name k (omega arith) is in rw f (omega arith)
+  | inr f ↦ let later : index_or_len xs name < length xs = place_below xs name k (omega arith) is in rw f (omega arith)
 ]
 
-pub place_within : (names : List (List ℕ)) (name : List ℕ) → Contains names name → place_of names name < length names
+pub place_within : (names : List (List ℕ)) (name : List ℕ) → Contains names name → index_or_len names name < length names
 place_within names name (k, l, is) = place_below names name k l is
 
-pub place_found : (names : List (List ℕ)) (name : List ℕ) → Contains names name → place_in names name ≡ Some (place_of names name)
-place_found names name h = rw (lt-ltb (place_of names name) (length names) (place_within names name h)) refl
+pub place_found : (names : List (List ℕ)) (name : List ℕ) → Contains names name → index_in names name ≡ Some (index_or_len names name)
+place_found names name h = rw (lt-ltb (index_or_len names name) (length names) (place_within names name h)) refl
 
-pub name_at : (names : List (List ℕ)) (name : List ℕ) → Contains names name → slice_get names (place_of names name) ≡ Some name
+pub name_at : (names : List (List ℕ)) (name : List ℕ) → Contains names name → slice_get names (index_or_len names name) ≡ Some name
 name_at names name h =
-    let lt : place_of names name < length names = place_within names name h in
-    let same : name ≡ get_or names (place_of names name) name = (bytes_eq-Decides name (get_or names (place_of names name) name)).0 (passes_at_first (bytes_eq name) names name lt) in
-    slice_get-get_or names (place_of names name) name lt ∙ ap (λ (n : List ℕ). Some n) (sym same)
+    let lt : index_or_len names name < length names = place_within names name h in
+    let same : name ≡ get_or names (index_or_len names name) name = (bytes_eq-Decides name (get_or names (index_or_len names name) name)).0 (passes_at_first (bytes_eq name) names name lt) in
+    slice_get-get_or names (index_or_len names name) name lt ∙ ap (λ (n : List ℕ). Some n) (sym same)
 
 -- the one place of a name
-pub place_is : (names : List (List ℕ)) (name : List ℕ) (r : ℕ) → IsDistinct bytes_eq names → slice_get names r ≡ Some name → place_of names name ≡ r
+pub place_is : (names : List (List ℕ)) (name : List ℕ) (r : ℕ) → IsDistinct bytes_eq names → slice_get names r ≡ Some name → index_or_len names name ≡ r
 place_is names name r once e =
     let lt : r < length names = slice_get_within names r name e in
     let at : get_or names r name ≡ name = get_or_from_slice_get names r name name e in

@@ -9,7 +9,7 @@ use Rattle.std.proofs.lemmas.List.Sorted.{Contains-permutation, length_permutati
 use Rattle.std.proofs.lemmas.Option.{get_or_from_slice_get, slice_get_within, slice_get-get_or}
 use Rattle.digraph.specs.declared.edge.Edge.{Edge}
 use Rattle.digraph.specs.Chains.{IsAcyclic}
-use Rattle.digraph.specs.Cycle.{NamesCycle}
+use Rattle.digraph.specs.Cycle.{IsCanonicalCycle}
 use Rattle.digraph.specs.Edges.{AreBetween, Leads}
 use Rattle.digraph.specs.Ranks.{by_ranks, AreRanks}
 use Rattle.digraph.proofs.Members.{from_map, in_map}
@@ -17,7 +17,7 @@ use Rattle.digraph.proofs.Names.{ascending_apart}
 use Rattle.digraph.proofs.SameGraphs.{names_as}
 use Rattle.ob_imports.specs.Files.{File, Imports}
 use Rattle.ob_imports.specs.Names.{names_by, IsByName, LeadsBy}
-use Rattle.ob_imports.specs.Numbering.{place_of, AreLed}
+use Rattle.ob_imports.specs.Numbering.{index_or_len, AreEdgesOf}
 use Rattle.ob_imports.specs.Outcomes.{IsCycleOf}
 use Rattle.ob_imports.proofs.ByName.{acyclic_over}
 use Rattle.ob_imports.proofs.Places.{place_is}
@@ -25,7 +25,7 @@ use Rattle.ob_imports.proofs.Places.{place_is}
 -- names that are apart stand at one place each
 one_place : (names : List (List ℕ)) (v w : ℕ) → IsDistinct bytes_eq names → v < length names → w < length names → get_or names v [] ≡ get_or names w [] → v ≡ w
 one_place names v w once lv lw e =
-    sym (place_is names (get_or names v []) v once (slice_get-get_or names v [] lv)) ∙ ap (place_of names) e ∙ place_is names (get_or names w []) w once (slice_get-get_or names w [] lw)
+    sym (place_is names (get_or names v []) v once (slice_get-get_or names v [] lv)) ∙ ap (index_or_len names) e ∙ place_is names (get_or names w []) w once (slice_get-get_or names w [] lw)
 
 module _ (names : List (List ℕ)) (order : List ℕ) (is : IsByName names order) (once : IsDistinct bytes_eq names) where
   pub order_long : length order ≡ length names
@@ -72,15 +72,15 @@ module _ (names : List (List ℕ)) (order : List ℕ) (is : IsByName names order
     pub others_acyclic : IsAcyclic (Leads others) → IsAcyclic (Leads pairs)
     others_acyclic = acyclic_over (Leads pairs) (Leads others) (λ v. get_or ranks v 0) to_others
 
-    module _ (files : List File) (led : AreLed files names pairs) where
-      named_there : (r : ℕ) (m : List ℕ) → r < length order → slice_get names (get_or order r 0) ≡ Some m → slice_get (names_by names order) r ≡ Some m
-      named_there r m l at =
+    module _ (files : List File) (led : AreEdgesOf files names pairs) where
+      resolve_imported_name : (r : ℕ) (m : List ℕ) → r < length order → slice_get names (get_or order r 0) ≡ Some m → slice_get (names_by names order) r ≡ Some m
+      resolve_imported_name r m l at =
           let long = length-map order (λ v. get_or names v []) in
           let here : get_or (names_by names order) r [] ≡ m = name_there r l ∙ get_or_from_slice_get names (get_or order r 0) m [] at in
           slice_get-get_or (names_by names order) r [] (omega arith) ∙ ap (λ (n : List ℕ). Some n) here
 
-      named_here : (r : ℕ) (m : List ℕ) → slice_get (names_by names order) r ≡ Some m → (r < length order) × (slice_get names (get_or order r 0) ≡ Some m)
-      named_here r m at =
+      resolve_type_name : (r : ℕ) (m : List ℕ) → slice_get (names_by names order) r ≡ Some m → (r < length order) × (slice_get names (get_or order r 0) ≡ Some m)
+      resolve_type_name r m at =
           let long = length-map order (λ v. get_or names v []) in
           let inside : r < length (names_by names order) = slice_get_within (names_by names order) r m at in
           let l : r < length order = omega arith in
@@ -95,15 +95,15 @@ module _ (names : List (List ℕ)) (order : List ℕ) (is : IsByName names order
         λ h. (
             let (lr, ls, leads) = from_others (record { from = r; to = s }) h in
             let (m, n, at_v, at_w, imports) = (led (get_or order r 0) (get_or order s 0)).0 leads in
-            (m, n, named_there r m lr at_v, named_there s n ls at_w, imports)),
+            (m, n, resolve_imported_name r m lr at_v, resolve_imported_name s n ls at_w, imports)),
         λ (m, n, at_r, at_s, imports). (
-            let (lr, at_v) = named_here r m at_r in
-            let (ls, at_w) = named_here s n at_s in
+            let (lr, at_v) = resolve_type_name r m at_r in
+            let (ls, at_w) = resolve_type_name s n at_s in
             let leads = to_others (get_or order r 0) (get_or order s 0) ((led (get_or order r 0) (get_or order s 0)).1 (m, n, at_v, at_w, imports)) in
             subst (λ (x : ℕ). Leads others x s) (rank_again r lr) (subst (λ (y : ℕ). Leads others (get_or ranks (get_or order r 0) 0) y) (rank_again s ls) leads)),
       )
 
-      pub others_cycle : (cycle : List ℕ) (named : List (List ℕ)) → NamesCycle (Leads others) cycle → named ≡ map (λ r. get_or (names_by names order) r []) cycle → IsCycleOf files names named
+      pub others_cycle : (cycle : List ℕ) (named : List (List ℕ)) → IsCanonicalCycle (Leads others) cycle → named ≡ map (λ r. get_or (names_by names order) r []) cycle → IsCycleOf files names named
       others_cycle cycle named c are_names = record {
         order = names_by names order;
         same = is.same;

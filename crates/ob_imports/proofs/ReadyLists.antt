@@ -3,7 +3,7 @@ use Rattle.std.proofs.Common.{◌≡◌, ℕ, ◌<◌, List, Bool, length, refl,
 use Rattle.std.specs.Prelude.{Contains, filter, ◌↔◌, ◌==◌}
 use Rattle.digraph.specs.declared.edge.Edge.{Edge}
 use Rattle.ob_imports.specs.Graphs.{CanStart, ImportGraph, imported, IsListOf, IsReady}
-use Rattle.digraph.specs.Marks.{row_at}
+use Rattle.digraph.specs.Marks.{list_at}
 use Rattle.digraph.specs.Edges.{Leads}
 use Rattle.digraph.proofs.Members.{from_map, in_filter, in_map, of_filter}
 
@@ -26,7 +26,7 @@ listed_as P Q same vs l = record {
   ascending = l.ascending;
 }
 
-pub ready_as : (g : ImportGraph) (rows : List (List ℕ)) (done : List Bool) → length done ≡ g.modules → ((v : ℕ) → row_at rows v ≡ imported g.pairs v)
+pub ready_as : (g : ImportGraph) (rows : List (List ℕ)) (done : List Bool) → length done ≡ g.modules → ((v : ℕ) → list_at rows v ≡ imported g.pairs v)
     → (vs : List ℕ) → IsListOf (CanStart rows done) vs → IsListOf (IsReady g done) vs
 ready_as g rows done size are vs l = listed_as (CanStart rows done) (IsReady g done) (λ v. (
   λ s. record {

@@ -15,7 +15,7 @@ use Rattle.std.proofs.lemmas.Map.Keys.{IsDistinct-IsPermutation, Less-from_sorte
 use Rattle.std.proofs.lemmas.Map.Text.{is_eq-slice_cmp}
 use Rattle.std.proofs.lemmas.Slice.Eq.{bytes_eq-Decides}
 use Rattle.ob_imports.specs.Files.{DifferInName, File, names_of, paths_of}
-use Rattle.ob_imports.specs.Names.{AreAlike, AreAscending, AreNamesSorted, IsFirstAlike, texts}
+use Rattle.ob_imports.specs.Names.{IsRepeat, AreAscending, AreNamesSorted, IsFirstRepeat, texts}
 use Rattle.ob_imports.specs.Outcomes.{IsTwoModules}
 use Rattle.digraph.proofs.Names.{ascending_apart, below, same_is}
 
@@ -81,24 +81,24 @@ times_moved xs ys name moved = times_sum ys name ∙ sum_by-IsPermutation (λ n.
 not_below : (a b : List ℕ) → a ≡ b → slice_cmp nat_cmp a b ≡ Less → ⊥
 not_below a b e less = false≢true (sym (ap is_eq less) ∙ is_eq-slice_cmp a b ∙ same_is a b e)
 
-none_alike_ascend : (names : List (List ℕ)) → AreNamesSorted names → ((k : ℕ) → k + 1 < length names → AreAlike names k → ⊥) → AreAscending names
+none_alike_ascend : (names : List (List ℕ)) → AreNamesSorted names → ((k : ℕ) → k + 1 < length names → IsRepeat names k → ⊥) → AreAscending names
 none_alike_ascend names sorted apart = sorted_from_all_adjacent nat_list_cmp_total names [] (λ k within.
     below (get_or names k []) (get_or names (k + 1) []) (sorted k [] (omega arith) within) (apart k within))
 
-pub differ_unless_alike : (files : List File) (names : List (List ℕ)) → IsPermutation (names_of files) names → AreNamesSorted names → ((k : ℕ) → k + 1 < length names → AreAlike names k → ⊥) → DifferInName files
+pub differ_unless_alike : (files : List File) (names : List (List ℕ)) → IsPermutation (names_of files) names → AreNamesSorted names → ((k : ℕ) → k + 1 < length names → IsRepeat names k → ⊥) → DifferInName files
 differ_unless_alike files names moved sorted apart =
     IsDistinct-IsPermutation bytes_eq nat_list_eq_equiv.symm names (names_of files) (IsPermutation-sym (names_of files) names moved) (ascending_apart names (none_alike_ascend names sorted apart))
 
 -- up to the first place that is alike each name is below the later ones
-front_ascends : (names : List (List ℕ)) (p i j : ℕ) → AreNamesSorted names → p < length names → ((k : ℕ) → k < p → AreAlike names k → ⊥) → i < j → j ≤ p
+front_ascends : (names : List (List ℕ)) (p i j : ℕ) → AreNamesSorted names → p < length names → ((k : ℕ) → k < p → IsRepeat names k → ⊥) → i < j → j ≤ p
     → slice_cmp nat_cmp (get_or names i []) (get_or names j []) ≡ Less
 front_ascends names p i j sorted within apart lt le =
-    let front : List (List ℕ) = take (p + 1) names in
-    let long : length front ≡ p + 1 = length_take (p + 1) names (omega arith) in
-    let up : AreAscending front = none_alike_ascend front
+    let prefix : List (List ℕ) = take (p + 1) names in
+    let long : length prefix ≡ p + 1 = length_take (p + 1) names (omega arith) in
+    let up : AreAscending prefix = none_alike_ascend prefix
     (λ k d low l. rw (get_or-take (p + 1) names (k + 1) d (omega arith), get_or-take (p + 1) names k d (omega arith)) (sorted k d low (omega arith)))
     (λ k l alike. apart k (omega arith) (sym (get_or-take (p + 1) names k [] (omega arith)) ∙ alike ∙ get_or-take (p + 1) names (k + 1) [] (omega arith))) in
-    rw (← get_or-take (p + 1) names i [] (omega arith), ← get_or-take (p + 1) names j [] (omega arith)) (Less-from_sorted (slice_cmp nat_cmp) front i j [] up lt (omega arith))
+    rw (← get_or-take (p + 1) names i [] (omega arith), ← get_or-take (p + 1) names j [] (omega arith)) (Less-from_sorted (slice_cmp nat_cmp) prefix i j [] up lt (omega arith))
   where
     length_take : (n : ℕ) (xs : List (List ℕ)) → n ≤ length xs → length (take n xs) ≡ n
     length_take zero xs l = refl
@@ -110,7 +110,7 @@ same_default [] k d e l = absurd (omega arith)
 same_default (x ∷ xs) zero d e l = refl
 same_default (x ∷ xs) (suc k) d e l = same_default xs k d e (omega arith)
 
-least_alike : (names : List (List ℕ)) (p : ℕ) (other : List ℕ) → AreNamesSorted names → IsFirstAlike names p → slice_cmp nat_cmp other (get_or names p []) ≡ Less → times names other ≤ 1
+least_alike : (names : List (List ℕ)) (p : ℕ) (other : List ℕ) → AreNamesSorted names → IsFirstRepeat names p → slice_cmp nat_cmp other (get_or names p []) ≡ Less → times names other ≤ 1
 least_alike names p other sorted first less = once_from names other (λ i j lt l e g.
     let within : p + 1 < length names = first.within in
     let at_i : get_or names i [] ≡ other = same_default names i [] other (omega arith) ∙ e in
@@ -128,7 +128,7 @@ two_first (x ∷ []) l = absurd (omega arith)
 two_first (x ∷ y ∷ xs) l = refl
 
 -- the first name that stands twice in order is the least one that two files have
-pub many_paths : (files : List File) (names : List (List ℕ)) (p : ℕ) → IsPermutation (names_of files) names → IsFirstAlike names p → 2 ≤ length (paths_of files (get_or names p []))
+pub many_paths : (files : List File) (names : List (List ℕ)) (p : ℕ) → IsPermutation (names_of files) names → IsFirstRepeat names p → 2 ≤ length (paths_of files (get_or names p []))
 many_paths files names p moved first =
     let name = get_or names p [] in
     let within : p + 1 < length names = first.within in
@@ -137,7 +137,7 @@ many_paths files names p moved first =
     let count = paths_times files name in
     omega arith
 
-pub is_two : (files : List File) (names paths : List (List ℕ)) (p : ℕ) → length files ≤ 4096 → IsPermutation (names_of files) names → AreNamesSorted names → IsFirstAlike names p
+pub is_two : (files : List File) (names paths : List (List ℕ)) (p : ℕ) → length files ≤ 4096 → IsPermutation (names_of files) names → AreNamesSorted names → IsFirstRepeat names p
     → IsPermutation (paths_of files (get_or names p [])) paths → AreNamesSorted paths → 2 ≤ length paths
     → IsTwoModules files (get_or names p []) (get_or paths 0 []) (get_or paths 1 [])
 is_two files names paths p few moved sorted first paths_moved paths_sorted two =

@@ -8,14 +8,14 @@ use Rattle.std.proofs.lemmas.Map.Views.{exact_unsigned_eq, Contains-from_any, li
 use Rattle.std.proofs.lemmas.Cmp.{nat_eq_equiv}
 use Rattle.digraph.specs.declared.edge.Edge.{Edge}
 use Rattle.digraph.specs.Chains.{IsAcyclic}
-use Rattle.digraph.specs.Cycle.{ComesBack, EachLeadsToMember, IsEndless, IsLeast, IsNext, IsTurned, NamesCycle}
+use Rattle.digraph.specs.Cycle.{ClosesAt, EachLeadsToMember, IsCycleCore, IsLeast, IsNext, IsRotated, IsCanonicalCycle}
 use Rattle.digraph.specs.Edges.{successors, AreBetween, Leads}
 use Rattle.digraph.specs.Marks.{marked}
 use Rattle.digraph.proofs.Successors.{successor}
 use Rattle.digraph.proofs.Loops.{acyclic_without_endless}
 use Rattle.digraph.proofs.Members.{first_or_later}
 use Rattle.digraph.proofs.Parents.{some_or_none}
-use Rattle.digraph.proofs.Walks.{place_in, turned_at, walking_back, walking_first, walking_length, walking_more, Walking}
+use Rattle.digraph.proofs.Walks.{index_in, turned_at, walking_back, walking_first, walking_length, walking_more, Walking}
 
 -- ---- searches
 
@@ -111,8 +111,8 @@ least_place (x ∷ y ∷ ys) l =
     ]
 
 -- a list that is turned to begin at its least number
-turned : (loop : List ℕ) → 0 < length loop → (cycle : List ℕ) × IsTurned loop cycle
-turned loop some =
+rotated : (loop : List ℕ) → 0 < length loop → (cycle : List ℕ) × IsRotated loop cycle
+rotated loop some =
     let (p, within, least) = least_place loop some in
     (drop p loop ++ take p loop, turned_at loop (drop p loop ++ take p loop) p within least refl)
 
@@ -153,9 +153,9 @@ module _ (edges : List Edge) (n : ℕ) (between : AreBetween edges n) where
   both_false true b e = e
   both_false false b e = refl
 
-  record Endless : Type 0 where
+  record CycleCore : Type 0 where
     set : ℕ → Bool
-    is : IsEndless (Leads edges) set
+    is : IsCycleCore (Leads edges) set
     within : (v : ℕ) → set v ≡ true → v < n
 
   abbrev Holds : (ℕ → Bool) → Type 0
@@ -165,7 +165,7 @@ module _ (edges : List Edge) (n : ℕ) (between : AreBetween edges n) where
   left : (ℕ → Bool) → ℕ → Bool
   left s v = s v && on s v
 
-  done : (s : ℕ → Bool) → ((v : ℕ) → s v ≡ true → v < n) → Holds s → ((v : ℕ) → v < n → (s v && not (on s v)) ≡ false) → Endless
+  done : (s : ℕ → Bool) → ((v : ℕ) → s v ≡ true → v < n) → Holds s → ((v : ℕ) → v < n → (s v && not (on s v)) ≡ false) → CycleCore
   done s within all none = record {
     set = s;
     is = record { each = λ v member. goes_on s v (stays (s v) (on s v) member (none v (within v member))); greatest = all };
@@ -187,7 +187,7 @@ module _ (edges : List Edge) (n : ℕ) (between : AreBetween edges n) where
   left_without s v out = both_false (s v) (on s v) out
 
   -- nodes that lead to no member are taken away until none is left
-  settled : (fuel : ℕ) (s : ℕ → Bool) → count s n ≤ fuel → ((v : ℕ) → s v ≡ true → v < n) → Holds s → Endless
+  settled : (fuel : ℕ) (s : ℕ → Bool) → count s n ≤ fuel → ((v : ℕ) → s v ≡ true → v < n) → Holds s → CycleCore
   settled zero s few within all = elim (found (λ v. s v && not (on s v)) n) [
     | inr none ↦ done s within all none
     | inl (v, h) ↦
@@ -203,13 +203,13 @@ module _ (edges : List Edge) (n : ℕ) (between : AreBetween edges n) where
         settled fuel (left s) (omega arith) (λ u t. within u (left_under s u t)) (left_holds s all)
   ]
 
-  endless : Endless
-  endless = settled (count first n) first (omega arith) (λ v t. ltb-true v n t) (λ t each v member. let (w, leads, is) = each v member in lt-ltb v n (between (record { from = v; to = w }) leads).0)
+  core_nodes : CycleCore
+  core_nodes = settled (count first n) first (omega arith) (λ v t. ltb-true v n t) (λ t each v member. let (w, leads, is) = each v member in lt-ltb v n (between (record { from = v; to = w }) leads).0)
     where
       first : ℕ → Bool
       first v = nat_lt v n
 
-  module _ (e : Endless) where
+  module _ (e : CycleCore) where
     next : (v : ℕ) → e.set v ≡ true → (w : ℕ) × IsNext (Leads edges) e.set v w
     next v member = elim (found (λ w. e.set w && list_any (nat_eq w) (successors edges v)) n) [
       | inl (w, h) ↦
@@ -232,7 +232,7 @@ module _ (edges : List Edge) (n : ℕ) (between : AreBetween edges n) where
     record Returns : Type 0 where
       walk : List ℕ
       place : ℕ
-      back : ComesBack (Leads edges) e.set walk place
+      back : ClosesAt (Leads edges) e.set walk place
 
     walked : (fuel : ℕ) (walk : List ℕ) (table : List (Option ℕ)) (at : ℕ) → Walking (Leads edges) e.set walk table at → length table ≡ n → n < length walk + fuel → Returns
     walked zero walk table at w size room =
@@ -242,7 +242,7 @@ module _ (edges : List Edge) (n : ℕ) (between : AreBetween edges n) where
     walked (suc fuel) walk table at w size room =
         let here : at < length table = (let l = e.within at w.member in omega arith) in
         let (y, is_next) = next at w.member in
-        elim (some_or_none (place_in (slice_set table at (Some (length walk))) y)) [
+        elim (some_or_none (index_in (slice_set table at (Some (length walk))) y)) [
           | inl (k, met) ↦ record { walk = walk ++ at ∷ []; place = k; back = walking_back (Leads edges) e.set walk table at w y k here is_next met }
           | inr unmet ↦
               let long : length (walk ++ at ∷ []) ≡ length walk + 1 = length-append walk (at ∷ []) in
@@ -250,16 +250,16 @@ module _ (edges : List Edge) (n : ℕ) (between : AreBetween edges n) where
               walked fuel (walk ++ at ∷ []) (slice_set table at (Some (length walk))) y (walking_more (Leads edges) e.set walk table at w y here is_next unmet) (omega arith) (omega arith)
         ]
 
-    named : (v : ℕ) → IsLeast e.set v → (cycle : List ℕ) × NamesCycle (Leads edges) cycle
+    named : (v : ℕ) → IsLeast e.set v → (cycle : List ℕ) × IsCanonicalCycle (Leads edges) cycle
     named v least =
         let r = walked (suc n) [] (replicate n None) v (walking_first (Leads edges) e.set (replicate n None) n v refl least) (replicated n None) (omega arith) in
         let loop = drop r.place r.walk in
         let within : r.place < length r.walk = r.back.place in
         let some : 0 < length loop = (let l = length-drop r.place r.walk in omega arith) in
-        let (cycle, turn) = turned loop some in
-        (cycle, record { endless = e.set; is_endless = e.is; walk = r.walk; place = r.place; comes_back = r.back; turned = turn })
+        let (cycle, turn) = rotated loop some in
+        (cycle, record { core_nodes = e.set; is_core = e.is; walk = r.walk; place = r.place; closes_at = r.back; rotated = turn })
 
-    decided : IsAcyclic (Leads edges) ⊎ ((cycle : List ℕ) × NamesCycle (Leads edges) cycle)
+    decided : IsAcyclic (Leads edges) ⊎ ((cycle : List ℕ) × IsCanonicalCycle (Leads edges) cycle)
     decided = elim (found e.set n) [
       | inl (v, h) ↦ inr (named v (record {
         member = h.passes;
@@ -271,5 +271,5 @@ module _ (edges : List Edge) (n : ℕ) (between : AreBetween edges n) where
       | inr none ↦ inl (acyclic_without_endless (Leads edges) e.set e.is (λ v is. false≢true (sym (none v (e.within v is)) ∙ is)))
     ]
 
-  pub some_cycle : IsAcyclic (Leads edges) ⊎ ((cycle : List ℕ) × NamesCycle (Leads edges) cycle)
-  some_cycle = decided endless
+  pub some_cycle : IsAcyclic (Leads edges) ⊎ ((cycle : List ℕ) × IsCanonicalCycle (Leads edges) cycle)
+  some_cycle = decided core_nodes

@@ -19,9 +19,9 @@ use Rattle.digraph.proofs.Names.{apart_ascend}
 use Rattle.digraph.proofs.SameGraphs.{acyclic_as, names_as}
 use Rattle.ob_imports.specs.Files.{AreNodes, File, Imports, IsNode, names_of, paths_of}
 use Rattle.ob_imports.specs.Graphs.{ImportGraph, IsGraphOf}
-use Rattle.ob_imports.specs.Names.{AreAlike, AreAscending, IsFirstAlike, LeadsBy}
+use Rattle.ob_imports.specs.Names.{IsRepeat, AreAscending, IsFirstRepeat, LeadsBy}
 use Rattle.ob_imports.specs.Numbering.{all_lacked, all_pairs}
-use Rattle.ob_imports.specs.Outcomes.{AreFiles, AreFilesOfGraph, Cycle, GraphRefusal, IsGraphOutcome, TooMany, TwoModules}
+use Rattle.ob_imports.specs.Outcomes.{AreFiles, AreFilesOfGraph, Cycle, GraphError, IsGraphOutcome, TooMany, TwoModules}
 use Rattle.ob_imports.proofs.ByName.{acyclic_names, between_names}
 use Rattle.ob_imports.proofs.Nodes.{are_nodes, nodes_apart, nodes_known, pairs_lead}
 use Rattle.ob_imports.proofs.SameNames.{differ_unless_alike, is_two, many_paths}
@@ -30,7 +30,7 @@ use Rattle.ob_imports.proofs.Sortings.{sorting}
 
 -- what files make
 abbrev Makes : List File → Type 0
-Makes files = (o : Result ImportGraph GraphRefusal) × IsGraphOutcome files o
+Makes files = (o : Result ImportGraph GraphError) × IsGraphOutcome files o
 
 -- ---- lists in order, each element once
 
@@ -51,8 +51,8 @@ edges_in_order xs =
     let (s, moved, sorted) = sorting (λ (p q : Edge). ends_cmp (ends_of p) (ends_of q)) total xs in
     (dedup same_edge s, edges_ascend s (dedup same_edge s) refl sorted, edges_same xs s (dedup same_edge s) refl moved)
 
-first_alike : (names : List (List ℕ)) → ((p : ℕ) × IsFirstAlike names p) ⊎ ((k : ℕ) → k + 1 < length names → AreAlike names k → ⊥)
-first_alike names = elim (found (λ k. bytes_eq (get_or names k []) (get_or names (k + 1) [])) (length names - 1)) [
+first_repeat : (names : List (List ℕ)) → ((p : ℕ) × IsFirstRepeat names p) ⊎ ((k : ℕ) → k + 1 < length names → IsRepeat names k → ⊥)
+first_repeat names = elim (found (λ k. bytes_eq (get_or names k []) (get_or names (k + 1) [])) (length names - 1)) [
   | inl (p, h) ↦ inl (
     p,
     record {
@@ -99,8 +99,8 @@ of_nodes files names are nodes few =
       | inr few_pairs ↦ of_graph files g (record { are_files = are; is_graph = is_graph; few_names = few; few_pairs = few_pairs })
     ]
 
-of_files : (files : List File) → AreFiles files → Makes files
-of_files files are =
+names_of_files : (files : List File) → AreFiles files → Makes files
+names_of_files files are =
     let (others, up, same) = names_in_order (all_lacked (names_of files) files) in
     let names = names_of files ++ others in
     let nodes : AreNodes files names = are_nodes files (names_of files) (all_lacked (names_of files) files) others refl refl up same names refl in
@@ -112,17 +112,17 @@ of_files files are =
 of_few : (files : List File) → length files ≤ 4096 → Makes files
 of_few files few =
     let (names, moved, sorted) = sorting (slice_cmp nat_cmp) nat_list_cmp_total (names_of files) in
-    elim (first_alike names) [
+    elim (first_repeat names) [
       | inl (p, first) ↦
           let (paths, paths_moved, paths_sorted) = sorting (slice_cmp nat_cmp) nat_list_cmp_total (paths_of files (get_or names p [])) in
           let many = many_paths files names p moved first in
           let same = length_permutation (paths_of files (get_or names p [])) paths paths_moved in
           let two : 2 ≤ length paths = omega arith in
           (Err (TwoModules (get_or names p []) (get_or paths 0 []) (get_or paths 1 [])), is_two files names paths p few moved sorted first paths_moved paths_sorted two)
-      | inr apart ↦ of_files files (record { few_modules = few; differ = differ_unless_alike files names moved sorted apart })
+      | inr apart ↦ names_of_files files (record { few_modules = few; differ = differ_unless_alike files names moved sorted apart })
     ]
 
-pub some_outcome : (files : List File) → (o : Result ImportGraph GraphRefusal) × IsGraphOutcome files o
+pub some_outcome : (files : List File) → (o : Result ImportGraph GraphError) × IsGraphOutcome files o
 some_outcome files = elim (cases_lt 4096 (length files)) [
   | inl many ↦ (Err TooMany, inl many)
   | inr few ↦ of_few files few

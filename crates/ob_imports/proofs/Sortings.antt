@@ -45,8 +45,8 @@ module _ {X : Type 0} (cmp : X → X → Ordering) (total : IsTotalOrder cmp) wh
   placed_sorted x [] s = sorted_cons x [] (λ d l. absurd (omega arith)) s
   placed_sorted x (y ∷ ys) s = elim (cases_Bool (is_lt (cmp y x))) [
     | inl t ↦
-        let turned : is_lt (cmp x y) ≡ false = ap is_lt (total.antisymm x y) ∙ not_both (cmp y x) t in
-        rw t (sorted_cons y (placed x ys) (placed_above y x ys turned (head_of y ys s)) (placed_sorted x ys (tail_of y ys s)))
+        let rotated : is_lt (cmp x y) ≡ false = ap is_lt (total.antisymm x y) ∙ not_both (cmp y x) t in
+        rw t (sorted_cons y (placed x ys) (placed_above y x ys rotated (head_of y ys s)) (placed_sorted x ys (tail_of y ys s)))
     | inr f ↦ rw f (sorted_cons x (y ∷ ys) (λ d l. f) s)
   ]
 

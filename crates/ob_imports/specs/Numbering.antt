@@ -1,4 +1,4 @@
--- How the graph of a tree is made: names in a table, and pairs of places in it.
+-- Construction of the graph: a table of names, and edges between its indices.
 use Rattle.std.specs.Prelude.{◌≡◌, ◌↔◌, ℕ, ◌<◌, List, [], length, slice_index_or, not, map, filter, flat_map, Bool}
 use Rattle.std.specs.Borrow.{Bor}
 use Rattle.std.specs.List.{list_any, position_or_len}
@@ -12,31 +12,31 @@ use Rattle.ob_imports.specs.Names.{LeadsBy}
 abbrev pub has_name : List (List ℕ) → List ℕ → Bool
 has_name names name = list_any (bytes_eq name) names
 
--- the place of a name that the list has
-abbrev pub place_of : List (List ℕ) → List ℕ → ℕ
-place_of names name = position_or_len (bytes_eq name) names
+-- the index of a name that the list has; the length otherwise
+abbrev pub index_or_len : List (List ℕ) → List ℕ → ℕ
+index_or_len names name = position_or_len (bytes_eq name) names
 
--- of these names, those that the list lacks
+-- the names that the list lacks
 abbrev pub lacked : List (List ℕ) → List (List ℕ) → List (List ℕ)
 lacked names imports = filter (λ n. not (has_name names n)) imports
 
--- all that the files import and the list lacks
+-- all imported names that the list lacks
 abbrev pub all_lacked : List (List ℕ) → List File → List (List ℕ)
 all_lacked names files = flat_map (λ f. lacked names f.imports) files
 
--- the imports of one module, by places in a list of names
+-- the imports of one module as edges between indices of names
 abbrev pub pairs_from : List (List ℕ) → List ℕ → List (List ℕ) → List Edge
-pairs_from names name imports = map (λ n. record { from = place_of names name; to = place_of names n }) imports
+pairs_from names name imports = map (λ n. record { from = index_or_len names name; to = index_or_len names n }) imports
 
--- those of all files
+-- the imports of all files as edges
 abbrev pub all_pairs : List (List ℕ) → List File → List Edge
 all_pairs names files = flat_map (λ f. pairs_from names f.name f.imports) files
 
--- the name has this number
+-- the pair of a name and its index
 pub record IsNumbered (names : List (List ℕ)) (pair : Bor (List ℕ) × ℕ) : Type 0 where
   pub within : pair.1 < length names
   pub named : slice_index_or names pair.1 [] ≡ pair.0.now
 
--- the pairs are the imports of the files, by the places of the names
-abbrev pub AreLed : List File → List (List ℕ) → List Edge → Type 0
-AreLed files names pairs = (v w : ℕ) → Leads pairs v w ↔ LeadsBy (Imports files) names v w
+-- the edges are the imports of the files, by the indices of the names
+abbrev pub AreEdgesOf : List File → List (List ℕ) → List Edge → Type 0
+AreEdgesOf files names pairs = (v w : ℕ) → Leads pairs v w ↔ LeadsBy (Imports files) names v w

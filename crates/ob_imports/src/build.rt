@@ -1,4 +1,4 @@
-//! The graph of the files of a tree.
+//! Construction of the import graph of a tree's files.
 ghost use Rattle.std.specs.Prelude.{◌≡◌, ◌≤◌, ◌<◌, [], All, IfNone, IfOk, IfSome, List, Result, length, map};
 ghost use Rattle.std.specs.List.{slice_index_or, IsDistinct};
 ghost use Rattle.std.specs.Str.{bytes_eq};
@@ -7,13 +7,13 @@ ghost use Rattle.digraph.specs.Edges.{AreBetween, Leads};
 ghost use Rattle.ob_imports.specs.Files.{files_of, AreNodes, File};
 ghost use Rattle.ob_imports.specs.Graphs.{graph_with, ImportGraph};
 ghost use Rattle.ob_imports.specs.Names.{names_by, texts, IsByName};
-ghost use Rattle.ob_imports.specs.Numbering.{AreLed};
-ghost use Rattle.ob_imports.specs.Outcomes.{AreFiles, AreFilesOfGraph, GraphRefusal, IsCycleOf, IsGraphOutcome, Tells};
+ghost use Rattle.ob_imports.specs.Numbering.{AreEdgesOf};
+ghost use Rattle.ob_imports.specs.Outcomes.{AreFiles, AreFilesOfGraph, GraphError, IsCycleOf, IsGraphOutcome, HasOutcome};
 
-use crate::duplicates::no_two_alike;
+use crate::duplicates::check_distinct;
 use crate::edges::pairs_of;
 use crate::names::nodes_of;
-use crate::order::order_of;
+use crate::order::order_by_name;
 use crate::{Edge, Graph, GraphFault, Parsed};
 use digraph::{cycle, ranks_of, renumbered};
 use indexmap::IndexSet;
@@ -24,8 +24,8 @@ const MOST_MODULES: usize = 4096;
 
 const MOST_PAIRS: usize = 65536;
 
-/// The names of modules, by their places in an order of the names.
-fn names_at(
+/// The names of the modules at these indices of an order.
+fn names_in_order(
     alloc: Global,
     names: &[String],
     order: &[u32],
@@ -43,7 +43,7 @@ fn names_at(
     Ok(named)
 }
 
-/// The names of the cycle that is named by the order of the names, or none where no chain of imports comes back.
+/// The names on the canonical cycle, by the order of the names; none if the imports are acyclic.
 fn cycle_in(
     alloc: Global,
     pairs: &[Edge],
@@ -54,18 +54,18 @@ fn cycle_in(
     requires once { IsDistinct bytes_eq (texts names.now) }
     requires order { IsByName (texts names.now) order.now }
     requires few { length names.now ≤ 8192 }
-    ensures named { IfOk result (λ answer. IfSome answer (λ cycle. (files : List File) → AreLed files (texts names.now) pairs.now → IsCycleOf files (texts names.now) (texts cycle.items))) }
+    ensures named { IfOk result (λ answer. IfSome answer (λ cycle. (files : List File) → AreEdgesOf files (texts names.now) pairs.now → IsCycleOf files (texts names.now) (texts cycle.items))) }
     ensures none { IfOk result (λ answer. IfNone answer (IsAcyclic (Leads pairs.now))) }
 {
     let ranks = ranks_of(alloc, order)?;
     let others = renumbered(alloc, pairs, ranks.as_slice())?;
     match cycle(alloc, others.as_slice(), order.len())? {
         None => Ok(None),
-        Some(cycle) => Ok(Some(names_at(alloc, names, order, cycle.as_slice())?)),
+        Some(cycle) => Ok(Some(names_in_order(alloc, names, order, cycle.as_slice())?)),
     }
 }
 
-/// The graph of the files by its names and imports, or the cycle that these have.
+/// The graph with these names and imports, or its cycle.
 fn from_names(
     alloc: Global,
     parsed: &[Parsed],
@@ -73,16 +73,16 @@ fn from_names(
     pairs: Vec<Edge>,
 ) -> Result<Graph, GraphFault>
     requires { AreFilesOfGraph (files_of parsed.now) (graph_with names.keys (length parsed.now) pairs.items) }
-    ensures { Tells result (IsGraphOutcome (files_of parsed.now)) }
+    ensures { HasOutcome result (IsGraphOutcome (files_of parsed.now)) }
 {
-    let order = order_of(alloc, names.as_slice())?;
+    let order = order_by_name(alloc, names.as_slice())?;
     match cycle_in(alloc, pairs.as_slice(), names.as_slice(), order.as_slice())? {
         None => Ok(Graph::of(alloc, names, parsed.len() as u32, pairs, order)?),
         Some(names) => Err(GraphFault::Cycle { names }),
     }
 }
 
-/// What files make whose modules have these names: a graph, or the first refusal.
+/// The outcome of files whose modules have these names: the graph, or the first error.
 fn from_nodes(
     alloc: Global,
     parsed: &[Parsed],
@@ -91,7 +91,7 @@ fn from_nodes(
     requires files { AreFiles (files_of parsed.now) }
     requires nodes { AreNodes (files_of parsed.now) (texts names.keys) }
     requires few { length names.keys ≤ 8192 }
-    ensures { Tells result (IsGraphOutcome (files_of parsed.now)) }
+    ensures { HasOutcome result (IsGraphOutcome (files_of parsed.now)) }
 {
     let pairs = pairs_of(alloc, parsed, &names)?;
     if pairs.len() > MOST_PAIRS {
@@ -100,10 +100,10 @@ fn from_nodes(
     from_names(alloc, parsed, names, pairs)
 }
 
-/// What files make whose modules differ in name: a graph, or the first refusal.
+/// The outcome of files with distinct module names: the graph, or the first error.
 fn from_files(alloc: Global, parsed: &[Parsed]) -> Result<Graph, GraphFault>
     requires { AreFiles (files_of parsed.now) }
-    ensures { Tells result (IsGraphOutcome (files_of parsed.now)) }
+    ensures { HasOutcome result (IsGraphOutcome (files_of parsed.now)) }
 {
     match nodes_of(alloc, parsed)? {
         None => Err(GraphFault::TooMany),
@@ -111,24 +111,24 @@ fn from_files(alloc: Global, parsed: &[Parsed]) -> Result<Graph, GraphFault>
     }
 }
 
-/// What the files make: a graph, or the first refusal.
-fn made(alloc: Global, parsed: &[Parsed]) -> Result<Graph, GraphFault>
-    ensures { Tells result (IsGraphOutcome (files_of parsed.now)) }
+/// The outcome of the files: the graph, or the first error.
+fn build_graph(alloc: Global, parsed: &[Parsed]) -> Result<Graph, GraphFault>
+    ensures { HasOutcome result (IsGraphOutcome (files_of parsed.now)) }
 {
     if parsed.len() > MOST_MODULES {
         return Err(GraphFault::TooMany);
     }
-    no_two_alike(alloc, parsed)?;
+    check_distinct(alloc, parsed)?;
     from_files(alloc, parsed)
 }
 
-/// The graph of the files' imports, or the first refusal: too many files, then two modules of one name, then too many
-/// modules or imports, then a cycle.
+/// The import graph of the files, or the first error: too many files, then two modules with one name, then too many modules or imports,
+/// then a cycle.
 pub fn graph(alloc: Global, parsed: &[Parsed]) -> Result<Graph, GraphFault>
-    // What is answered is so, unless memory ran out: the graph, or the first refusal.
-    ensures exact { Tells result (IsGraphOutcome (files_of parsed.now)) }
-    // What is so is answered, unless memory runs out.
-    ensures only { (o : Result ImportGraph GraphRefusal) → IsGraphOutcome (files_of parsed.now) o → Tells result (λ p. p ≡ o) }
+    // The result is an outcome of the files, unless an allocation failed.
+    ensures exact { HasOutcome result (IsGraphOutcome (files_of parsed.now)) }
+    // Any outcome of the files is the result, unless an allocation failed.
+    ensures only { (o : Result ImportGraph GraphError) → IsGraphOutcome (files_of parsed.now) o → HasOutcome result (λ p. p ≡ o) }
 {
-    made(alloc, parsed)
+    build_graph(alloc, parsed)
 }

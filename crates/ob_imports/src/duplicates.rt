@@ -1,24 +1,24 @@
-//! Files whose modules have one name.
+//! Detection of two modules with one name.
 ghost use Rattle.std.specs.Prelude.{◌≡◌, ◌≤◌, ◌<◌, ◌+◌, Err, IfErr, IfNone, IfOk, IfSome, IsPermutation, length, OnOk, ℕ};
 ghost use Rattle.ob_imports.specs.Files.{files_of, paths_of, DifferInName};
-ghost use Rattle.ob_imports.specs.Names.{texts, AreAlike, AreNamesSorted, IsFirstAlike};
+ghost use Rattle.ob_imports.specs.Names.{texts, IsRepeat, AreNamesSorted, IsFirstRepeat};
 ghost use Rattle.ob_imports.specs.Outcomes.{IsGraphOutcome, UnlessMemory};
 
 use crate::names::module_names;
 use crate::{GraphFault, Parsed};
 use std::alloc::{AllocError, Global};
 
-fn put_in_order(names: &mut Vec<String>)
+fn sort_all(names: &mut Vec<String>)
     ensures same { IsPermutation (texts names.old.items) (texts names.new.items) }
     ensures in_order { AreNamesSorted (texts names.new.items) }
 {
     names.sort_unstable();
 }
 
-/// The first place whose name is the next one's too.
-fn first_alike(names: &[String]) -> Option<usize>
-    ensures found { IfSome result (IsFirstAlike (texts names.now)) }
-    ensures none { IfNone result ((k : ℕ) → k + 1 < length names.now → AreAlike (texts names.now) k → ⊥) }
+/// The first index whose name repeats at the next index.
+fn first_repeat(names: &[String]) -> Option<usize>
+    ensures found { IfSome result (IsFirstRepeat (texts names.now)) }
+    ensures none { IfNone result ((k : ℕ) → k + 1 < length names.now → IsRepeat (texts names.now) k → ⊥) }
 {
     for place in 1..names.len() {
         if names[place - 1] == names[place] {
@@ -41,20 +41,20 @@ fn paths_with(alloc: Global, parsed: &[Parsed], name: &str) -> Result<Vec<String
     Ok(paths)
 }
 
-/// Finds that the modules of the files differ in name, or names two that don't.
-pub(crate) fn no_two_alike(alloc: Global, parsed: &[Parsed]) -> Result<(), GraphFault>
+/// Returns `TwoModules` for the smallest repeated module name; otherwise the module names are distinct.
+pub(crate) fn check_distinct(alloc: Global, parsed: &[Parsed]) -> Result<(), GraphFault>
     requires few { length parsed.now ≤ 4096 }
     ensures differ { OnOk result (DifferInName (files_of parsed.now)) }
     ensures fault { IfErr result (λ fault. UnlessMemory fault (λ refusal. IsGraphOutcome (files_of parsed.now) (Err refusal))) }
 {
     let mut names = module_names(alloc, parsed)?;
-    put_in_order(&mut names);
-    let Some(place) = first_alike(names.as_slice()) else {
+    sort_all(&mut names);
+    let Some(place) = first_repeat(names.as_slice()) else {
         return Ok(());
     };
     let name = String::from_str(alloc, names[place].as_str())?;
     let mut paths = paths_with(alloc, parsed, name.as_str())?;
-    put_in_order(&mut paths);
+    sort_all(&mut paths);
     let first_path = String::from_str(alloc, paths[0].as_str())?;
     let second_path = String::from_str(alloc, paths[1].as_str())?;
     Err(GraphFault::TwoModules {

@@ -1,4 +1,4 @@
-//! The imports of files as pairs of places in a table of names.
+//! The imports of files as edges between indices of a table of names.
 ghost use Rattle.std.specs.Prelude.{◌≡◌, ◌≤◌, ◌↔◌, ◌++◌, ◌∷◌, [], Contains, IfOk, List, OnOk, length, ℕ};
 ghost use Rattle.std.specs.List.{IsDistinct};
 ghost use Rattle.std.specs.Str.{bytes_eq};
@@ -10,7 +10,7 @@ ghost use Rattle.digraph.specs.Edges.{IsAscending, Leads};
 
 use crate::names::number_of;
 use crate::{Edge, Parsed};
-use digraph::put_in_order;
+use digraph::sort_all;
 use indexmap::IndexSet;
 use std::alloc::{AllocError, Global};
 use text_hash::Seed;
@@ -35,7 +35,7 @@ fn add_pairs(
     Ok(())
 }
 
-fn all_of(
+fn all_edges(
     alloc: Global,
     parsed: &[Parsed],
     table: &IndexSet<String, Seed>,
@@ -51,7 +51,7 @@ fn all_of(
     Ok(pairs)
 }
 
-/// The imports of the files, by places in a table that has all their names: ascending, each once.
+/// The imports of the files, by the indices of their names in a table that has all of them, strictly sorted.
 pub(crate) fn pairs_of(
     alloc: Global,
     parsed: &[Parsed],
@@ -63,7 +63,7 @@ pub(crate) fn pairs_of(
     ensures ascending { IfOk result (λ pairs. IsAscending pairs.items) }
     ensures leads { IfOk result (λ pairs. (v w : ℕ) → Leads pairs.items v w ↔ LeadsBy (Imports (files_of parsed.now)) (texts table.now.keys) v w) }
 {
-    let mut pairs = all_of(alloc, parsed, table)?;
-    put_in_order(&mut pairs);
+    let mut pairs = all_edges(alloc, parsed, table)?;
+    sort_all(&mut pairs);
     Ok(pairs)
 }

@@ -1,27 +1,27 @@
-//! Why files make no graph.
+//! Errors of import graphs.
 
 use std::alloc::{AllocError, AllocFailed};
 use thiserror::Error;
 
-/// The first refusal: too many files, then two modules of one name, then too many modules or imports, then a cycle.
+/// The first error: too many files, then two modules with one name, then too many modules or imports, then a cycle.
 #[derive(Debug, Drop, Error)]
 pub enum GraphFault {
-    /// Two files have modules of this name: the least such name, and the two least paths.
+    /// Two files have modules of this name: the smallest repeated name, and its two smallest paths.
     #[error("two files have the module {name}")]
     TwoModules {
         name: String,
         first_path: String,
         second_path: String,
     },
-    /// Each of these modules imports the next, and the last imports the first.
+    /// Each of these modules imports the next, and the last one the first.
     #[error("the imports have a cycle")]
     Cycle {
         names: Vec<String>,
     },
-    /// There are more than 4,096 files, 8,192 modules with the external ones, or 65,536 imports.
+    /// There are more than 4,096 files, 8,192 modules including external ones, or 65,536 imports.
     #[error("there are too many modules or imports")]
     TooMany,
-    /// A growth of memory was refused.
+    /// An allocation failed.
     #[error("memory ran out")]
     Memory,
 }

@@ -1,6 +1,6 @@
-//! The imports of modules: the graph that they make, and the one cycle that is named where they have one.
-//! Stands on `digraph` for cycles, with `text_hash` and `indexmap` for its tables and `thiserror` for its faults.
-//! Its contract: the graph is that of the files, or it is their first refusal; a cycle is named exactly where a chain comes back.
+//! Import graphs: modules by number, their imports and importers, and the canonical cycle of imports that have one.
+//! Depends on `digraph` for cycles and adjacency lists, `text_hash` and `indexmap` for tables, `thiserror` for errors.
+//! The main call is `graph`. It returns exactly the graph of the files, which is acyclic, or their first error.
 #![tactic(auto)]
 
 mod build;

@@ -1,11 +1,11 @@
-//! Tables of names: those of the files' modules, then the external ones by name.
+//! Tables of module names: those of the files, then the external ones, sorted.
 ghost use Rattle.std.specs.Prelude.{◌≡◌, ◌≤◌, ◌↔◌, ◌++◌, Contains, IfNone, IfOk, IfSome, List, OnOk, length, ℕ};
 ghost use Rattle.std.specs.List.{IsDistinct};
 ghost use Rattle.std.specs.Str.{bytes_eq};
 ghost use Rattle.ob_imports.specs.Files.{files_of, names_of, AreNodes, DifferInName};
 ghost use Rattle.ob_imports.specs.Names.{texts, AreAscending};
-ghost use Rattle.ob_imports.specs.Numbering.{all_lacked, lacked, place_of};
-ghost use Rattle.ob_imports.specs.Outcomes.{AreFiles, HasManyNodes};
+ghost use Rattle.ob_imports.specs.Numbering.{all_lacked, lacked, index_or_len};
+ghost use Rattle.ob_imports.specs.Outcomes.{AreFiles, ExceedsNodeLimit};
 
 use crate::Parsed;
 use crate::seeds::seed_of;
@@ -25,8 +25,8 @@ pub(crate) fn module_names(alloc: Global, parsed: &[Parsed]) -> Result<Vec<Strin
     Ok(names)
 }
 
-/// Puts new names behind the others.
-pub(crate) fn put_names(
+/// Appends names that the table lacks.
+pub(crate) fn append_names(
     alloc: Global,
     table: &mut IndexSet<String, Seed>,
     names: &[String],
@@ -40,7 +40,7 @@ pub(crate) fn put_names(
     Ok(())
 }
 
-/// Adds those of the names that the table lacks.
+/// Appends the names that the table lacks.
 fn add_lacked(
     alloc: Global,
     others: &mut Vec<String>,
@@ -57,8 +57,8 @@ fn add_lacked(
     Ok(())
 }
 
-/// The imports of the files that the table lacks, in the order of coming.
-fn all_others(
+/// The imported names that the table lacks, in the order of the files, with repeats.
+fn missing_names(
     alloc: Global,
     parsed: &[Parsed],
     table: &IndexSet<String, Seed>,
@@ -72,8 +72,8 @@ fn all_others(
     Ok(others)
 }
 
-/// Puts the names in ascending order, each once.
-fn put_in_order(names: &mut Vec<String>)
+/// Sorts the names and removes duplicates.
+fn sort_all(names: &mut Vec<String>)
     ensures ascending { AreAscending (texts names.new.items) }
     ensures same { (n : List ℕ) → Contains (texts names.new.items) n ↔ Contains (texts names.old.items) n }
 {
@@ -82,18 +82,18 @@ fn put_in_order(names: &mut Vec<String>)
 }
 
 /// The names of the files' modules.
-fn of_files(alloc: Global, parsed: &[Parsed]) -> Result<IndexSet<String, Seed>, AllocError>
+fn names_of_files(alloc: Global, parsed: &[Parsed]) -> Result<IndexSet<String, Seed>, AllocError>
     requires { DifferInName (files_of parsed.now) }
     ensures { IfOk result (λ table. texts table.keys ≡ names_of (files_of parsed.now)) }
 {
     let names = module_names(alloc, parsed)?;
     let mut table = IndexSet::with_hasher(alloc, seed_of(alloc, parsed)?);
-    put_names(alloc, &mut table, names.as_slice())?;
+    append_names(alloc, &mut table, names.as_slice())?;
     Ok(table)
 }
 
-/// The imports of the files that the table lacks: ascending, each once.
-fn others_in_order(
+/// The imported names that the table lacks, strictly sorted.
+fn sorted_missing(
     alloc: Global,
     parsed: &[Parsed],
     table: &IndexSet<String, Seed>,
@@ -101,13 +101,13 @@ fn others_in_order(
     ensures ascending { IfOk result (λ others. AreAscending (texts others.items)) }
     ensures same { IfOk result (λ others. (n : List ℕ) → Contains (texts others.items) n ↔ Contains (all_lacked (texts table.now.keys) (files_of parsed.now)) n) }
 {
-    let mut others = all_others(alloc, parsed, table)?;
-    put_in_order(&mut others);
+    let mut others = missing_names(alloc, parsed, table)?;
+    sort_all(&mut others);
     Ok(others)
 }
 
-/// The names of all modules, by their numbers, or none where there are too many. Names that were made to fall together are counted before
-/// they come into the table.
+/// The names of all modules by number; none if there are too many. External names are counted before they are added to the table, so that
+/// names that were chosen to collide can't slow it down.
 pub(crate) fn nodes_of(
     alloc: Global,
     parsed: &[Parsed],
@@ -115,25 +115,25 @@ pub(crate) fn nodes_of(
     requires { AreFiles (files_of parsed.now) }
     ensures named { IfOk result (λ nodes. IfSome nodes (λ table. AreNodes (files_of parsed.now) (texts table.keys))) }
     ensures few { IfOk result (λ nodes. IfSome nodes (λ table. length table.keys ≤ 8192)) }
-    ensures many { IfOk result (λ nodes. IfNone nodes (HasManyNodes (files_of parsed.now))) }
+    ensures many { IfOk result (λ nodes. IfNone nodes (ExceedsNodeLimit (files_of parsed.now))) }
 {
-    let mut table = of_files(alloc, parsed)?;
-    let others = others_in_order(alloc, parsed, &table)?;
+    let mut table = names_of_files(alloc, parsed)?;
+    let others = sorted_missing(alloc, parsed, &table)?;
     if others.len() > MOST_NODES {
         return Ok(None);
     }
-    put_names(alloc, &mut table, others.as_slice())?;
+    append_names(alloc, &mut table, others.as_slice())?;
     if table.len() > MOST_NODES {
         return Ok(None);
     }
     Ok(Some(table))
 }
 
-/// The place of a name that the table has.
+/// The index of a name that the table has.
 pub(crate) fn number_of(table: &IndexSet<String, Seed>, name: &str) -> u32
     requires few { length table.now.keys ≤ 8192 }
     requires known { Contains (texts table.now.keys) name.now }
-    ensures { result ≡ place_of (texts table.now.keys) name.now }
+    ensures { result ≡ index_or_len (texts table.now.keys) name.now }
 {
     table.get_index_of(name).unwrap() as u32
 }

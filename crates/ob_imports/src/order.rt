@@ -8,7 +8,7 @@ ghost use Rattle.ob_imports.specs.Numbering.{IsNumbered};
 use std::alloc::{AllocError, Global};
 
 /// Each name with its number.
-fn numbered<'a>(alloc: Global, names: &'a [String]) -> Result<Vec<(&'a str, u32)>, AllocError>
+fn with_numbers<'a>(alloc: Global, names: &'a [String]) -> Result<Vec<(&'a str, u32)>, AllocError>
     requires few { length names.now ≤ 8192 }
     ensures names { IfOk result (λ pairs. map (λ p. p.0.now) pairs.items ≡ texts names.now) }
     ensures numbers { IfOk result (λ pairs. All (IsNumbered (texts names.now)) pairs.items) }
@@ -21,7 +21,7 @@ fn numbered<'a>(alloc: Global, names: &'a [String]) -> Result<Vec<(&'a str, u32)
 }
 
 /// The numbers of the pairs.
-fn numbers_of(alloc: Global, pairs: &[(&str, u32)]) -> Result<Vec<u32>, AllocError>
+fn pair_numbers(alloc: Global, pairs: &[(&str, u32)]) -> Result<Vec<u32>, AllocError>
     ensures { IfOk result (λ numbers. numbers.items ≡ map (λ p. p.1) pairs.now) }
 {
     let mut numbers = Vec::new(alloc);
@@ -31,13 +31,13 @@ fn numbers_of(alloc: Global, pairs: &[(&str, u32)]) -> Result<Vec<u32>, AllocErr
     Ok(numbers)
 }
 
-/// The numbers of the names, by ascending name.
-pub(crate) fn order_of(alloc: Global, names: &[String]) -> Result<Vec<u32>, AllocError>
+/// The indices of the names, sorted by name.
+pub(crate) fn order_by_name(alloc: Global, names: &[String]) -> Result<Vec<u32>, AllocError>
     requires few { length names.now ≤ 8192 }
     requires once { IsDistinct bytes_eq (texts names.now) }
     ensures { IfOk result (λ order. IsByName (texts names.now) order.items) }
 {
-    let mut pairs = numbered(alloc, names)?;
+    let mut pairs = with_numbers(alloc, names)?;
     pairs.sort_unstable();
-    numbers_of(alloc, pairs.as_slice())
+    pair_numbers(alloc, pairs.as_slice())
 }

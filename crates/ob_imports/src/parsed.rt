@@ -1,12 +1,12 @@
-//! Files as they were parsed.
+//! Parsed files, as the graph needs them.
 
 /// One file of a tree.
 #[derive(Drop)]
 pub struct Parsed {
-    /// Where the file stands.
+    /// The path of the file.
     pub path: String,
     /// The name of its module.
     pub name: String,
-    /// The names of the modules that its import items name, repeats allowed.
+    /// The names in its import items, which may repeat.
     pub imports: Vec<String>,
 }

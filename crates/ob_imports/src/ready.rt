@@ -1,4 +1,4 @@
-//! The modules that can be worked on.
+//! The modules whose imports are done.
 ghost use Rattle.std.specs.Prelude.{◌≡◌, ◌<◌, ◌≤◌, ◌↔◌, ℕ, Contains, false, IfOk, IsTrue, length, true};
 ghost use Rattle.ob_imports.specs.Graphs.{CanStart, IsListOf};
 ghost use Rattle.digraph.specs.Marks.{lists, marked};
@@ -6,7 +6,7 @@ ghost use Rattle.digraph.specs.Marks.{lists, marked};
 use digraph::is_marked;
 use std::alloc::{AllocError, Global};
 
-/// Whether all of these that are of the tree are done.
+/// Whether all modules of the list that are modules of the tree are done.
 fn all_done(row: &[u32], done: &[bool]) -> bool
     ensures { IsTrue result ↔ ((w : ℕ) → Contains row.now w → w < length done.now → marked done.now w ≡ true) }
 {
@@ -18,7 +18,7 @@ fn all_done(row: &[u32], done: &[bool]) -> bool
     true
 }
 
-/// Whether the module can be worked on.
+/// Whether the module isn't done and its imports in the tree are.
 fn can_start(imports: &[Vec<u32>], done: &[bool], node: usize) -> bool
     requires tree { length done.now ≤ length imports.now }
     requires within { node < length done.now }
@@ -31,7 +31,7 @@ fn can_start(imports: &[Vec<u32>], done: &[bool], node: usize) -> bool
     all_done(imports[node].as_slice(), done)
 }
 
-/// The modules of the tree that can be worked on, by what each module imports.
+/// The modules of the tree that aren't done and whose imports in the tree are, given the imports of each module.
 pub(crate) fn ready_in(
     alloc: Global,
     imports: &[Vec<u32>],

@@ -1,13 +1,13 @@
-//! The seed of the table of names, which the files' authors choose.
+//! The hash seed of the table of names, which the authors of the files choose.
 
 use crate::Parsed;
 use std::alloc::{AllocError, Global};
 use text_hash::Seed;
 
-/// So many names keep the seed of all texts, and aren't gathered.
+/// Up to this number of names the common seed is used, without a digest of the names.
 const FEW: usize = 1024;
 
-/// How many names there are at most: a file has its own and those of its import items.
+/// An upper bound of the number of names: the module name of each file and its import items.
 fn count_of(parsed: &[Parsed]) -> usize {
     let mut count = parsed.len();
     for file in parsed {
@@ -16,8 +16,8 @@ fn count_of(parsed: &[Parsed]) -> usize {
     count
 }
 
-/// Puts the names of a file behind the others, each with a line end.
-fn put_names_of(text: &mut Vec<u8>, file: &Parsed) -> Result<(), AllocError> {
+/// Appends the names of a file, each with a line end.
+fn append_file_names(text: &mut Vec<u8>, file: &Parsed) -> Result<(), AllocError> {
     text.extend_from_slice(file.name.as_bytes())?;
     text.push(b'\n')?;
     for name in &file.imports {
@@ -27,16 +27,16 @@ fn put_names_of(text: &mut Vec<u8>, file: &Parsed) -> Result<(), AllocError> {
     Ok(())
 }
 
-/// All names as one text.
+/// All names, each with a line end.
 fn text_of(alloc: Global, parsed: &[Parsed]) -> Result<Vec<u8>, AllocError> {
     let mut text = Vec::new(alloc);
     for file in parsed {
-        put_names_of(&mut text, file)?;
+        append_file_names(&mut text, file)?;
     }
     Ok(text)
 }
 
-/// The seed of the table of names: where names were chosen to fall together with one seed, they have another.
+/// The seed of the table of names: names that were chosen to collide with one seed get another.
 pub(crate) fn seed_of(alloc: Global, parsed: &[Parsed]) -> Result<Seed, AllocError> {
     let count = count_of(parsed);
     if count <= FEW {

@@ -1,4 +1,4 @@
--- The elements of one key stand in a row where keys ascend.
+-- In a list sorted by key the elements with one key are adjacent.
 use Rattle.std.proofs.Common.{◌≡◌, ℕ, zero, suc, ◌-◌, ◌<◌, ◌≤◌, List, [], ◌∷◌, length, take, drop, get_or, true, false, Bool, refl, sym, ap, ◌∙◌, arith, eqb, ltb, leb}
 use Rattle.std.specs.Prelude.{slice_range}
 use Rattle.std.specs.List.{filter}
@@ -6,8 +6,8 @@ use Rattle.std.specs.Prelude.{not, ◌&&◌}
 use Rattle.std.specs.Ordering.{nat_cmp, is_lt}
 use Rattle.std.specs.List.Sorted.{IsStableByKey, IsPartitionPoint, ties}
 use Rattle.std.proofs.lemmas.Bool.Decides.{nat_tests}
-use Rattle.ob_rows.specs.declared.rows.FormPart.{FormPart}
-use Rattle.ob_rows.specs.declared.rows.Part.TheVariants as parts
+use Rattle.module_table.specs.declared.rows.TypePart.{TypePart}
+use Rattle.module_table.specs.declared.rows.Part.TheVariants as parts
 use Rattle.ob_interface.specs.Interfaces.{is_part_by}
 
 module _ {X : Type 0} (n : X → ℕ) (k : ℕ) where
@@ -60,21 +60,21 @@ module _ {X : Type 0} (n : X → ℕ) (k : ℕ) where
       rw (test, width) (filter_range xs lo hi (λ i d l m. a (suc i) d (omega (arith, l)) (omega (arith, m))) (λ i d l m. b (suc i) d (omega (arith, l)) (omega (arith, m)))
       (λ i d l m. c (suc i) d (omega (arith, l)) (omega (arith, m))) (λ i d l m. e (suc i) d (omega (arith, l)) (omega (arith, m))))
 
--- a stable sort leaves the parts of one construct in their order
-pub filter_stable : (old new : List FormPart) (k : ℕ) → IsStableByKey (λ (p : FormPart). p.declared_by) nat_cmp old new → filter (is_part_by k) new ≡ filter (is_part_by k) old
+-- a stable sort keeps the order of the components of one declaration group
+pub filter_stable : (old new : List TypePart) (k : ℕ) → IsStableByKey (λ (p : TypePart). p.declared_by) nat_cmp old new → filter (is_part_by k) new ≡ filter (is_part_by k) old
 filter_stable old new k h =
-    let x : FormPart = record { declared_by = k; number = 0; part = parts.Array } in
-    let e : (p : FormPart) → ties (λ (a b : FormPart). is_lt (nat_cmp a.declared_by b.declared_by)) x p ≡ is_part_by k p = λ p. tied k p.declared_by in
-    ap (λ (t : FormPart → Bool). filter t new) (λ i p. sym (e p) i) ∙ h x ∙ ap (λ (t : FormPart → Bool). filter t old) (λ i p. e p i)
+    let x : TypePart = record { declared_by = k; number = 0; part = parts.Array } in
+    let e : (p : TypePart) → ties (λ (a b : TypePart). is_lt (nat_cmp a.declared_by b.declared_by)) x p ≡ is_part_by k p = λ p. tied k p.declared_by in
+    ap (λ (t : TypePart → Bool). filter t new) (λ i p. sym (e p) i) ∙ h x ∙ ap (λ (t : TypePart → Bool). filter t old) (λ i p. e p i)
   where
     tied : (a b : ℕ) → (not (is_lt (nat_cmp a b)) && not (is_lt (nat_cmp b a))) ≡ eqb b a
     tied a b = grind (arith, nat_tests)
 
--- the parts between the points where their constructs come to this one and where they go beyond it
-pub filter_between : (xs : List FormPart) (k lo hi : ℕ) → IsPartitionPoint (λ p. ltb p.declared_by k ≡ true) (λ p. ltb p.declared_by k ≡ false) xs lo → IsPartitionPoint (λ p. leb p.declared_by k ≡ true) (λ p. leb p.declared_by k ≡ false) xs hi
+-- the components between the two partition points of a declaration group
+pub filter_between : (xs : List TypePart) (k lo hi : ℕ) → IsPartitionPoint (λ p. ltb p.declared_by k ≡ true) (λ p. ltb p.declared_by k ≡ false) xs lo → IsPartitionPoint (λ p. leb p.declared_by k ≡ true) (λ p. leb p.declared_by k ≡ false) xs hi
     → slice_range xs lo hi ≡ filter (is_part_by k) xs
 filter_between xs k lo hi low high =
-    filter_range (λ (p : FormPart). p.declared_by) k xs lo hi (λ i d l m. less _ (low.0 i d (omega arith) l)) (λ i d l m. more _ (low.1 i d l m)) (λ i d l m. at_most _ (high.0 i d (omega arith) l)) (λ i d l m. above _ (high.1 i d l m))
+    filter_range (λ (p : TypePart). p.declared_by) k xs lo hi (λ i d l m. less _ (low.0 i d (omega arith) l)) (λ i d l m. more _ (low.1 i d l m)) (λ i d l m. at_most _ (high.0 i d (omega arith) l)) (λ i d l m. above _ (high.1 i d l m))
   where
     less : (a : ℕ) → ltb a k ≡ true → a < k
     less a e = grind (arith, nat_tests)

@@ -1,9 +1,9 @@
 pub mod Interfaces
 pub mod Texts
-pub mod Rowed
-pub mod Places
+pub mod RowValues
+pub mod IndexEntries
 pub mod Orders
-pub mod Answered
+pub mod Views
 pub mod Indexed
 pub mod Placed
 pub mod OwnTable

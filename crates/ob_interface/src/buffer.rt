@@ -1,26 +1,26 @@
-//! Texts of tokens in one buffer.
+//! Appends names to the buffer.
 ghost use Rattle.std.specs.Prelude.{◌≡◌, ◌++◌, IfOk};
 ghost use Rattle.ob_scan.specs.Spelling.{AreInText};
 ghost use Rattle.ob_interface.specs.Interfaces.{part_of, type_name};
-ghost use Rattle.ob_interface.specs.Texts.{name_in, part_row_in, text_in, IsGrown, TellsOn};
+ghost use Rattle.ob_interface.specs.Texts.{name_in, part_row_in, text_in, IsGrown, DecodesTo};
 
-use crate::rows::{NameRow, PartRow, RowPart, Span};
-use ob_rows::{FormPart, Part};
+use crate::rows::{BufferSpan, NameRow, PartRow, RowPart};
+use module_table::{Part, TypePart};
 use ob_scan::TokenTexts;
 use std::alloc::AllocError;
 
-/// Adds a text to the buffer.
-pub(crate) fn add_text(text: &mut Vec<u8>, more: &[u8]) -> Result<Span, AllocError>
+/// Appends bytes to the buffer and returns their span.
+pub(crate) fn add_text(text: &mut Vec<u8>, more: &[u8]) -> Result<BufferSpan, AllocError>
     ensures grown { IfOk result (λ _. text.new.items ≡ text.old.items ++ more.now) }
-    ensures tells { IfOk result (λ s. TellsOn text_in text.new.items s more.now) }
+    ensures decoded { IfOk result (λ s. DecodesTo text_in text.new.items s more.now) }
 {
     let start = text.len();
     text.extend_from_slice(more)?;
     let end = text.len();
-    Ok(Span { start, end })
+    Ok(BufferSpan { start, end })
 }
 
-/// Adds the texts of a name.
+/// Appends the one or two identifiers of a name.
 pub(crate) fn add_name(
     text: &mut Vec<u8>,
     source: &TokenTexts,
@@ -29,7 +29,7 @@ pub(crate) fn add_name(
 ) -> Result<NameRow, AllocError>
     requires { AreInText source.now.bytes.now source.now.tokens.now }
     ensures grown { IfOk result (λ _. IsGrown text.old.items text.new.items) }
-    ensures tells { IfOk result (λ n. TellsOn name_in text.new.items n (type_name source.now.bytes.now source.now.tokens.now head member)) }
+    ensures decoded { IfOk result (λ n. DecodesTo name_in text.new.items n (type_name source.now.bytes.now source.now.tokens.now head member)) }
 {
     let head = add_text(text, source.of(head))?;
     match member {
@@ -44,15 +44,15 @@ pub(crate) fn add_name(
     }
 }
 
-/// Adds the texts of a part.
+/// Appends the name of a component, if it has one.
 pub(crate) fn add_part(
     text: &mut Vec<u8>,
     source: &TokenTexts,
-    part: FormPart,
+    part: TypePart,
 ) -> Result<PartRow, AllocError>
     requires { AreInText source.now.bytes.now source.now.tokens.now }
     ensures grown { IfOk result (λ _. IsGrown text.old.items text.new.items) }
-    ensures tells { IfOk result (λ p. TellsOn part_row_in text.new.items p (part_of source.now.bytes.now source.now.tokens.now part)) }
+    ensures decoded { IfOk result (λ p. DecodesTo part_row_in text.new.items p (part_of source.now.bytes.now source.now.tokens.now part)) }
     ensures declared_by { IfOk result (λ p. p.declared_by ≡ part.declared_by) }
 {
     let declared_by = part.declared_by;

@@ -1,28 +1,30 @@
-//! The indexes of the rows.
+//! Builds the four sorted indexes of an interface.
 ghost use Rattle.std.specs.Prelude.{◌≡◌, ◌++◌, ◌<◌, ◌≤◌, ◌^◌, Some, IfOk, IsPermutation, length};
-ghost use Rattle.ob_interface.specs.Orders.{alias_entry, base_entry, last_part, member_entry, owner_by, owner_entry, record_of, AreByName, AreByRecord};
-ghost use Rattle.ob_interface.specs.Places.{entries_from};
+ghost use Rattle.ob_interface.specs.Orders.{alias_entry, base_entry, last_part, member_entry, owner_by, owner_entry, record_of_part, AreByName, AreByRecord};
+ghost use Rattle.ob_interface.specs.IndexEntries.{entries_from};
 ghost use Rattle.std.specs.Option.{option_copied, option_to_list};
 
-use crate::answers::parts_between;
-use crate::order::{put_by_name, put_by_record};
-use crate::rows::{BaseRow, DeclarationRow, ImportRow, NamePlace, PartRow, RecordPlace, RowPart};
+use crate::order::{sort_by_name, sort_by_record};
+use crate::rows::{
+    BaseRow, DeclarationRow, ImportRow, NameIndexEntry, PartRow, RecordIndexEntry, RowPart,
+};
+use crate::views::parts_between;
 use std::alloc::{AllocError, Global};
 
-/// The entry of a declaration at this place.
-fn member_entry(row: &DeclarationRow, at: usize) -> NamePlace
+/// The index entry of the declaration with this index.
+fn member_entry(row: &DeclarationRow, at: usize) -> NameIndexEntry
     requires { at < 2 ^ 32 }
     ensures { member_entry row.now at ≡ Some result }
 {
-    NamePlace {
+    NameIndexEntry {
         record: row.record,
         name: row.name,
-        place: at as u32,
+        index: at as u32,
     }
 }
 
-/// An entry for each declaration.
-fn member_entries(alloc: Global, rows: &[DeclarationRow]) -> Result<Vec<NamePlace>, AllocError>
+/// The index entries of all declarations.
+fn member_entries(alloc: Global, rows: &[DeclarationRow]) -> Result<Vec<NameIndexEntry>, AllocError>
     requires { length rows.now ≤ 2 ^ 32 }
     ensures { IfOk result (λ entries. entries.items ≡ entries_from member_entry 0 rows.now) }
 {
@@ -34,20 +36,20 @@ fn member_entries(alloc: Global, rows: &[DeclarationRow]) -> Result<Vec<NamePlac
     Ok(entries)
 }
 
-/// The entry of an import item at this place.
-fn alias_entry(row: &ImportRow, at: usize) -> NamePlace
+/// The index entry of the import item with this index.
+fn alias_entry(row: &ImportRow, at: usize) -> NameIndexEntry
     requires { at < 2 ^ 32 }
     ensures { alias_entry row.now at ≡ Some result }
 {
-    NamePlace {
+    NameIndexEntry {
         record: None,
         name: row.alias,
-        place: at as u32,
+        index: at as u32,
     }
 }
 
-/// An entry for each import item.
-fn alias_entries(alloc: Global, rows: &[ImportRow]) -> Result<Vec<NamePlace>, AllocError>
+/// The index entries of all import items.
+fn alias_entries(alloc: Global, rows: &[ImportRow]) -> Result<Vec<NameIndexEntry>, AllocError>
     requires { length rows.now ≤ 2 ^ 32 }
     ensures { IfOk result (λ entries. entries.items ≡ entries_from alias_entry 0 rows.now) }
 {
@@ -59,19 +61,19 @@ fn alias_entries(alloc: Global, rows: &[ImportRow]) -> Result<Vec<NamePlace>, Al
     Ok(entries)
 }
 
-/// The entry of a base at this place.
-fn base_entry(row: &BaseRow, at: usize) -> RecordPlace
+/// The index entry of the base with this index.
+fn base_entry(row: &BaseRow, at: usize) -> RecordIndexEntry
     requires { at < 2 ^ 32 }
     ensures { base_entry row.now at ≡ Some result }
 {
-    RecordPlace {
+    RecordIndexEntry {
         record: row.record,
-        place: at as u32,
+        index: at as u32,
     }
 }
 
-/// An entry for each base.
-fn base_entries(alloc: Global, rows: &[BaseRow]) -> Result<Vec<RecordPlace>, AllocError>
+/// The index entries of all bases.
+fn base_entries(alloc: Global, rows: &[BaseRow]) -> Result<Vec<RecordIndexEntry>, AllocError>
     requires { length rows.now ≤ 2 ^ 32 }
     ensures { IfOk result (λ entries. entries.items ≡ entries_from base_entry 0 rows.now) }
 {
@@ -83,9 +85,9 @@ fn base_entries(alloc: Global, rows: &[BaseRow]) -> Result<Vec<RecordPlace>, All
     Ok(entries)
 }
 
-/// The record that a part is.
-fn record_of(part: Option<&PartRow>) -> Option<u32>
-    ensures { result ≡ record_of (option_copied part.entry) }
+/// The record of a component, if the component is one.
+fn record_of_part(part: Option<&PartRow>) -> Option<u32>
+    ensures { result ≡ record_of_part (option_copied part.entry) }
 {
     match part?.part {
         RowPart::Record(record) => Some(record),
@@ -93,16 +95,16 @@ fn record_of(part: Option<&PartRow>) -> Option<u32>
     }
 }
 
-/// The record in which the form of a declaration ends.
-fn owned_by(parts: &[PartRow], row: &DeclarationRow) -> Option<u32>
-    ensures { result ≡ record_of (last_part parts.now row.now) }
+/// The record in which the type expression of a declaration ends.
+fn owned_record(parts: &[PartRow], row: &DeclarationRow) -> Option<u32>
+    ensures { result ≡ record_of_part (last_part parts.now row.now) }
 {
-    record_of(parts_between(parts, row.first_part, row.parts_end).last())
+    record_of_part(parts_between(parts, row.first_part, row.parts_end).last())
 }
 
-/// Adds an entry for a declaration whose form ends in a record.
+/// Appends an index entry if the type expression of the declaration ends in a record.
 fn add_owner(
-    owners: &mut Vec<RecordPlace>,
+    owners: &mut Vec<RecordIndexEntry>,
     record: Option<u32>,
     at: usize,
 ) -> Result<(), AllocError>
@@ -112,82 +114,85 @@ fn add_owner(
     match record {
         None => Ok(()),
         Some(record) => {
-            let place = at as u32;
-            owners.push(RecordPlace { record, place })?;
+            let index = at as u32;
+            owners.push(RecordIndexEntry { record, index })?;
             Ok(())
         }
     }
 }
 
-/// An entry for each declaration whose form ends in a record.
+/// The index entries of all declarations whose type expression ends in a record.
 fn owner_entries(
     alloc: Global,
     parts: &[PartRow],
     rows: &[DeclarationRow],
-) -> Result<Vec<RecordPlace>, AllocError>
+) -> Result<Vec<RecordIndexEntry>, AllocError>
     requires { length rows.now ≤ 2 ^ 32 }
     ensures { IfOk result (λ entries. entries.items ≡ entries_from (owner_entry parts.now) 0 rows.now) }
 {
     let mut entries = Vec::new(alloc);
     for i in 0..rows.len() {
-        let record = owned_by(parts, &rows[i]);
+        let record = owned_record(parts, &rows[i]);
         add_owner(&mut entries, record, i)?;
     }
     Ok(entries)
 }
 
-/// The declarations in the order of their records, names and places.
-pub(crate) fn members_of(
+/// The index of the declarations, sorted by record, name and index.
+pub(crate) fn sorted_members(
     alloc: Global,
     text: &[u8],
     rows: &[DeclarationRow],
-) -> Result<Vec<NamePlace>, AllocError>
+) -> Result<Vec<NameIndexEntry>, AllocError>
     requires { length rows.now ≤ 2 ^ 32 }
     ensures sorted { IfOk result (λ entries. AreByName text.now entries.items) }
     ensures same { IfOk result (λ entries. IsPermutation (entries_from member_entry 0 rows.now) entries.items) }
 {
     let mut entries = member_entries(alloc, rows)?;
-    put_by_name(text, &mut entries);
+    sort_by_name(text, &mut entries);
     Ok(entries)
 }
 
-/// The import items in the order of their aliases and places.
-pub(crate) fn aliases_of(
+/// The index of the import items, sorted by alias and index.
+pub(crate) fn sorted_aliases(
     alloc: Global,
     text: &[u8],
     rows: &[ImportRow],
-) -> Result<Vec<NamePlace>, AllocError>
+) -> Result<Vec<NameIndexEntry>, AllocError>
     requires { length rows.now ≤ 2 ^ 32 }
     ensures sorted { IfOk result (λ entries. AreByName text.now entries.items) }
     ensures same { IfOk result (λ entries. IsPermutation (entries_from alias_entry 0 rows.now) entries.items) }
 {
     let mut entries = alias_entries(alloc, rows)?;
-    put_by_name(text, &mut entries);
+    sort_by_name(text, &mut entries);
     Ok(entries)
 }
 
-/// The bases in the order of their records and places.
-pub(crate) fn bases_of(alloc: Global, rows: &[BaseRow]) -> Result<Vec<RecordPlace>, AllocError>
+/// The index of the bases, sorted by record and index.
+pub(crate) fn sorted_bases(
+    alloc: Global,
+    rows: &[BaseRow],
+) -> Result<Vec<RecordIndexEntry>, AllocError>
     requires { length rows.now ≤ 2 ^ 32 }
     ensures sorted { IfOk result (λ entries. AreByRecord entries.items) }
     ensures same { IfOk result (λ entries. IsPermutation (entries_from base_entry 0 rows.now) entries.items) }
 {
     let mut entries = base_entries(alloc, rows)?;
-    put_by_record(&mut entries);
+    sort_by_record(&mut entries);
     Ok(entries)
 }
 
-/// The declarations whose forms end in a record, in the order of their records and places.
-pub(crate) fn owners_of(
+/// The index of the declarations whose type expression ends in a record, sorted by record and index.
+pub(crate) fn sorted_owners(
     alloc: Global,
     parts: &[PartRow],
     rows: &[DeclarationRow],
-) -> Result<Vec<RecordPlace>, AllocError>
+) -> Result<Vec<RecordIndexEntry>, AllocError>
     requires { length rows.now ≤ 2 ^ 32 }
     ensures sorted { IfOk result (λ entries. AreByRecord entries.items) }
     ensures same { IfOk result (λ entries. IsPermutation (entries_from (owner_entry parts.now) 0 rows.now) entries.items) }
 {
     let mut entries = owner_entries(alloc, parts, rows)?;
-    put_by_record(&mut entries);
+    sort_by_record(&mut entries);
     Ok(entries)
 }

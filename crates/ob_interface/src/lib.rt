@@ -1,20 +1,22 @@
-//! What other modules see of a module, as one value with its texts in one buffer.
-//! Stands on `ob_rows` and `ob_scan`.
-//! Its contract: the interface is exactly what the rows of the module's table say of its block.
+//! The interface of a module, what other modules can refer to, as one value that owns its names in one buffer.
+//! It contains unexported declarations too, since exported ones may have their types.
+//! Depends on `module_table` for the table of the module and on `ob_scan` for the spelling of tokens.
+//! Main calls: `exports_of` returns exactly the declarations, bases and imports in the module's block that its table lists.
+//! `Interface::new` adds sorted indexes; a look-up by name or record is then one binary search.
 #![tactic(auto)]
 
-mod answers;
 mod buffer;
 mod entries;
-mod forms;
+mod export_rows;
 mod interface;
 pub mod laws;
 mod members;
+mod module_level;
 mod order;
-mod outers;
 mod rows;
-mod seeing;
+mod type_exprs;
+mod views;
 
-pub use answers::{Base, Declaration, Form, Part, TypeName};
+pub use export_rows::{Exports, exports_of};
 pub use interface::Interface;
-pub use seeing::{Seen, seen_of};
+pub use views::{Base, Declaration, Part, TypeExpr, TypeName};

@@ -1,17 +1,17 @@
-//! Entries of the indexes, in the order of their keys and places, and looked up in it.
+//! The order of index entries, and binary search in it.
 ghost use Rattle.std.specs.Prelude.{◌≡◌, Contains, IfSome, IfNone, IsPermutation};
 ghost use Rattle.std.specs.Ordering.{nat_cmp};
-ghost use Rattle.ob_interface.specs.Orders.{key_cmp, name_key, place_by_name, record_key, place_by_record, AreByName, AreByRecord};
-ghost use Rattle.ob_interface.specs.Places.{rank_cmp, IsLeastPlace};
+ghost use Rattle.ob_interface.specs.Orders.{key_cmp, name_key, index_by_name, record_key, index_by_record, AreByName, AreByRecord};
+ghost use Rattle.ob_interface.specs.IndexEntries.{rank_cmp, IsSmallestIndex};
 ghost use Rattle.ob_interface.specs.Texts.{text_in};
-ghost use Rattle.ob_interface.specs.declared.rows.NamePlace.{NamePlace as NameEntry};
-ghost use Rattle.ob_interface.specs.declared.rows.RecordPlace.{RecordPlace as RecordEntry};
+ghost use Rattle.ob_interface.specs.declared.rows.NameIndexEntry.{NameIndexEntry as NameEntry};
+ghost use Rattle.ob_interface.specs.declared.rows.RecordIndexEntry.{RecordIndexEntry as RecordEntry};
 
-use crate::rows::{NamePlace, RecordPlace, Span};
+use crate::rows::{BufferSpan, NameIndexEntry, RecordIndexEntry};
 use std::cmp::Ordering;
 
-/// The text of a span; what stands beyond the buffer is left out.
-pub(crate) fn text_of(text: &[u8], span: Span) -> &[u8]
+/// The bytes of a span; offsets beyond the buffer are ignored.
+pub(crate) fn text_of(text: &[u8], span: BufferSpan) -> &[u8]
     ensures { result.now ≡ text_in text.now span }
 {
     let rest = &text[span.start.min(text.len())..];
@@ -19,8 +19,8 @@ pub(crate) fn text_of(text: &[u8], span: Span) -> &[u8]
     &rest[..length.min(rest.len())]
 }
 
-/// How an entry stands to a record, or the block, and a name.
-fn compare(text: &[u8], entry: &NamePlace, record: Option<u32>, name: &[u8]) -> Ordering
+/// Compares the key of an entry with a record, or the block, and a name.
+fn compare(text: &[u8], entry: &NameIndexEntry, record: Option<u32>, name: &[u8]) -> Ordering
     ensures { result ≡ key_cmp (name_key text.now entry.now) («record», name.now) }
 {
     match entry.record.cmp(&record) {
@@ -30,53 +30,53 @@ fn compare(text: &[u8], entry: &NamePlace, record: Option<u32>, name: &[u8]) -> 
     }
 }
 
-/// How two entries stand to each other.
-fn compare_names(text: &[u8], a: &NamePlace, b: &NamePlace) -> Ordering
-    ensures { result ≡ rank_cmp key_cmp (name_key text.now) place_by_name a.now b.now }
+/// Compares two entries by record, name and index.
+fn compare_names(text: &[u8], a: &NameIndexEntry, b: &NameIndexEntry) -> Ordering
+    ensures { result ≡ rank_cmp key_cmp (name_key text.now) index_by_name a.now b.now }
 {
     match compare(text, a, b.record, text_of(text, b.name)) {
-        Ordering::Equal => a.place.cmp(&b.place),
+        Ordering::Equal => a.index.cmp(&b.index),
         Ordering::Less => Ordering::Less,
         Ordering::Greater => Ordering::Greater,
     }
 }
 
-/// How two entries stand to each other.
-fn compare_records(a: &RecordPlace, b: &RecordPlace) -> Ordering
-    ensures { result ≡ rank_cmp nat_cmp record_key place_by_record a.now b.now }
+/// Compares two entries by record and index.
+fn compare_records(a: &RecordIndexEntry, b: &RecordIndexEntry) -> Ordering
+    ensures { result ≡ rank_cmp nat_cmp record_key index_by_record a.now b.now }
 {
     match a.record.cmp(&b.record) {
-        Ordering::Equal => a.place.cmp(&b.place),
+        Ordering::Equal => a.index.cmp(&b.index),
         Ordering::Less => Ordering::Less,
         Ordering::Greater => Ordering::Greater,
     }
 }
 
-/// Puts entries in the order of their records, names and places.
-pub(crate) fn put_by_name(text: &[u8], entries: &mut Vec<NamePlace>)
+/// Sorts entries by record, name and index.
+pub(crate) fn sort_by_name(text: &[u8], entries: &mut Vec<NameIndexEntry>)
     ensures sorted { AreByName text.now entries.new.items }
     ensures same { IsPermutation entries.old.items entries.new.items }
 {
     entries.sort_unstable_by(|a, b| compare_names(text, a, b));
 }
 
-/// Puts entries in the order of their records and places.
-pub(crate) fn put_by_record(entries: &mut Vec<RecordPlace>)
+/// Sorts entries by record and index.
+pub(crate) fn sort_by_record(entries: &mut Vec<RecordIndexEntry>)
     ensures sorted { AreByRecord entries.new.items }
     ensures same { IsPermutation entries.old.items entries.new.items }
 {
     entries.sort_unstable_by(|a, b| compare_records(a, b));
 }
 
-/// The least place of this name in this record, or in the block.
+/// The smallest index with this name in this record, or in the block, by binary search.
 pub(crate) fn first_by_name(
     text: &[u8],
-    entries: &[NamePlace],
+    entries: &[NameIndexEntry],
     record: Option<u32>,
     name: &[u8],
 ) -> Option<u32>
     requires { AreByName text.now entries.now }
-    ensures found { IfSome result (IsLeastPlace (name_key text.now) place_by_name entries.now («record», name.now)) }
+    ensures found { IfSome result (IsSmallestIndex (name_key text.now) index_by_name entries.now («record», name.now)) }
     ensures none { IfNone result ((e : NameEntry) → Contains entries.now e → name_key text.now e ≡ («record», name.now) → ⊥) }
 {
     let at = entries.partition_point(|entry| compare(text, entry, record, name).is_lt());
@@ -85,16 +85,16 @@ pub(crate) fn first_by_name(
     }
     let entry = entries[at];
     if compare(text, &entry, record, name).is_eq() {
-        Some(entry.place)
+        Some(entry.index)
     } else {
         None
     }
 }
 
-/// The least place of this record.
-pub(crate) fn first_by_record(entries: &[RecordPlace], record: u32) -> Option<u32>
+/// The smallest index with this record, by binary search.
+pub(crate) fn first_by_record(entries: &[RecordIndexEntry], record: u32) -> Option<u32>
     requires { AreByRecord entries.now }
-    ensures found { IfSome result (IsLeastPlace record_key place_by_record entries.now «record») }
+    ensures found { IfSome result (IsSmallestIndex record_key index_by_record entries.now «record») }
     ensures none { IfNone result ((e : RecordEntry) → Contains entries.now e → record_key e ≡ «record» → ⊥) }
 {
     let at = entries.partition_point(|entry| entry.record.cmp(&record).is_lt());
@@ -103,7 +103,7 @@ pub(crate) fn first_by_record(entries: &[RecordPlace], record: u32) -> Option<u3
     }
     let entry = entries[at];
     if entry.record.cmp(&record).is_eq() {
-        Some(entry.place)
+        Some(entry.index)
     } else {
         None
     }

@@ -1,47 +1,47 @@
-//! Rows of numbers and spans over one buffer of text.
+//! The entries of an interface: numbers, and spans of one buffer of names.
 
-use ob_rows::Sort;
+use module_table::DeclKind;
 use std::alloc::Global;
 
-/// A part of the buffer: from one offset to another, in bytes.
+/// A range of the buffer, as two byte offsets.
 #[derive(Clone, Copy, Drop)]
-pub(crate) struct Span {
+pub(crate) struct BufferSpan {
     pub(crate) start: usize,
     pub(crate) end: usize,
 }
 
-/// A name of one identifier, or of two with a dot between them.
+/// A name of one identifier, or a qualified name of two.
 #[derive(Clone, Copy, Drop)]
 pub(crate) struct NameRow {
-    pub(crate) head: Span,
-    pub(crate) member: Option<Span>,
+    pub(crate) head: BufferSpan,
+    pub(crate) member: Option<BufferSpan>,
 }
 
-/// A part of a form.
+/// A component of a type expression.
 #[derive(Clone, Copy, Drop)]
 pub(crate) enum RowPart {
     Array,
     Pointer,
-    /// A record, by its RECORD.
+    /// A record type, by the token number of its RECORD keyword.
     Record(u32),
     Procedure,
-    /// A name, and where it begins in the file, in bytes.
+    /// A type's name, with its byte offset in the file.
     Named { start: u32, name: NameRow },
 }
 
-/// A part of the form that a declaration gives, by the first token of that.
+/// A component with the first token of its declaration group.
 #[derive(Clone, Copy, Drop)]
 pub(crate) struct PartRow {
     pub(crate) declared_by: u32,
     pub(crate) part: RowPart,
 }
 
-/// A declaration; its form is the parts from one place up to another.
+/// A declaration. Its type expression has the components from index `first_part` to before `parts_end`.
 #[derive(Clone, Copy, Drop)]
 pub(crate) struct DeclarationRow {
-    pub(crate) name: Span,
+    pub(crate) name: BufferSpan,
     pub(crate) start: u32,
-    pub(crate) sort: Sort,
+    pub(crate) decl_kind: DeclKind,
     pub(crate) exported: bool,
     pub(crate) record: Option<u32>,
     pub(crate) declared_by: u32,
@@ -60,44 +60,44 @@ pub(crate) struct BaseRow {
 /// An import item.
 #[derive(Clone, Copy, Drop)]
 pub(crate) struct ImportRow {
-    pub(crate) alias: Span,
+    pub(crate) alias: BufferSpan,
     pub(crate) start: u32,
-    pub(crate) imported: Span,
+    pub(crate) imported: BufferSpan,
 }
 
-/// The place of a declaration or of an import item, with the record in which it stands, if any, and its name.
+/// An index entry by name: the record, if any, and the name of a declaration or import item, with its index.
 #[derive(Clone, Copy, Drop)]
-pub(crate) struct NamePlace {
+pub(crate) struct NameIndexEntry {
     pub(crate) record: Option<u32>,
-    pub(crate) name: Span,
-    pub(crate) place: u32,
+    pub(crate) name: BufferSpan,
+    pub(crate) index: u32,
 }
 
-/// The place of the base of a record, or of a declaration that owns one, with the record.
+/// An index entry by record: the record, with the index of its base or of a declaration that owns it.
 #[derive(Clone, Copy, Drop)]
-pub(crate) struct RecordPlace {
+pub(crate) struct RecordIndexEntry {
     pub(crate) record: u32,
-    pub(crate) place: u32,
+    pub(crate) index: u32,
 }
 
-/// All rows of a module, with the buffer of their texts.
+/// The entries of an interface, with the buffer of their names.
 #[derive(Drop)]
 pub(crate) struct Rows {
     pub(crate) text: Vec<u8>,
-    pub(crate) name: Span,
+    pub(crate) name: BufferSpan,
     pub(crate) declarations: Vec<DeclarationRow>,
-    /// Those of one declaration stand together, outermost first.
+    /// The components of one declaration group are adjacent, from the outermost to the innermost.
     pub(crate) parts: Vec<PartRow>,
     pub(crate) bases: Vec<BaseRow>,
     pub(crate) imports: Vec<ImportRow>,
 }
 
 impl Rows {
-    /// No rows.
+    /// An interface without entries.
     pub(crate) fn new(alloc: Global) -> Rows {
         Rows {
             text: Vec::new(alloc),
-            name: Span { start: 0, end: 0 },
+            name: BufferSpan { start: 0, end: 0 },
             declarations: Vec::new(alloc),
             parts: Vec::new(alloc),
             bases: Vec::new(alloc),

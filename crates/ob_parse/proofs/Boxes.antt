@@ -3,15 +3,15 @@ use Rattle.std.proofs.Common.{◌≡◌, List, Ok, Err}
 use Rattle.std.specs.Global.{Box}
 use Rattle.std.specs.Prelude.{IfErr, IfOk, Result}
 use Rattle.ob_scan.specs.declared.token.Token.{Token}
-use Rattle.ob_tree.specs.Marks.{Out}
+use Rattle.ob_tree.specs.TreeEvents.{Events}
 use Rattle.ob_parse.specs.declared.cursor.Cursor.{Cursor}
 use Rattle.ob_parse.specs.declared.stop.Stop.{Stop}
 use Rattle.ob_parse.specs.declared.stop.Stop.TheVariants as stops
-use Rattle.ob_parse.specs.Forms.{Read}
-use Rattle.ob_parse.specs.Accords.{Accords, ahead}
+use Rattle.ob_parse.specs.Combinators.{Read}
+use Rattle.ob_parse.specs.AgreesWith.{AgreesWith, remaining}
 
 -- the box that is answered has the value, or memory ran out
-pub gives_boxed : {T : Type 0} (ts : List Token) (view : T → Out) (of : T) (rest : Cursor) (r : Result (Box T × Cursor) Stop) (read : Read)
-    → IfOk r (λ b. (b.0.value ≡ of) × (b.1 ≡ rest)) → IfErr r (λ stop. stop ≡ stops.Memory) → read ≡ Ok (view of, ahead ts rest) → Accords ts (λ b. (view b.0.value, ahead ts b.1)) r read
+pub gives_boxed : {T : Type 0} (ts : List Token) (view : T → Events) (of : T) (rest : Cursor) (r : Result (Box T × Cursor) Stop) (read : Read)
+    → IfOk r (λ b. (b.0.value ≡ of) × (b.1 ≡ rest)) → IfErr r (λ stop. stop ≡ stops.Memory) → read ≡ Ok (view of, remaining ts rest) → AgreesWith ts (λ b. (view b.0.value, remaining ts b.1)) r read
 gives_boxed ts view of rest (Ok b) read is refused e = rw (is.0, is.1) e
 gives_boxed ts view of rest (Err stop) read is refused e = rw refused tt

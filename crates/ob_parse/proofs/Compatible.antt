@@ -6,15 +6,15 @@ use Rattle.ob_tree.specs.declared.role.Role.{Role}
 use Rattle.ob_tree.specs.declared.role.Role.TheVariants.{Repeats}
 use Rattle.ob_tree.specs.declared.token.Leaf.{Leaf}
 use Rattle.ob_tree.specs.declared.token.Leaf.TheVariants as leafs
-use Rattle.ob_tree.specs.Leaves.{same_kind}
+use Rattle.ob_tree.specs.Leaves.{kind_eq}
 use Rattle.ob_tree.specs.Constructs.{Construct, is_level}
-use Rattle.ob_tree.specs.Marks.{Identifier, Value, Out, construct, word}
+use Rattle.ob_tree.specs.TreeEvents.{Identifier, Value, Events, construct, word}
 use Rattle.ob_tree.proofs.Same.{same_is}
-use Rattle.ob_parse.specs.Front.{uncons, front, is_word}
-use Rattle.ob_parse.specs.Forms.{Unexpected, TooDeep, ◌>>=◌, Read, Reader, Front, Start, expect_at, accept_at, identifier_at, name_at, behind_name, begins, unless, nothing, seq, prefixed, node, if_found, optional, so_often, many, several, limit_at}
+use Rattle.ob_parse.specs.Lookahead.{uncons, head_is, is_word}
+use Rattle.ob_parse.specs.Combinators.{Unexpected, TooDeep, ◌>>=◌, Read, Reader, Lookahead, Start, expect_at, accept_at, identifier_at, name_at, after_name, begins, unless, nothing, seq, prefixed, node, after_start, optional, repeat_up_to, many, several, limit_at}
 use Rattle.ob_parse.proofs.Needs.{Needs}
 
--- a name after END, where it is known that an identifier of this number was read before, or any other name
+-- a name after END, if it is known that an identifier of this number was read before, or any other name
 abbrev pub IsTold : (ℕ → Type 0) → Role → Type 0
 IsTold N (Repeats m) = N m
 IsTold N role = Unit {0}
@@ -34,17 +34,17 @@ pub record IsCompatible (N : ℕ → Type 0) (Q : ℕ → List Leaf → Read →
   pub a_word : {d : ℕ} (k : Kind) (rest : List Leaf) → Q d (leafs.Word k ∷ rest) (Ok (word k, rest)) (Ok (word k, rest))
   pub a_value : {d : ℕ} (k : Literal) (n : ℕ) (rest : List Leaf) → Q d (leafs.Value k n ∷ rest) (Ok (Value k n ∷ [], rest)) (Ok (Value k n ∷ [], rest))
   pub a_name : {d : ℕ} (role : Role) → IsTold N role → (n : ℕ) (rest : List Leaf) → Q d (leafs.Name n ∷ rest) (Ok (Identifier role n ∷ [], rest)) (Ok (Identifier role n ∷ [], rest))
-  pub known : {d n : ℕ} {rest : List Leaf} {a b : Read} → (N n → Q d (leafs.Name n ∷ rest) a b) → Q d (leafs.Name n ∷ rest) a b
+  pub in_range : {d n : ℕ} {rest : List Leaf} {a b : Read} → (N n → Q d (leafs.Name n ∷ rest) a b) → Q d (leafs.Name n ∷ rest) a b
 
--- what these read is related, where the tokens before were read already
+-- what these read is related, if the tokens before were read already
 pub record Related (Q : ℕ → List Leaf → Read → Read → Type 0) (d : ℕ) (before : List Leaf) (r s : Reader) : Type 0 where
   pub at : (ls : List Leaf) → Q d (before ++ ls) (r ls) (s ls)
 
-abbrev pub Started : (ℕ → List Leaf → Read → Read → Type 0) → ℕ → List Leaf → Front Out → Type 0
+abbrev pub Started : (ℕ → List Leaf → Read → Read → Type 0) → ℕ → List Leaf → Lookahead Events → Type 0
 Started Q d ls None = Unit {0}
 Started Q d ls (Some x) = Q d ls (Ok x) (Ok x)
 
--- a front, where one is found, is related to itself
+-- a prefix, if one is found, is related to itself
 pub record Starts (Q : ℕ → List Leaf → Read → Read → Type 0) (d : ℕ) (start : Start) : Type 0 where
   pub at : (ls : List Leaf) → Started Q d ls (start ls)
 
@@ -61,28 +61,28 @@ module _ {N : ℕ → Type 0} {Q : ℕ → List Leaf → Read → Read → Type 
   pub level_held : {d : ℕ} {before : List Leaf} {r s : Reader} (k : Construct) → is_level k ≡ true → Related Q d before r s → Related Q (suc d) before (node k r) (node k s)
   level_held k e p = record { at = λ ls. c.level k e (p.at ls) }
 
-  -- behind a token
+  -- after a token
 
   pub word_held : {d : ℕ} {r s : Reader} (k : Kind) → Related Q d [] r s → Related Q d (leafs.Word k ∷ []) (prefixed (word k) r) (prefixed (word k) s)
   word_held k p = record { at = λ ls. c.one_after (c.a_word k ls) p.at }
 
   pub role_held : {d : ℕ} {r s : Reader} (role : Role) → IsTold N role → (n : ℕ) → Related Q d [] r s →
       Related Q d (leafs.Name n ∷ []) (prefixed (Identifier role n ∷ []) r) (prefixed (Identifier role n ∷ []) s)
-  role_held role told n p = record { at = λ ls. c.one_after (c.a_name role told n ls) p.at }
+  role_held role fault_of_stop n p = record { at = λ ls. c.one_after (c.a_name role fault_of_stop n ls) p.at }
 
   pub known_held : {d n : ℕ} {r s : Reader} → (N n → Related Q d (leafs.Name n ∷ []) r s) → Related Q d (leafs.Name n ∷ []) r s
-  known_held p = record { at = λ ls. c.known (λ k. (p k).at ls) }
+  known_held p = record { at = λ ls. c.in_range (λ k. (p k).at ls) }
 
   -- ---- what may be absent, and what is repeated
 
-  found_held : {d : ℕ} {r s : Reader} (ls : List Leaf) (f : Front Out) → Started Q d ls f → Related Q d [] r s → Q d ls (if_found r ls f) (if_found s ls f)
+  found_held : {d : ℕ} {r s : Reader} (ls : List Leaf) (f : Lookahead Events) → Started Q d ls f → Related Q d [] r s → Q d ls (after_start r ls f) (after_start s ls f)
   found_held ls None t p = c.nothing ls
   found_held ls (Some x) t p = c.one_after t p.at
 
   pub optional_held : {d : ℕ} {start : Start} {r s : Reader} → Starts Q d start → Related Q d [] r s → Related Q d [] (optional start r) (optional start s)
   optional_held {d} {start} {r} {s} t p = record { at = λ ls. found_held {r = r} {s = s} ls (start ls) (t.at ls) p }
 
-  so_often_held : {d : ℕ} {start : Start} {r s : Reader} (n : ℕ) → Starts Q d start → Related Q d [] r s → Related Q d [] (so_often start r n) (so_often start s n)
+  so_often_held : {d : ℕ} {start : Start} {r s : Reader} (n : ℕ) → Starts Q d start → Related Q d [] r s → Related Q d [] (repeat_up_to start r n) (repeat_up_to start s n)
   so_often_held zero t p = record { at = λ ls. c.nothing ls }
   so_often_held (suc n) t p = optional_held t (seq_held p (so_often_held n t p))
 
@@ -92,35 +92,35 @@ module _ {N : ℕ → Type 0} {Q : ℕ → List Leaf → Read → Read → Type 
 
   -- ---- tokens
 
-  word_here : {d : ℕ} (k j : Kind) (rest : List Leaf) → same_kind j k ≡ true → Q d (leafs.Word j ∷ rest) (Ok (word k, rest)) (Ok (word k, rest))
+  word_here : {d : ℕ} (k j : Kind) (rest : List Leaf) → kind_eq j k ≡ true → Q d (leafs.Word j ∷ rest) (Ok (word k, rest)) (Ok (word k, rest))
   word_here {d} k j rest e = subst (λ (i : Kind). Q d (leafs.Word i ∷ rest) (Ok (word k, rest)) (Ok (word k, rest))) (sym (same_is j k e)) (c.a_word k rest)
 
-  expected_held : {d : ℕ} (k j : Kind) (rest : List Leaf) (b : Bool) → same_kind j k ≡ b →
+  expected_held : {d : ℕ} (k j : Kind) (rest : List Leaf) (b : Bool) → kind_eq j k ≡ b →
       Q d (leafs.Word j ∷ rest) (cond b (Ok (word k, rest)) (Err (Unexpected (Some (leafs.Word j, rest))))) (cond b (Ok (word k, rest)) (Err (Unexpected (Some (leafs.Word j, rest)))))
   expected_held k j rest true e = word_here k j rest e
   expected_held k j rest false e = c.wrong _
 
   expect_read : {d : ℕ} (k : Kind) (ls : List Leaf) → Q d ls (expect_at k ls) (expect_at k ls)
   unfolding expect_at
-  expect_read k (leafs.Word j ∷ rest) = expected_held k j rest (same_kind j k) refl
+  expect_read k (leafs.Word j ∷ rest) = expected_held k j rest (kind_eq j k) refl
   expect_read k ls = c.wrong _
 
   pub expect_held : {d : ℕ} (k : Kind) → Related Q d [] (expect_at k) (expect_at k)
   expect_held k = record { at = expect_read k }
 
-  accepted_held : (d : ℕ) (k j : Kind) (rest : List Leaf) (b : Bool) → same_kind j k ≡ b → Started Q d (leafs.Word j ∷ rest) (cond b (Some (word k, rest)) None)
+  accepted_held : (d : ℕ) (k j : Kind) (rest : List Leaf) (b : Bool) → kind_eq j k ≡ b → Started Q d (leafs.Word j ∷ rest) (cond b (Some (word k, rest)) None)
   accepted_held d k j rest true e = word_here k j rest e
   accepted_held d k j rest false e = tt
 
   accept_started : (d : ℕ) (k : Kind) (ls : List Leaf) → Started Q d ls (accept_at k ls)
   unfolding accept_at
-  accept_started d k (leafs.Word j ∷ rest) = accepted_held d k j rest (same_kind j k) refl
+  accept_started d k (leafs.Word j ∷ rest) = accepted_held d k j rest (kind_eq j k) refl
   accept_started d k ls = tt
 
   pub accept_starts : {d : ℕ} (k : Kind) → Starts Q d (accept_at k)
   accept_starts k = record { at = accept_started _ k }
 
-  -- a start that takes nothing, where b is what it tests
+  -- a start that takes nothing, if b is what it tests
 
   begun : (d : ℕ) (b : Bool) (ls : List Leaf) → Started Q d ls (cond b (Some ([], ls)) None)
   begun d true ls = c.nothing ls
@@ -132,11 +132,11 @@ module _ {N : ℕ → Type 0} {Q : ℕ → List Leaf → Read → Read → Type 
 
   pub begins_starts : {d : ℕ} (p : Leaf → Bool) → Starts Q d (begins p)
   unfolding begins
-  begins_starts p = record { at = λ ls. begun _ (front p (uncons ls)) ls }
+  begins_starts p = record { at = λ ls. begun _ (head_is p (uncons ls)) ls }
 
   pub unless_starts : {d : ℕ} (k : Kind) → Starts Q d (unless k)
   unfolding unless
-  unless_starts k = record { at = λ ls. not_begun _ (front (is_word k) (uncons ls)) ls }
+  unless_starts k = record { at = λ ls. not_begun _ (head_is (is_word k) (uncons ls)) ls }
 
   pub several_held : {d : ℕ} {r s : Reader} (k : Kind) → Related Q d [] r s → Related Q d [] (several k r) (several k s)
   unfolding several
@@ -144,25 +144,25 @@ module _ {N : ℕ → Type 0} {Q : ℕ → List Leaf → Read → Read → Type 
 
   -- ---- names
 
-  read_behind : {d : ℕ} (r s : ℕ → Reader) → ((n : ℕ) → Related Q d (leafs.Name n ∷ []) (r n) (s n)) → (ls : List Leaf) → Q d ls (behind_name r ls) (behind_name s ls)
+  read_behind : {d : ℕ} (r s : ℕ → Reader) → ((n : ℕ) → Related Q d (leafs.Name n ∷ []) (r n) (s n)) → (ls : List Leaf) → Q d ls (after_name r ls) (after_name s ls)
   unfolding identifier_at
   read_behind r s p (leafs.Name n ∷ rest) = (p n).at rest
   read_behind r s p ls = c.wrong _
 
-  pub behind_name_held : {d : ℕ} {r s : ℕ → Reader} → ((n : ℕ) → Related Q d (leafs.Name n ∷ []) (r n) (s n)) → Related Q d [] (behind_name r) (behind_name s)
+  pub behind_name_held : {d : ℕ} {r s : ℕ → Reader} → ((n : ℕ) → Related Q d (leafs.Name n ∷ []) (r n) (s n)) → Related Q d [] (after_name r) (after_name s)
   behind_name_held {d} {r} {s} p = record { at = read_behind r s p }
 
-  -- what is read behind an identifier as one of this role
+  -- what is read after an identifier as one of this role
   abbrev only : Role → ℕ → Reader
   only role n ls = Ok (Identifier role n ∷ [], ls)
 
   pub name_held : {d : ℕ} (role : Role) → IsTold N role → Related Q d [] (name_at (λ n. Identifier role n ∷ [])) (name_at (λ n. Identifier role n ∷ []))
   unfolding name_at
-  name_held role told = behind_name_held {r = only role} {s = only role} (λ n. record { at = λ ls. c.a_name role told n ls })
+  name_held role fault_of_stop = behind_name_held {r = only role} {s = only role} (λ n. record { at = λ ls. c.a_name role fault_of_stop n ls })
 
   -- ---- the limit of depth
 
-  -- where b, this is too deep, and else both are a
+  -- if b, this is too deep, and else both are a
   pub unless_deep : {from : List Leaf} {read : Read} (x : Leaf × List Leaf) (a : Read) (b : Bool) → Q zero from a a → (b ≡ false → read ≡ a) → Q zero from (cond b (Err (TooDeep x)) a) read
   unless_deep x a true p h = c.deep x
   unless_deep {from} {read} x a false p h = subst (λ (z : Read). Q zero from a z) (sym (h refl)) p

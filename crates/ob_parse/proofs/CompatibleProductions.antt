@@ -7,15 +7,15 @@ use Rattle.ob_tree.specs.declared.role.Role.TheVariants.{Declares, Aliases, Impo
 use Rattle.ob_tree.specs.declared.token.Leaf.{Leaf}
 use Rattle.ob_tree.specs.declared.token.Leaf.TheVariants as leafs
 use Rattle.ob_tree.specs.Constructs as constructs
-use Rattle.ob_tree.specs.Marks.{construct, word, named}
+use Rattle.ob_tree.specs.TreeEvents.{construct, word, named}
 use Rattle.ob_tree.specs.Expressions.{relation_kind, sign_kind, add_kind, mul_kind}
-use Rattle.ob_parse.specs.Front.{uncons, is_word}
-use Rattle.ob_parse.specs.Forms.{Read, Reader, expect_at, accept_at, behind_name, unless, seq, prefixed, node, optional, several}
+use Rattle.ob_parse.specs.Lookahead.{uncons, is_word}
+use Rattle.ob_parse.specs.Combinators.{Read, Reader, expect_at, accept_at, after_name, unless, seq, prefixed, node, optional, several}
 use Rattle.ob_parse.specs.ReadNames.{qualident_after, qualident_at, identdef_after, identdef_at}
 use Rattle.ob_parse.specs.ReadExpressions.{after_relation, after_sign, after_add, after_mul, relation_at, sign_at, add_at, mul_at, as_word, mul_start, add_start, relation_start, sign_start, selector_first, factor_first, expr_first, term_with, sum_with, expr_with, element_with, selector_from, selector_with, designator_with, factor_from, factor_with, expr_at, negated_at}
 use Rattle.ob_parse.specs.ReadStatements.{label_first, statement_first, case_label_at, label_range_at, case_with, block_with, branch_with, if_with, cases_with, while_with, repeat_with, for_with, assign_with, statement_from, statement_with, empty_at, statement_at, block_at}
-use Rattle.ob_parse.specs.ReadTypes.{type_first, section_at, parameters_at, some_parameters_at, var_with, next_field, field_start, fields_with, record_with, type_from, type_with, type_at}
-use Rattle.ob_parse.specs.ReadModules.{is_identifier, const_with, type_decl_with, variable_with, with_semicolon, part_with, procedures_with, declarations_with, body_with, procedure_named, name_then, procedure_with, procedure_at, declarations_at, import_item_at, imports_at, module_behind_name, module_at}
+use Rattle.ob_parse.specs.ReadTypes.{type_first, section_at, parameters_at, some_parameters_at, var_with, field_lookahead, field_start, fields_with, record_with, type_from, type_with, type_at}
+use Rattle.ob_parse.specs.ReadModules.{is_identifier, const_with, type_decl_with, variable_with, with_semicolon, part_with, procedures_with, declarations_with, body_with, procedure_named, name_then, procedure_with, procedure_at, declarations_at, import_item_at, imports_at, module_after_name, module_at}
 use Rattle.ob_parse.proofs.Needs.{IsElseEmpty, node_needs, limit_needs, factor_needs, expr_needs, type_needs, procedure_needs, empty_else, statement_else}
 use Rattle.ob_parse.proofs.Compatible.{IsCompatible, Related, Started, Starts, nothing_held, seq_held, flat_held, level_held, word_held, role_held, known_held, optional_held, many_held, expect_held, accept_starts, begins_starts, unless_starts, several_held, behind_name_held, name_held, unless_deep, limit_held}
 
@@ -30,7 +30,7 @@ module _ {N : ℕ → Type 0} {Q : ℕ → List Leaf → Read → Read → Type 
   unfolding qualident_at
   qualident_held = seq_held c (name_held c Uses tt) (optional_held c (accept_starts c kinds.Dot) (name_held c Completes tt))
 
-  -- a name that is declared, and the star behind it
+  -- a name that is declared, and the star after it
   starred : {d : ℕ} (n : ℕ) (ls : List Leaf) → Q d (leafs.Name n ∷ ls) (identdef_after n ls) (identdef_after n ls)
   unfolding identdef_after accept_at expect_at
   starred n (leafs.Word kinds.Star ∷ rest) = c.one_after (c.a_name (Declares true) tt n (leafs.Word kinds.Star ∷ rest)) (expect_held c kinds.Star).at
@@ -236,7 +236,7 @@ module _ {N : ℕ → Type 0} {Q : ℕ → List Leaf → Read → Read → Type 
   unfolding statement_with
   statement_held p q = record { at = statement_from_held p q }
 
-  -- where a statement begins, it is too deep
+  -- if a statement begins, it is too deep
   empty_at_read : (s : Reader) → IsElseEmpty s → (ls : List Leaf) → Q zero ls (empty_at ls) (s ls)
   unfolding empty_at
   empty_at_read s h [] = subst (λ (z : Read). Q zero [] (Ok (construct constructs.EmptyStatement [], [])) z) (sym (h [] refl)) (empty_read [])
@@ -274,7 +274,7 @@ module _ {N : ℕ → Type 0} {Q : ℕ → List Leaf → Read → Read → Type 
   unfolding var_with
   var_held q = seq_held c (several_held c kinds.Comma identdef_held) (seq_held c (expect_held c kinds.Colon) q)
 
-  field_started : (d : ℕ) (ls : List Leaf) → Started Q d ls (next_field (uncons ls))
+  field_started : (d : ℕ) (ls : List Leaf) → Started Q d ls (field_lookahead (uncons ls))
   field_started d (leafs.Word kinds.Semicolon ∷ leafs.Name n ∷ rest) = c.a_word kinds.Semicolon (leafs.Name n ∷ rest)
   field_started d (leafs.Word kinds.Semicolon ∷ rest) = tt
   field_started d ls = tt
@@ -352,13 +352,13 @@ module _ {N : ℕ → Type 0} {Q : ℕ → List Leaf → Read → Read → Type 
   procedure_named_held : {d : ℕ} {e f b g r s : Reader} → Related Q d [] e f → Related Q d [] b g → Related Q d [] r s → (n : ℕ) → N n →
       Related Q d (leafs.Name n ∷ []) (procedure_named e b r n) (procedure_named f g s n)
   unfolding procedure_named
-  procedure_named_held p q o n known =
+  procedure_named_held p q o n in_range =
       seq_held c (identdef_after_held n) (seq_held c some_parameters_held (seq_held c (expect_held c kinds.Semicolon) (seq_held c o (seq_held c (body_held q)
-      (seq_held c (optional_held c (accept_starts c kinds.Return) p) (seq_held c (expect_held c kinds.End) (name_held c (Repeats n) known)))))))
+      (seq_held c (optional_held c (accept_starts c kinds.Return) p) (seq_held c (expect_held c kinds.End) (name_held c (Repeats n) in_range)))))))
 
-  -- the name of a procedure, and what stands behind it
+  -- the name of a procedure, and what is after it
   pub procedure_name_held : {d : ℕ} {e f b g r s : Reader} → Related Q d [] e f → Related Q d [] b g → Related Q d [] r s →
-      Related Q d [] (behind_name (procedure_named e b r)) (behind_name (procedure_named f g s))
+      Related Q d [] (after_name (procedure_named e b r)) (after_name (procedure_named f g s))
   procedure_name_held p q o = behind_name_held c (λ n. known_held c (procedure_named_held p q o n))
 
   procedure_held : {d : ℕ} {e f b g r s : Reader} → Related Q d [] e f → Related Q d [] b g → Related Q d [] r s → Related Q (suc d) [] (procedure_with e b r) (procedure_with f g s)
@@ -387,15 +387,15 @@ module _ {N : ℕ → Type 0} {Q : ℕ → List Leaf → Read → Read → Type 
   unfolding imports_at
   imports_held = optional_held c (accept_starts c kinds.Import) (seq_held c (several_held c kinds.Comma import_held) (expect_held c kinds.Semicolon))
 
-  module_named_held : (d k : ℕ) → d ≤ k → (n : ℕ) → N n → Related Q d [] (module_behind_name d n) (module_behind_name k n)
-  unfolding module_behind_name
-  module_named_held d k le n known =
+  module_named_held : (d k : ℕ) → d ≤ k → (n : ℕ) → N n → Related Q d [] (module_after_name d n) (module_after_name k n)
+  unfolding module_after_name
+  module_named_held d k le n in_range =
       seq_held c (expect_held c kinds.Semicolon) (seq_held c imports_held (seq_held c (declarations_at_held d k le) (seq_held c (body_held (block_at_held d k le))
-      (seq_held c (expect_held c kinds.End) (seq_held c (name_held c (Repeats n) known) (expect_held c kinds.Dot))))))
+      (seq_held c (expect_held c kinds.End) (seq_held c (name_held c (Repeats n) in_range) (expect_held c kinds.Dot))))))
 
-  module_name_held : (d k : ℕ) → d ≤ k → Related Q d [] (name_then named (module_behind_name d)) (name_then named (module_behind_name k))
-  module_name_held d k le = behind_name_held c {r = λ n. prefixed (named n) (module_behind_name d n)} {s = λ n. prefixed (named n) (module_behind_name k n)}
-      (λ n. known_held c (λ known. role_held c Names tt n (module_named_held d k le n known)))
+  module_name_held : (d k : ℕ) → d ≤ k → Related Q d [] (name_then named (module_after_name d)) (name_then named (module_after_name k))
+  module_name_held d k le = behind_name_held c {r = λ n. prefixed (named n) (module_after_name d n)} {s = λ n. prefixed (named n) (module_after_name k n)}
+      (λ n. known_held c (λ in_range. role_held c Names tt n (module_named_held d k le n in_range)))
 
   pub module_at_held : (d k : ℕ) → d ≤ k → Related Q d [] (module_at d) (module_at k)
   unfolding module_at

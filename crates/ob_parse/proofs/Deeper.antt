@@ -1,8 +1,8 @@
 -- A reader that may go deeper reads the same, unless the other one found it too deep.
 use Rattle.std.proofs.Common.{◌≡◌, ℕ, ◌≤◌, List, ◌++◌, Ok, Err, refl, ap, ◌∙◌, ◌⊎◌, inl, inr}
 use Rattle.ob_tree.specs.declared.token.Leaf.{Leaf}
-use Rattle.ob_tree.specs.Marks.{Out, construct}
-use Rattle.ob_parse.specs.Forms.{TooDeep, ◌>>=◌, Read}
+use Rattle.ob_tree.specs.TreeEvents.{Events, construct}
+use Rattle.ob_parse.specs.Combinators.{TooDeep, ◌>>=◌, Read}
 use Rattle.ob_parse.specs.ReadModules.{module_at}
 use Rattle.ob_parse.proofs.Compatible.{IsCompatible}
 use Rattle.ob_parse.proofs.CompatibleProductions.{module_at_held}
@@ -11,7 +11,7 @@ use Rattle.ob_parse.proofs.CompatibleProductions.{module_at_held}
 abbrev pub Agree : Read → Read → Type 0
 Agree a b = ((x : Leaf × List Leaf) × (a ≡ Err (TooDeep x))) ⊎ (a ≡ b)
 
-then_agree : (a b : Read) (f g : Out × List Leaf → Read) → Agree a b → ((x : Out × List Leaf) → Agree (f x) (g x)) → Agree (a >>= f) (b >>= g)
+then_agree : (a b : Read) (f g : Events × List Leaf → Read) → Agree a b → ((x : Events × List Leaf) → Agree (f x) (g x)) → Agree (a >>= f) (b >>= g)
 then_agree a b f g (inl d) h = inl (d.0, rw d.1 refl)
 then_agree (Ok x) b f g (inr e) h = elim (h x) [ inl d ↦ inl d | inr s ↦ inr (s ∙ ap (λ (y : Read). y >>= g) e) ]
 then_agree (Err x) b f g (inr e) h = inr (ap (λ (y : Read). y >>= g) e)
@@ -26,8 +26,8 @@ agreeing = record {
   level = λ k e p. then_agree _ _ (λ x. Ok (construct k x.0, x.1)) (λ x. Ok (construct k x.0, x.1)) p (λ x. inr refl);
   a_word = λ k rest. inr refl;
   a_value = λ k n rest. inr refl;
-  a_name = λ role told n rest. inr refl;
-  known = λ p. p tt;
+  a_name = λ role fault_of_stop n rest. inr refl;
+  in_range = λ p. p tt;
 }
 
 pub module_at_extends : (d k : ℕ) → d ≤ k → (ls : List Leaf) → Agree (module_at d ls) (module_at k ls)

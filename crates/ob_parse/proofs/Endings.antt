@@ -11,11 +11,11 @@ use Rattle.ob_tree.specs.declared.token.Leaf.{Leaf}
 use Rattle.ob_tree.specs.declared.token.Leaf.TheVariants as leafs
 use Rattle.ob_tree.specs.Constructs.{Construct}
 use Rattle.ob_tree.specs.Leaves.{leaf_of, leaves_from}
-use Rattle.ob_tree.specs.Marks.{Ends, Identifier, Out, construct}
+use Rattle.ob_tree.specs.TreeEvents.{Ends, Identifier, Events, construct}
 use Rattle.ob_tree.specs.Derives.{endings_in}
 use Rattle.ob_tree.proofs.EndNames.{endings-append}
-use Rattle.ob_parse.specs.Front.{uncons}
-use Rattle.ob_parse.specs.ReadModules.{module_at, nothing_left, all_of}
+use Rattle.ob_parse.specs.Lookahead.{uncons}
+use Rattle.ob_parse.specs.ReadModules.{module_at, nothing_left, read_all}
 use Rattle.ob_parse.proofs.Compatible.{IsTold}
 use Rattle.ob_parse.proofs.CompatibleProductions.{module_at_held}
 use Rattle.ob_parse.proofs.Sound.{bind_ok, ok_is}
@@ -33,20 +33,20 @@ AreBelow bound e = (e.0 < bound) × (e.1 < bound)
 pub record LeavesBelow (bound : ℕ) (ls : List Leaf) : Type 0 where
   pub each_one : All (IsBelow bound) ls
 
-pub record EndingsBelow (bound : ℕ) (o : Out) : Type 0 where
+pub record EndingsBelow (bound : ℕ) (o : Events) : Type 0 where
   pub each_one : All (AreBelow bound) (endings_in o)
 
--- so it is in an outline, and in the tokens after it
-pub record Known (bound : ℕ) (o : Out) (rest : List Leaf) : Type 0 where
+-- so it is in an event sequence, and in the tokens after it
+pub record Known (bound : ℕ) (o : Events) (rest : List Leaf) : Type 0 where
   pub in_outline : EndingsBelow bound o
   pub in_rest : LeavesBelow bound rest
 
--- ---- outlines
+-- ---- event sequences
 
-both_below : (bound : ℕ) (a b : Out) → EndingsBelow bound a → EndingsBelow bound b → EndingsBelow bound (a ++ b)
+both_below : (bound : ℕ) (a b : Events) → EndingsBelow bound a → EndingsBelow bound b → EndingsBelow bound (a ++ b)
 both_below bound a b p q = record { each_one = rw (endings-append a b) (All-append (AreBelow bound) (endings_in a) (endings_in b) p.each_one q.each_one) }
 
-construct_below : (bound : ℕ) (c : Construct) (o : Out) → EndingsBelow bound o → EndingsBelow bound (construct c o)
+construct_below : (bound : ℕ) (c : Construct) (o : Events) → EndingsBelow bound o → EndingsBelow bound (construct c o)
 unfolding construct
 construct_below bound c o p = record { each_one = rw (endings-append o (Ends c ∷ []), append-nil (endings_in o)) p.each_one }
 
@@ -54,8 +54,8 @@ nothing_below : (bound : ℕ) → EndingsBelow bound []
 nothing_below bound = record { each_one = All-nil (AreBelow bound) }
 
 role_below : (bound : ℕ) (role : Role) → IsTold (λ m. m < bound) role → (n : ℕ) → n < bound → EndingsBelow bound (Identifier role n ∷ [])
-role_below bound (Repeats m) told n h = record { each_one = All-cons (AreBelow bound) (m, n) [] (told, h) (All-nil (AreBelow bound)) }
-role_below bound role told n h = record { each_one = All-nil (AreBelow bound) }
+role_below bound (Repeats m) fault_of_stop n h = record { each_one = All-cons (AreBelow bound) (m, n) [] (fault_of_stop, h) (All-nil (AreBelow bound)) }
+role_below bound role fault_of_stop n h = record { each_one = All-nil (AreBelow bound) }
 
 -- ---- leaves
 
@@ -81,20 +81,20 @@ leaves_below ks = leaves_from_below (length ks) 0 ks (omega arith)
 
 -- ---- what is read
 
-abbrev Knows : ℕ → List Leaf → Out → List Leaf → Type 0
+abbrev Knows : ℕ → List Leaf → Events → List Leaf → Type 0
 Knows bound from o rest = LeavesBelow bound from → Known bound o rest
 
-knows_more : (bound : ℕ) (from mid rest : List Leaf) (a b : Out) → Knows bound from a mid → Knows bound mid b rest → Knows bound from (a ++ b) rest
+knows_more : (bound : ℕ) (from mid rest : List Leaf) (a b : Events) → Knows bound from a mid → Knows bound mid b rest → Knows bound from (a ++ b) rest
 knows_more bound from mid rest a b p q l =
     let first = p l in
     let second = q first.in_rest in
     record { in_outline = both_below bound a b first.in_outline second.in_outline; in_rest = second.in_rest }
 
-knows_construct : (bound : ℕ) (k : Construct) (from rest : List Leaf) (o : Out) → Knows bound from o rest → Knows bound from (construct k o) rest
+knows_construct : (bound : ℕ) (k : Construct) (from rest : List Leaf) (o : Events) → Knows bound from o rest → Knows bound from (construct k o) rest
 knows_construct bound k from rest o p l = let inner = p l in record { in_outline = construct_below bound k o inner.in_outline; in_rest = inner.in_rest }
 
 -- one token, of which nothing is known
-knows_token : (bound : ℕ) (t : Leaf) (rest : List Leaf) (o : Out) → [] ≡ endings_in o → Knows bound (t ∷ rest) o rest
+knows_token : (bound : ℕ) (t : Leaf) (rest : List Leaf) (o : Events) → [] ≡ endings_in o → Knows bound (t ∷ rest) o rest
 knows_token bound t rest o none l = record { in_outline = record { each_one = subst (All (AreBelow bound)) none (All-nil (AreBelow bound)) }; in_rest = tail_below bound t rest l }
 
 knowing : (bound : ℕ) → IsTaking (λ n. n < bound) (λ d. Knows bound)
@@ -105,19 +105,19 @@ knowing bound = record {
   level = λ k e p. knows_construct bound k _ _ _ p;
   a_word = λ k rest. knows_token bound _ rest _ refl;
   a_value = λ k n rest. knows_token bound _ rest _ refl;
-  a_name = λ role told n rest l. record { in_outline = role_below bound role told n (head_below bound (leafs.Name n) rest l); in_rest = tail_below bound (leafs.Name n) rest l };
-  known = λ p l. p (head_below bound _ _ l) l;
+  a_name = λ role fault_of_stop n rest l. record { in_outline = role_below bound role fault_of_stop n (head_below bound (leafs.Name n) rest l); in_rest = tail_below bound (leafs.Name n) rest l };
+  in_range = λ p l. p (head_below bound _ _ l) l;
 }
 
-nothing_left_is : (o p : Out) (left : Option (Leaf × List Leaf)) → nothing_left o left ≡ Ok p → o ≡ p
+nothing_left_is : (o p : Events) (left : Option (Leaf × List Leaf)) → nothing_left o left ≡ Ok p → o ≡ p
 nothing_left_is o p None e = ok_is o p e
 nothing_left_is o p (Some t) e = absurd cc
 
 -- each name after END, and the identifier that it has to repeat, is one of the tokens
-pub endings_known : (bound d : ℕ) (ls : List Leaf) (o : Out) → All (IsBelow bound) ls → all_of d ls ≡ Ok o → All (λ e. (e.0 < bound) × (e.1 < bound)) (endings_in o)
-unfolding all_of
+pub endings_known : (bound d : ℕ) (ls : List Leaf) (o : Events) → All (IsBelow bound) ls → read_all d ls ≡ Ok o → All (λ e. (e.0 < bound) × (e.1 < bound)) (endings_in o)
+unfolding read_all
 endings_known bound d ls o b e =
     let a = bind_ok (module_at d ls) (λ a. nothing_left a.0 (uncons a.1)) o e in
-    let known = given (λ k. Knows bound) (module_at_held (giving (knowing bound)) d d (omega arith)) ls a.0 a.1 (record { each_one = b }) in
-    let below = subst (EndingsBelow bound) (nothing_left_is a.0.0 o (uncons a.0.1) a.2) known.in_outline in
+    let in_range = given (λ k. Knows bound) (module_at_held (giving (knowing bound)) d d (omega arith)) ls a.0 a.1 (record { each_one = b }) in
+    let below = subst (EndingsBelow bound) (nothing_left_is a.0.0 o (uncons a.0.1) a.2) in_range.in_outline in
     below.each_one

@@ -1,4 +1,4 @@
-pub mod Ahead
+pub mod Remaining
 pub mod Arrays
 pub mod Bounded
 pub mod Boxes
@@ -11,7 +11,7 @@ pub mod CompleteStatements
 pub mod CompleteTypes
 pub mod Deeper
 pub mod Endings
-pub mod Fronts
+pub mod Lookaheads
 pub mod Kept
 pub mod LoopEnds
 pub mod LoopProcedures

@@ -3,21 +3,21 @@ use Rattle.std.proofs.Common.{◌≡◌, List, Some, Ok, Err, refl, sym, ◌∙�
 use Rattle.std.specs.Prelude.{IsErrAnd, Result}
 use Rattle.ob_scan.specs.declared.token.Token.{Token}
 use Rattle.ob_tree.specs.declared.token.Leaf.{Leaf}
-use Rattle.ob_tree.specs.Marks.{Out}
+use Rattle.ob_tree.specs.TreeEvents.{Events}
 use Rattle.ob_parse.specs.declared.stop.Stop.{Stop}
 use Rattle.ob_parse.specs.declared.stop.Stop.TheVariants as stops
-use Rattle.ob_parse.specs.Forms.{Read, Reader, Refusal, Start, many}
-use Rattle.ob_parse.specs.Accords.{Accords, Fails}
+use Rattle.ob_parse.specs.Combinators.{Read, Reader, ReadError, Start, many}
+use Rattle.ob_parse.specs.AgreesWith.{AgreesWith, Fails}
 use Rattle.ob_parse.proofs.Loops.{Advances, with_front, many_step}
 
 -- a turn that fails: the loop fails with it
-pub ends : (start : Start) (r : Reader) → Advances start r → (ts : List Token) (x : Stop) (front : Out) (ls : List Leaf) (s : Out × List Leaf) (total : Read) → start ls ≡ Some s → Fails ts x (r s.1)
-    → with_front front (many start r ls) ≡ total → Fails ts x total
-ends start r adv ts stops.Memory front ls s total e f h = tt
-ends start r adv ts (stops.Unexpected i) front ls s total e f h = sym h ∙ rw (many_step start r adv ls, e, f) refl
-ends start r adv ts (stops.TooDeep i) front ls s total e f h = sym h ∙ rw (many_step start r adv ls, e, f) refl
+pub ends : (start : Start) (r : Reader) → Advances start r → (ts : List Token) (x : Stop) (head_is : Events) (ls : List Leaf) (s : Events × List Leaf) (total : Read) → start ls ≡ Some s → Fails ts x (r s.1)
+    → with_front head_is (many start r ls) ≡ total → Fails ts x total
+ends start r adv ts stops.Memory head_is ls s total e f h = tt
+ends start r adv ts (stops.Unexpected i) head_is ls s total e f h = sym h ∙ rw (many_step start r adv ls, e, f) refl
+ends start r adv ts (stops.TooDeep i) head_is ls s total e f h = sym h ∙ rw (many_step start r adv ls, e, f) refl
 
 -- the fault of a part is that of the whole
-pub stopped : {Y Z : Type 0} (ts : List Token) (view : Y → Z) (answer : Result Y Stop) (stop : Stop) (read : Result Z Refusal) → IsErrAnd answer (λ e. e ≡ stop) → Fails ts stop read → Accords ts view answer read
+pub stopped : {Y Z : Type 0} (ts : List Token) (view : Y → Z) (answer : Result Y Stop) (stop : Stop) (read : Result Z ReadError) → IsErrAnd answer (λ e. e ≡ stop) → Fails ts stop read → AgreesWith ts view answer read
 stopped ts view (Ok x) stop read is fails = absurd is
 stopped ts view (Err e) stop read is fails = rw is fails

@@ -2,9 +2,9 @@
 use Rattle.std.proofs.Common.{◌≡◌, ℕ, zero, suc, Bool, true, false, cond, ◌<◌, List, length, Option, Ok, Err}
 use Rattle.ob_scan.specs.declared.kind.Kind.TheVariants as kinds
 use Rattle.ob_tree.specs.declared.token.Leaf.{Leaf}
-use Rattle.ob_tree.specs.Marks.{Out}
-use Rattle.ob_parse.specs.Front.{uncons, front, is_word}
-use Rattle.ob_parse.specs.Forms.{Unexpected, deep_at, Reader, begins, limit_at}
+use Rattle.ob_tree.specs.TreeEvents.{Events}
+use Rattle.ob_parse.specs.Lookahead.{uncons, head_is, is_word}
+use Rattle.ob_parse.specs.Combinators.{Unexpected, deep_at, Reader, begins, limit_at}
 use Rattle.ob_parse.specs.ReadModules.{Shortens, with_semicolon, procedure_with, procedure_at}
 use Rattle.ob_parse.proofs.Compatible.{expect_held}
 use Rattle.ob_parse.proofs.CompatibleProductions.{procedure_name_held}
@@ -12,13 +12,13 @@ use Rattle.ob_parse.proofs.Sound.{Sound, sound, expr_at_sound, block_at_sound, d
 use Rattle.ob_parse.proofs.Loops.{Advances, sound_no_longer, shortens_seq, shortens_node, shortens_expect, begins_advances}
 
 -- nothing is read at the limit
-limited_shortens : (b : Bool) (o : Option (Leaf × List Leaf)) (ls : List Leaf) (x : Out × List Leaf) → cond b (Err (deep_at o)) (Err (Unexpected o)) ≡ Ok x → length x.1 < length ls
+limited_shortens : (b : Bool) (o : Option (Leaf × List Leaf)) (ls : List Leaf) (x : Events × List Leaf) → cond b (Err (deep_at o)) (Err (Unexpected o)) ≡ Ok x → length x.1 < length ls
 limited_shortens true o ls x e = absurd cc
 limited_shortens false o ls x e = absurd cc
 
 limit_shortens : (p : Leaf → Bool) → Shortens (limit_at p)
 unfolding limit_at
-limit_shortens p ls x e = limited_shortens (front p (uncons ls)) (uncons ls) ls x e
+limit_shortens p ls x e = limited_shortens (head_is p (uncons ls)) (uncons ls) ls x e
 
 procedure_with_shortens : (d : ℕ) (expr block declarations : Reader) → Sound d expr → Sound d block → Sound d declarations → Shortens (procedure_with expr block declarations)
 unfolding procedure_with

@@ -1,4 +1,4 @@
--- What is wrong where none of these tokens stands in front.
+-- What is wrong where none of these tokens is first.
 use Rattle.std.proofs.Common.{◌≡◌, Bool, false, List, [], ◌∷◌, Ok, Err, refl}
 use Rattle.ob_scan.specs.declared.kind.Kind.{Kind}
 use Rattle.ob_scan.specs.declared.kind.Kind.TheVariants as kinds
@@ -6,16 +6,16 @@ use Rattle.ob_tree.specs.declared.token.Leaf.{Leaf}
 use Rattle.ob_tree.specs.declared.token.Leaf.TheVariants as leafs
 use Rattle.ob_tree.specs.Constructs as constructs
 use Rattle.ob_tree.specs.Constructs.{Construct}
-use Rattle.ob_tree.specs.Marks.{construct}
-use Rattle.ob_parse.specs.Front.{uncons, front, is_word}
-use Rattle.ob_parse.specs.Forms.{Unexpected, Reader, expect_at, nothing, seq, node, optional, many, limit_at}
+use Rattle.ob_tree.specs.TreeEvents.{construct}
+use Rattle.ob_parse.specs.Lookahead.{uncons, head_is, is_word}
+use Rattle.ob_parse.specs.Combinators.{Unexpected, Reader, expect_at, nothing, seq, node, optional, many, limit_at}
 use Rattle.ob_parse.specs.ReadExpressions.{add_start, sign_start, sign_at, factor_first, expr_first, term_with, sum_with, expr_with, factor_from, factor_with}
 use Rattle.ob_parse.specs.ReadStatements.{statement_first, statement_from, statement_with, empty_at}
 use Rattle.ob_parse.specs.ReadTypes.{type_first, type_from, type_with}
 use Rattle.ob_parse.specs.ReadModules.{procedure_with}
 
 abbrev pub Needs : (Leaf → Bool) → Reader → Type 0
-Needs p r = (ls : List Leaf) → front p (uncons ls) ≡ false → r ls ≡ Err (Unexpected (uncons ls))
+Needs p r = (ls : List Leaf) → head_is p (uncons ls) ≡ false → r ls ≡ Err (Unexpected (uncons ls))
 
 seq_needs : (p : Leaf → Bool) (r s : Reader) → Needs p r → Needs p (seq r s)
 seq_needs p r s h ls e = rw (h ls e) refl
@@ -54,7 +54,7 @@ term_needs : (f : Reader) → Needs factor_first f → Needs factor_first (term_
 unfolding term_with
 term_needs f h = node_needs _ _ _ (seq_needs _ _ _ h)
 
--- no sign, and no term behind it
+-- no sign, and no term after it
 signed_needs : (t : Reader) → Needs factor_first t → Needs expr_first (seq (optional sign_start nothing) (seq t (many add_start t)))
 unfolding sign_at
 signed_needs t h [] e = rw (h [] refl) refl
@@ -87,10 +87,10 @@ pub procedure_needs : (e b r : Reader) → Needs (is_word kinds.Procedure) (proc
 unfolding procedure_with
 procedure_needs e b r = node_needs _ _ _ (seq_needs _ _ _ (expect_needs kinds.Procedure))
 
--- ---- the empty statement, which is read where none of these tokens stands in front
+-- ---- the empty statement, which is read where none of these tokens is first
 
 abbrev pub IsElseEmpty : Reader → Type 0
-IsElseEmpty r = (ls : List Leaf) → front statement_first (uncons ls) ≡ false → r ls ≡ Ok (construct constructs.EmptyStatement [], ls)
+IsElseEmpty r = (ls : List Leaf) → head_is statement_first (uncons ls) ≡ false → r ls ≡ Ok (construct constructs.EmptyStatement [], ls)
 
 pub empty_else : IsElseEmpty empty_at
 unfolding empty_at

@@ -13,7 +13,7 @@ use Rattle.ob_scan.specs.Texts.{bytes_of}
 use Rattle.ob_parse.specs.Ends.{IsEnd}
 use Rattle.ob_parse.specs.Parsed.{Pair, IsRightEnd, IsFirstWrong}
 
--- what stands for a token beyond the list
+-- what denotes a token beyond the list
 abbrev pub any_token : Token
 any_token = record { kind = kinds.Ident; start = 0; end = 0 }
 
@@ -21,8 +21,8 @@ abbrev pair_at : (ts : List Token) (n k : ℕ) (d : Token) → n < length ts →
 pair_at ts n k d a b = record {
   name = get_or ts n d;
   end = get_or ts k d;
-  name_there = slice_get-get_or ts n d a;
-  end_there = slice_get-get_or ts k d b;
+  is_name = slice_get-get_or ts n d a;
+  is_end = slice_get-get_or ts k d b;
 }
 
 pub end_is : (bytes : List ℕ) (ts : List Token) (n k : ℕ) (d : Token) (b : Bool) → n < length ts → k < length ts → b ≡ bytes_eq (bytes_of bytes (get_or ts n d)) (bytes_of bytes (get_or ts k d)) → IsEnd bytes ts b (n, k)
@@ -42,11 +42,11 @@ all_right bytes ts ends i le all = subst (All (IsRightEnd bytes ts)) (take_all i
 
 -- the first wrong one
 pub first_wrong : (bytes : List ℕ) (ts : List Token) (ends : List (ℕ × ℕ)) (i : ℕ) (d : ℕ × ℕ) (t : Token) → i < length ends → All (IsRightEnd bytes ts) (take i ends) → (get_or ends i d).1 < length ts → IsEnd bytes ts false (get_or ends i d) → IsFirstWrong bytes ts ends (get_or ts (get_or ends i d).1 t).start
-first_wrong bytes ts ends i d t in_i all known e = record {
+first_wrong bytes ts ends i d t in_i all in_range e = record {
   before = take i ends;
   wrong = get_or ends i d;
   after = drop (i + 1) ends;
   split = sym (take-append-drop i ends) ∙ ap (λ (z : List (ℕ × ℕ)). take i ends ++ z) (drop_more ends i d in_i);
   right_before = all;
-  is_wrong = record { pair = e.0; differ = e.1; begins = ap (λ (u : Token). u.start) (sym (get_or_from_slice_get ts (get_or ends i d).1 e.0.end t e.0.end_there)) };
+  is_wrong = record { pair = e.0; differ = e.1; begins = ap (λ (u : Token). u.start) (sym (get_or_from_slice_get ts (get_or ends i d).1 e.0.end t e.0.is_end)) };
 }

@@ -1,26 +1,26 @@
--- What may stand somewhere, once its front is found.
+-- What may be somewhere, once its prefix is found.
 use Rattle.std.proofs.Common.{◌≡◌, ◌++◌, List, [], Ok, Err, Some, false, refl}
 use Rattle.std.specs.Prelude.{Option, Result}
 use Rattle.ob_scan.specs.declared.kind.Kind.{Kind}
 use Rattle.ob_scan.specs.declared.token.Token.{Token}
 use Rattle.ob_tree.specs.declared.token.Leaf.{Leaf}
-use Rattle.ob_tree.specs.Marks.{Out, if_there}
+use Rattle.ob_tree.specs.TreeEvents.{Events, if_present}
 use Rattle.ob_parse.specs.declared.cursor.Cursor.{Cursor}
 use Rattle.ob_parse.specs.declared.stop.Stop.{Stop}
 use Rattle.ob_parse.specs.declared.stop.Stop.TheVariants as stops
-use Rattle.ob_parse.specs.Forms.{Reader, Start, optional, unless}
-use Rattle.ob_parse.specs.Front.{front, is_word, uncons}
-use Rattle.ob_parse.specs.Accords.{Accords, ahead, some_of}
+use Rattle.ob_parse.specs.Combinators.{Reader, Start, optional, unless}
+use Rattle.ob_parse.specs.Lookahead.{head_is, is_word, uncons}
+use Rattle.ob_parse.specs.AgreesWith.{AgreesWith, remaining, some_of}
 
--- it is read behind its front
-pub gives_some : {X : Type 0} (ts : List Token) (read : Result (X × Cursor) Stop) (view : X → Out) (result : Result (Option X × Cursor) Stop) (start : Start) (r : Reader) (ls : List Leaf) (s : Out × List Leaf)
-    → result ≡ some_of read → start ls ≡ Some s → Accords ts (λ x. (view x.0, ahead ts x.1)) read (r s.1) → Accords ts (λ x. (if_there (λ y. s.0 ++ view y) x.0, ahead ts x.1)) result (optional start r ls)
+-- it is read after its prefix
+pub gives_some : {X : Type 0} (ts : List Token) (read : Result (X × Cursor) Stop) (view : X → Events) (result : Result (Option X × Cursor) Stop) (start : Start) (r : Reader) (ls : List Leaf) (s : Events × List Leaf)
+    → result ≡ some_of read → start ls ≡ Some s → AgreesWith ts (λ x. (view x.0, remaining ts x.1)) read (r s.1) → AgreesWith ts (λ x. (if_present (λ y. s.0 ++ view y) x.0, remaining ts x.1)) result (optional start r ls)
 gives_some ts (Ok x) view result start r ls s is found gives = rw (is, found, gives) refl
 gives_some ts (Err stops.Memory) view result start r ls s is found gives = rw is tt
 gives_some ts (Err (stops.Unexpected i)) view result start r ls s is found gives = rw (is, found, gives) refl
 gives_some ts (Err (stops.TooDeep i)) view result start r ls s is found gives = rw (is, found, gives) refl
 
--- a token of another kind stands here
-pub not_closed : (k : Kind) (ls : List Leaf) → front (is_word k) (uncons ls) ≡ false → unless k ls ≡ Some ([], ls)
+-- a token of another kind is here
+pub not_closed : (k : Kind) (ls : List Leaf) → head_is (is_word k) (uncons ls) ≡ false → unless k ls ≡ Some ([], ls)
 unfolding unless
 not_closed k ls e = rw e refl

@@ -1,32 +1,32 @@
 -- The whole text: what was not too deep is the same at each greater depth.
 use Rattle.std.proofs.Common.{◌≡◌, ℕ, ◌≤◌, List, Option, Result, Ok, Err, sym, ap, ◌∙◌, inl, inr, refl}
 use Rattle.ob_tree.specs.declared.token.Leaf.{Leaf}
-use Rattle.ob_tree.specs.Marks.{Out}
-use Rattle.ob_parse.specs.Front.{uncons}
-use Rattle.ob_parse.specs.Forms.{Refusal, Unexpected, TooDeep, ◌>>=◌, Read}
-use Rattle.ob_parse.specs.ReadModules.{nothing_left, all_of}
+use Rattle.ob_tree.specs.TreeEvents.{Events}
+use Rattle.ob_parse.specs.Lookahead.{uncons}
+use Rattle.ob_parse.specs.Combinators.{ReadError, Unexpected, TooDeep, ◌>>=◌, Read}
+use Rattle.ob_parse.specs.ReadModules.{nothing_left, read_all}
 use Rattle.ob_parse.proofs.Deeper.{module_at_extends}
 
-pub never_deep : (r : Result Out Refusal) (x : Leaf × List Leaf) (o : Option (Leaf × List Leaf)) → r ≡ Err (TooDeep x) → r ≡ Err (Unexpected o) → ⊥
+pub never_deep : (r : Result Events ReadError) (x : Leaf × List Leaf) (o : Option (Leaf × List Leaf)) → r ≡ Err (TooDeep x) → r ≡ Err (Unexpected o) → ⊥
 never_deep r x o d w = cc
 
-never_too_deep : (r : Result Out Refusal) (x : Leaf × List Leaf) (o : Out) → r ≡ Err (TooDeep x) → r ≡ Ok o → ⊥
+never_too_deep : (r : Result Events ReadError) (x : Leaf × List Leaf) (o : Events) → r ≡ Err (TooDeep x) → r ≡ Ok o → ⊥
 never_too_deep r x o d e = cc
 
 -- what is wrong at one depth is wrong at each greater one
-pub still_wrong : (d k : ℕ) (ls : List Leaf) (o : Option (Leaf × List Leaf)) → d ≤ k → all_of d ls ≡ Err (Unexpected o) → all_of k ls ≡ Err (Unexpected o)
-unfolding all_of
+pub still_wrong : (d k : ℕ) (ls : List Leaf) (o : Option (Leaf × List Leaf)) → d ≤ k → read_all d ls ≡ Err (Unexpected o) → read_all k ls ≡ Err (Unexpected o)
+unfolding read_all
 still_wrong d k ls o le e =
     elim (module_at_extends d k le ls) [
-      | inl deep ↦ absurd (never_deep (all_of d ls) deep.0 o (rw deep.1 refl) e)
+      | inl deep ↦ absurd (never_deep (read_all d ls) deep.0 o (rw deep.1 refl) e)
       | inr same ↦ ap (λ (r : Read). r >>= λ a. nothing_left a.0 (uncons a.1)) (sym same) ∙ e
     ]
 
 -- what is read at one depth is read at each greater one
-pub still_ok : (d k : ℕ) (ls : List Leaf) (o : Out) → d ≤ k → all_of d ls ≡ Ok o → all_of k ls ≡ Ok o
-unfolding all_of
+pub still_ok : (d k : ℕ) (ls : List Leaf) (o : Events) → d ≤ k → read_all d ls ≡ Ok o → read_all k ls ≡ Ok o
+unfolding read_all
 still_ok d k ls o le e =
     elim (module_at_extends d k le ls) [
-      | inl deep ↦ absurd (never_too_deep (all_of d ls) deep.0 o (rw deep.1 refl) e)
+      | inl deep ↦ absurd (never_too_deep (read_all d ls) deep.0 o (rw deep.1 refl) e)
       | inr same ↦ ap (λ (r : Read). r >>= λ a. nothing_left a.0 (uncons a.1)) (sym same) ∙ e
     ]

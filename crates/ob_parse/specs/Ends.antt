@@ -1,4 +1,4 @@
--- What the parser's last steps keep: names after END one by one, and the offset of a token.
+-- The last steps of the parser: comparison of the names after END, and the offsets of errors.
 use Rattle.std.specs.Prelude.{◌≢◌, ◌≤◌, ◌<◌, ℕ, List, length, slice_get, Bool, true, false, Option, Some, None}
 use Rattle.std.specs.List.{All}
 use Rattle.ob_scan.specs.declared.token.Token.{Token}
@@ -9,31 +9,31 @@ use Rattle.ob_parse.specs.declared.stop.Stop.{Stop}
 use Rattle.ob_parse.specs.declared.stop.Stop.TheVariants as stops
 use Rattle.ob_parse.specs.Parsed.{Pair, IsRightEnd, IsFirstWrong, start_or}
 
--- both are numbers of tokens
+-- both are indices of tokens
 abbrev pub AreTokenNumbers : List Token → ℕ × ℕ → Type 0
 AreTokenNumbers ts e = (e.0 < length ts) × (e.1 < length ts)
 
--- a token that lies in the text
-abbrev pub IsPlaced : List ℕ → Token → Type 0
-IsPlaced bytes t = (t.start ≤ t.end) × (t.end ≤ length bytes)
+-- the token is in the bounds of the bytes
+abbrev pub IsInText : List ℕ → Token → Type 0
+IsInText bytes t = (t.start ≤ t.end) × (t.end ≤ length bytes)
 
--- a name after END is right, or not
+-- the name after END is right, or wrong
 abbrev pub IsEnd : List ℕ → List Token → Bool → ℕ × ℕ → Type 0
 IsEnd bytes ts true e = IsRightEnd bytes ts e
 IsEnd bytes ts false e = (pair : Pair ts e) × (bytes_of bytes pair.name ≢ bytes_of bytes pair.end)
 
--- none of these is wrong, or the first that is begins at this offset
+-- all of these names are right, or the first wrong one begins at this offset
 abbrev pub FirstWrong : List ℕ → List Token → List (ℕ × ℕ) → Option ℕ → Type 0
 FirstWrong bytes ts ends None = All (IsRightEnd bytes ts) ends
 FirstWrong bytes ts ends (Some at) = IsFirstWrong bytes ts ends at
 
--- the fault that is told of a construct that is too deep at this token, if there is one
-abbrev pub deep_told : ℕ → Option Token → ParseFault
-deep_told end None = faults.Syntax end
-deep_told end (Some t) = faults.TooDeep t.start
+-- the error for a construct that is nested too deep at this token; a Syntax error at the end if there is no token
+abbrev pub too_deep_fault : ℕ → Option Token → ParseFault
+too_deep_fault end None = faults.Syntax end
+too_deep_fault end (Some t) = faults.TooDeep t.start
 
--- the fault that is told of a stop
-abbrev pub told : ℕ → List Token → Stop → ParseFault
-told end ts (stops.Unexpected i) = faults.Syntax (start_or end (slice_get ts i.at))
-told end ts (stops.TooDeep i) = deep_told end (slice_get ts i.at)
-told end ts stops.Memory = faults.Memory
+-- the error for a stop of the parser
+abbrev pub fault_of_stop : ℕ → List Token → Stop → ParseFault
+fault_of_stop end ts (stops.Unexpected i) = faults.Syntax (start_or end (slice_get ts i.at))
+fault_of_stop end ts (stops.TooDeep i) = too_deep_fault end (slice_get ts i.at)
+fault_of_stop end ts stops.Memory = faults.Memory

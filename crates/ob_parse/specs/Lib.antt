@@ -1,7 +1,7 @@
-pub mod Forms
+pub mod Combinators
 pub mod Ends
-pub mod Front
-pub mod Accords
+pub mod Lookahead
+pub mod AgreesWith
 pub mod Parsed
 pub mod ReadExpressions
 pub mod ReadModules

@@ -1,4 +1,4 @@
--- Reading expressions and designators, a reader for each production (Oberon-07 report, section 8).
+-- The grammar of expressions and designators, a reader for each production (Oberon-07 report, section 8).
 use Rattle.std.specs.Prelude.{ℕ, zero, suc, List, [], ◌∷◌, Option, Some, None, Ok, Err, Bool, true, false}
 use Rattle.ob_scan.specs.declared.kind.Kind.{Kind}
 use Rattle.ob_scan.specs.declared.kind.Kind.TheVariants as kinds
@@ -13,14 +13,15 @@ use Rattle.ob_tree.specs.declared.expression.AddOperator.TheVariants as sums
 use Rattle.ob_tree.specs.declared.expression.MulOperator.{MulOperator}
 use Rattle.ob_tree.specs.declared.expression.MulOperator.TheVariants as products
 use Rattle.ob_tree.specs.Constructs as constructs
-use Rattle.ob_tree.specs.Marks.{Out, Value, word, used, selected}
+use Rattle.ob_tree.specs.TreeEvents.{Events, Value, word, used, selected}
 use Rattle.ob_tree.specs.Expressions.{relation_kind, sign_kind, add_kind, mul_kind}
-use Rattle.ob_parse.specs.Front.{uncons}
-use Rattle.ob_parse.specs.Forms.{Unexpected, Read, Reader, Front, Start, expect_at, accept_at, name_at, begins, unless, seq, prefixed, node, optional, many, several, limit_at, nothing}
+use Rattle.ob_parse.specs.Lookahead.{uncons}
+use Rattle.ob_parse.specs.Combinators.{Unexpected, Read, Reader, Lookahead, Start, expect_at, accept_at, name_at, begins, unless, seq, prefixed, node, optional, many, several, limit_at, nothing}
 
 -- ---- operators
 
-abbrev pub after_relation : Option (Leaf × List Leaf) → Front Relation
+-- the relation, sign or operator that the next token is, and the tokens after it
+abbrev pub after_relation : Option (Leaf × List Leaf) → Lookahead Relation
 after_relation (Some (leafs.Word kinds.Equals, rest)) = Some (relations.Equal, rest)
 after_relation (Some (leafs.Word kinds.Hash, rest)) = Some (relations.Unequal, rest)
 after_relation (Some (leafs.Word kinds.Less, rest)) = Some (relations.Less, rest)
@@ -31,18 +32,18 @@ after_relation (Some (leafs.Word kinds.In, rest)) = Some (relations.In, rest)
 after_relation (Some (leafs.Word kinds.Is, rest)) = Some (relations.Is, rest)
 after_relation _ = None
 
-abbrev pub after_sign : Option (Leaf × List Leaf) → Front Sign
+abbrev pub after_sign : Option (Leaf × List Leaf) → Lookahead Sign
 after_sign (Some (leafs.Word kinds.Plus, rest)) = Some (signs.Plus, rest)
 after_sign (Some (leafs.Word kinds.Minus, rest)) = Some (signs.Minus, rest)
 after_sign _ = None
 
-abbrev pub after_add : Option (Leaf × List Leaf) → Front AddOperator
+abbrev pub after_add : Option (Leaf × List Leaf) → Lookahead AddOperator
 after_add (Some (leafs.Word kinds.Plus, rest)) = Some (sums.Plus, rest)
 after_add (Some (leafs.Word kinds.Minus, rest)) = Some (sums.Minus, rest)
 after_add (Some (leafs.Word kinds.Or, rest)) = Some (sums.Or, rest)
 after_add _ = None
 
-abbrev pub after_mul : Option (Leaf × List Leaf) → Front MulOperator
+abbrev pub after_mul : Option (Leaf × List Leaf) → Lookahead MulOperator
 after_mul (Some (leafs.Word kinds.Star, rest)) = Some (products.Times, rest)
 after_mul (Some (leafs.Word kinds.Slash, rest)) = Some (products.Divide, rest)
 after_mul (Some (leafs.Word kinds.Div, rest)) = Some (products.Div, rest)
@@ -50,23 +51,25 @@ after_mul (Some (leafs.Word kinds.Mod, rest)) = Some (products.Mod, rest)
 after_mul (Some (leafs.Word kinds.Ampersand, rest)) = Some (products.And, rest)
 after_mul _ = None
 
-unfoldable pub relation_at : List Leaf → Front Relation
+-- the relation, sign or operator that is next, if one is
+unfoldable pub relation_at : List Leaf → Lookahead Relation
 relation_at ls = after_relation (uncons ls)
 
-unfoldable pub sign_at : List Leaf → Front Sign
+unfoldable pub sign_at : List Leaf → Lookahead Sign
 sign_at ls = after_sign (uncons ls)
 
-unfoldable pub add_at : List Leaf → Front AddOperator
+unfoldable pub add_at : List Leaf → Lookahead AddOperator
 add_at ls = after_add (uncons ls)
 
-unfoldable pub mul_at : List Leaf → Front MulOperator
+unfoldable pub mul_at : List Leaf → Lookahead MulOperator
 mul_at ls = after_mul (uncons ls)
 
--- a front whose mark is a word
-abbrev pub as_word : {X : Type 0} → (X → Kind) → Front X → Front Out
+-- the start of a construct whose first event is the keyword or delimiter of this value
+abbrev pub as_word : {X : Type 0} → (X → Kind) → Lookahead X → Lookahead Events
 as_word kind None = None
 as_word kind (Some x) = Some (word (kind x.0), x.1)
 
+-- the starts of a further factor, a further term, a right operand, and of a signed expression
 abbrev pub mul_start : Start
 mul_start ls = as_word mul_kind (mul_at ls)
 
@@ -79,7 +82,7 @@ relation_start ls = as_word relation_kind (relation_at ls)
 abbrev pub sign_start : Start
 sign_start ls = as_word sign_kind (sign_at ls)
 
--- ---- what begins a construct
+-- ---- the tokens that a construct begins with
 
 abbrev pub selector_first : Leaf → Bool
 selector_first (leafs.Word kinds.Dot) = true
@@ -133,7 +136,7 @@ selector_from expr o = Err (Unexpected o)
 unfoldable pub selector_with : Reader → Reader
 selector_with expr = node constructs.Selector (λ ls. selector_from expr (uncons ls))
 
--- designator = ident {selector}, behind its identifier
+-- designator = ident {selector}, after its identifier
 unfoldable pub designator_with : Reader → ℕ → Reader
 designator_with expr n = node constructs.Designator (prefixed (used n) (many (begins selector_first) (selector_with expr)))
 
@@ -149,11 +152,11 @@ factor_from expr negated (Some (leafs.Word kinds.LeftParen, rest)) = prefixed (w
 factor_from expr negated (Some (leafs.Word kinds.Tilde, rest)) = prefixed (word kinds.Tilde) negated rest
 factor_from expr negated o = Err (Unexpected o)
 
--- a factor, where expr and negated read what is one level deeper
+-- a factor, in which expr and negated read the constructs one level deeper
 unfoldable pub factor_with : Reader → Reader → Reader
 factor_with expr negated = node constructs.Factor (λ ls. factor_from expr negated (uncons ls))
 
--- an expression of at most so many levels, itself one of them; a factor after ~, which is a level too
+-- an expression for which n levels are left, itself one of them; and a factor after `~`, which is a level too
 unfoldable mutual
   pub expr_at : ℕ → Reader
   expr_at zero = limit_at expr_first
@@ -163,7 +166,7 @@ unfoldable mutual
   negated_at zero = limit_at factor_first
   negated_at (suc d) = node constructs.Negated (factor_with (expr_at d) (negated_at d))
 
--- what has at most so many levels in it
+-- constructs that are no level themselves, with n levels left for those in them
 abbrev pub factor_at : ℕ → Reader
 factor_at d = factor_with (expr_at d) (negated_at d)
 

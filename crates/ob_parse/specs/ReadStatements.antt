@@ -1,4 +1,4 @@
--- Reading statements, a reader for each production (Oberon-07 report, section 9).
+-- The grammar of statements, a reader for each production (Oberon-07 report, section 9).
 use Rattle.std.specs.Prelude.{ℕ, zero, suc, List, [], ◌∷◌, Option, Some, Ok, Err, Bool, true, false, if◌then◌else◌}
 use Rattle.ob_scan.specs.declared.kind.Kind.{Kind}
 use Rattle.ob_scan.specs.declared.kind.Kind.TheVariants as kinds
@@ -6,13 +6,13 @@ use Rattle.ob_tree.specs.declared.expression.Literal.TheVariants as literals
 use Rattle.ob_tree.specs.declared.token.Leaf.{Leaf}
 use Rattle.ob_tree.specs.declared.token.Leaf.TheVariants as leafs
 use Rattle.ob_tree.specs.Constructs as constructs
-use Rattle.ob_tree.specs.Marks.{Value, construct, word, used}
-use Rattle.ob_parse.specs.Front.{uncons, front}
-use Rattle.ob_parse.specs.Forms.{Unexpected, deep_at, Read, Reader, expect_at, accept_at, name_at, begins, seq, prefixed, node, optional, many, several}
+use Rattle.ob_tree.specs.TreeEvents.{Value, construct, word, used}
+use Rattle.ob_parse.specs.Lookahead.{uncons, head_is}
+use Rattle.ob_parse.specs.Combinators.{Unexpected, deep_at, Read, Reader, expect_at, accept_at, name_at, begins, seq, prefixed, node, optional, many, several}
 use Rattle.ob_parse.specs.ReadNames.{qualident_after}
 use Rattle.ob_parse.specs.ReadExpressions.{designator_with, expr_at}
 
--- ---- what begins a construct
+-- ---- the tokens that a construct begins with
 
 abbrev pub label_first : Leaf → Bool
 label_first (leafs.Name n) = true
@@ -57,27 +57,27 @@ block_with statement = several kinds.Semicolon statement
 unfoldable pub branch_with : Reader → Reader → Kind → Reader
 branch_with expr block k = seq expr (seq (expect_at k) block)
 
--- what stands behind IF
+-- the part of a statement after IF
 unfoldable pub if_with : Reader → Reader → Reader
 if_with expr block = seq (branch_with expr block kinds.Then) (seq (many (accept_at kinds.Elsif) (branch_with expr block kinds.Then)) (seq (optional (accept_at kinds.Else) block) (expect_at kinds.End)))
 
--- what stands behind CASE
+-- the part of a statement after CASE
 unfoldable pub cases_with : Reader → Reader → Reader
 cases_with expr block = seq expr (seq (expect_at kinds.Of) (seq (case_with block) (seq (many (accept_at kinds.Bar) (case_with block)) (expect_at kinds.End))))
 
--- what stands behind WHILE
+-- the part of a statement after WHILE
 unfoldable pub while_with : Reader → Reader → Reader
 while_with expr block = seq (branch_with expr block kinds.Do) (seq (many (accept_at kinds.Elsif) (branch_with expr block kinds.Do)) (expect_at kinds.End))
 
--- what stands behind REPEAT
+-- the part of a statement after REPEAT
 unfoldable pub repeat_with : Reader → Reader → Reader
 repeat_with expr block = seq block (seq (expect_at kinds.Until) expr)
 
--- what stands behind FOR
+-- the part of a statement after FOR
 unfoldable pub for_with : Reader → Reader → Reader
 for_with expr block = seq (name_at used) (seq (expect_at kinds.Assign) (seq expr (seq (expect_at kinds.To) (seq expr (seq (optional (accept_at kinds.By) expr) (seq (expect_at kinds.Do) (seq block (expect_at kinds.End))))))))
 
--- a designator, or an assignment to it, behind its identifier
+-- a designator, or an assignment to it, after its first identifier
 unfoldable pub assign_with : Reader → ℕ → Reader
 assign_with expr n = seq (designator_with expr n) (optional (accept_at kinds.Assign) expr)
 
@@ -94,18 +94,18 @@ statement_from expr block ls _ = Ok (construct constructs.EmptyStatement [], ls)
 unfoldable pub statement_with : Reader → Reader → Reader
 statement_with expr block ls = statement_from expr block ls (uncons ls)
 
--- an empty statement, where no other begins
+-- an empty statement; if another one begins here it is nested too deep
 abbrev pub empty_or_deep : List Leaf → Option (Leaf × List Leaf) → Read
-empty_or_deep ls o = if front statement_first o then Err (deep_at o) else Ok (construct constructs.EmptyStatement [], ls)
+empty_or_deep ls o = if head_is statement_first o then Err (deep_at o) else Ok (construct constructs.EmptyStatement [], ls)
 
 unfoldable pub empty_at : Reader
 empty_at ls = empty_or_deep ls (uncons ls)
 
--- a statement of at most so many levels, itself one of them
+-- a statement for which n levels are left, itself one of them
 unfoldable pub statement_at : ℕ → Reader
 statement_at zero = empty_at
 statement_at (suc d) = statement_with (expr_at d) (block_with (statement_at d))
 
--- statements of at most so many levels
+-- statements, each of which has n levels left
 abbrev pub block_at : ℕ → Reader
 block_at d = block_with (statement_at d)

@@ -1,15 +1,16 @@
--- Reading types, a reader for each production (Oberon-07 report, sections 6 and 10.1).
+-- The grammar of types, a reader for each production (Oberon-07 report, sections 6 and 10.1).
 use Rattle.std.specs.Prelude.{ℕ, zero, suc, List, Option, Some, None, Err, Bool, true, false}
 use Rattle.ob_scan.specs.declared.kind.Kind.TheVariants as kinds
 use Rattle.ob_tree.specs.declared.token.Leaf.{Leaf}
 use Rattle.ob_tree.specs.declared.token.Leaf.TheVariants as leafs
 use Rattle.ob_tree.specs.Constructs as constructs
-use Rattle.ob_tree.specs.Marks.{Out, word, declared}
-use Rattle.ob_parse.specs.Front.{uncons, is_word}
-use Rattle.ob_parse.specs.Forms.{Unexpected, Read, Reader, Front, Start, expect_at, accept_at, name_at, begins, unless, nothing, seq, prefixed, node, optional, many, several, limit_at}
+use Rattle.ob_tree.specs.TreeEvents.{Events, word, declared}
+use Rattle.ob_parse.specs.Lookahead.{uncons, is_word}
+use Rattle.ob_parse.specs.Combinators.{Unexpected, Read, Reader, Lookahead, Start, expect_at, accept_at, name_at, begins, unless, nothing, seq, prefixed, node, optional, many, several, limit_at}
 use Rattle.ob_parse.specs.ReadNames.{qualident_after, qualident_at, identdef_at}
 use Rattle.ob_parse.specs.ReadExpressions.{expr_at}
 
+-- the tokens that a type begins with
 abbrev pub type_first : Leaf → Bool
 type_first (leafs.Name n) = true
 type_first (leafs.Word kinds.Array) = true
@@ -34,23 +35,23 @@ some_parameters_at = optional (begins (is_word kinds.LeftParen)) parameters_at
 unfoldable pub var_with : Reader → Reader
 var_with type = seq (several kinds.Comma identdef_at) (seq (expect_at kinds.Colon) type)
 
--- a semicolon behind which a field list begins
-abbrev pub behind_semicolon : List Leaf → Option (Leaf × List Leaf) → Front Out
-behind_semicolon ls (Some (leafs.Name n, rest)) = Some (word kinds.Semicolon, ls)
-behind_semicolon ls _ = None
+-- a semicolon before an identifier, with which a further field list begins
+abbrev pub after_semicolon : List Leaf → Option (Leaf × List Leaf) → Lookahead Events
+after_semicolon ls (Some (leafs.Name n, rest)) = Some (word kinds.Semicolon, ls)
+after_semicolon ls _ = None
 
-abbrev pub next_field : Option (Leaf × List Leaf) → Front Out
-next_field (Some (leafs.Word kinds.Semicolon, rest)) = behind_semicolon rest (uncons rest)
-next_field _ = None
+abbrev pub field_lookahead : Option (Leaf × List Leaf) → Lookahead Events
+field_lookahead (Some (leafs.Word kinds.Semicolon, rest)) = after_semicolon rest (uncons rest)
+field_lookahead _ = None
 
 unfoldable pub field_start : Start
-field_start ls = next_field (uncons ls)
+field_start ls = field_lookahead (uncons ls)
 
 -- FieldList {";" FieldList} [";"]
 unfoldable pub fields_with : Reader → Reader
 fields_with type = seq (node constructs.FieldList (var_with type)) (seq (many field_start (node constructs.FieldList (var_with type))) (optional (accept_at kinds.Semicolon) nothing))
 
--- what stands behind RECORD: ["(" qualident ")"] [FieldList {";" FieldList} [";"]] END
+-- the part of a type after RECORD: ["(" qualident ")"] [FieldList {";" FieldList} [";"]] END
 unfoldable pub record_with : Reader → Reader
 record_with type = seq (optional (accept_at kinds.LeftParen) (seq qualident_at (expect_at kinds.RightParen))) (seq (optional (unless kinds.End) (fields_with type)) (expect_at kinds.End))
 
@@ -66,7 +67,7 @@ type_from expr type o = Err (Unexpected o)
 unfoldable pub type_with : Reader → Reader → Reader
 type_with expr type ls = type_from expr type (uncons ls)
 
--- a type of at most so many levels, itself one of them
+-- a type for which n levels are left, itself one of them
 unfoldable pub type_at : ℕ → Reader
 type_at zero = limit_at type_first
 type_at (suc d) = type_with (expr_at d) (type_at d)

@@ -1,28 +1,30 @@
-//! The tokens that are still to be read.
+//! A position in the list of tokens.
 
 ghost use Rattle.std.specs.Prelude.{◌≡◌, ◌+◌, IfSome};
 
 use ob_scan::Token;
 use ob_tree::token::{Leaf, leaf_at};
 
-/// What is still to be read of a text's tokens: those from the one of this number on. It holds no token, and so has no lifetime.
+/// The tokens from an index on, which are still to be parsed. It is only the index, so it borrows nothing and has no lifetime.
 #[derive(Clone, Copy)]
 pub struct Cursor {
     at: u32,
 }
 
 impl Cursor {
-    ghost use Rattle.ob_parse.specs.Front.{uncons};
-    ghost use Rattle.ob_parse.specs.Accords.{ahead, seen};
+    ghost use Rattle.ob_parse.specs.Lookahead.{uncons};
+    ghost use Rattle.ob_parse.specs.AgreesWith.{remaining, with_remaining};
 
-    /// All tokens of a text.
+    /// The cursor before the first token.
     pub const ALL: Cursor = Cursor { at: 0 };
 
-    /// The next of these tokens, and those after it.
+    /// The next token, and the cursor after it; `None` after the last token.
     #[inline(always)]
-    #[tactic(auto, unfolding(crate::specs::Accords::ahead))]
+    #[tactic(auto, unfolding(crate::specs::AgreesWith::remaining))]
     pub fn next(self, tokens: &[Token]) -> Option<(Leaf, Cursor)>
-        ensures read { seen tokens.now result ≡ uncons (ahead tokens.now self) }
+        // Exactly the first of the remaining tokens, and those after it.
+        ensures read { with_remaining tokens.now result ≡ uncons (remaining tokens.now self) }
+        // The new cursor is one token further.
         ensures number { IfSome result (λ x. x.1.at ≡ self.at + 1) }
     {
         let token = tokens.get(self.at as usize)?;
@@ -30,7 +32,7 @@ impl Cursor {
         Some((leaf_at(self.at, token.kind), Cursor { at }))
     }
 
-    /// The number of the next token, or how many there are where there is none.
+    /// The index of the next token, or the number of tokens if there is none.
     pub fn number(self) -> u32
         ensures { result ≡ self.at }
     {

@@ -1,12 +1,13 @@
-//! The names after END.
+//! Comparison of the names after END.
 
 ghost use Rattle.std.specs.Prelude.{◌≡◌, ◌<◌, ◌≤◌, length};
 ghost use Rattle.std.specs.List.{All};
-ghost use Rattle.ob_parse.specs.Ends.{FirstWrong, IsEnd, AreTokenNumbers, IsPlaced};
+ghost use Rattle.ob_parse.specs.Ends.{FirstWrong, IsEnd, AreTokenNumbers, IsInText};
 ghost use Rattle.ob_scan.specs.Texts.{bytes_of};
 
 use ob_scan::Token;
 
+/// The bytes of a token.
 fn text<'a>(bytes: &'a [u8], token: Token) -> &'a [u8]
     requires { (token.start ≤ token.end) × (token.end ≤ length bytes.now) }
     ensures { result.now ≡ bytes_of bytes.now token }
@@ -14,23 +15,22 @@ fn text<'a>(bytes: &'a [u8], token: Token) -> &'a [u8]
     &bytes[token.start as usize..token.end as usize]
 }
 
-/// Whether a name after END is the one that it has to be: whether the tokens of these numbers, of a text of these bytes, have the same
-/// bytes.
+/// Whether a name after END is right: whether the bytes of the tokens with these indices are equal.
 pub fn is_right(bytes: &[u8], tokens: &[Token], name: u32, end: u32) -> bool
-    // Both are numbers of tokens.
-    requires known { (name < length tokens.now) × (end < length tokens.now) }
-    // The tokens lie in the text.
-    requires placed { All (IsPlaced bytes.now) tokens.now }
-    // It is the one that it has to be, or not.
+    // Both are indices of tokens.
+    requires in_range { (name < length tokens.now) × (end < length tokens.now) }
+    // The tokens are in the bounds of the bytes.
+    requires in_text { All (IsInText bytes.now) tokens.now }
+    // True exactly if the two tokens have equal bytes.
     ensures { IsEnd bytes.now tokens.now result (name, end) }
 {
     text(bytes, tokens[name as usize]) == text(bytes, tokens[end as usize])
 }
 
-/// The offset of the first name after END that isn't the one that it has to be.
+/// The offset of the first name after END that differs from the name that it has to repeat.
 pub(crate) fn wrong_end(bytes: &[u8], tokens: &[Token], ends: &[(u32, u32)]) -> Option<u32>
-    requires known { All (AreTokenNumbers tokens.now) ends.now }
-    requires placed { All (IsPlaced bytes.now) tokens.now }
+    requires in_range { All (AreTokenNumbers tokens.now) ends.now }
+    requires in_text { All (IsInText bytes.now) tokens.now }
     ensures { FirstWrong bytes.now tokens.now ends.now result }
 {
     'ends: for (name, end) in ends {

@@ -1,21 +1,22 @@
-//! Expressions and designators (Oberon-07 report, section 8). Each function takes the levels that may be nested in what it reads.
+//! Expressions and designators (Oberon-07 report, section 8). `depth` is the number of nested levels that are left for what a function
+//! parses.
 
 ghost use Rattle.std.specs.Prelude.{◌++◌};
 ghost use Rattle.ob_scan.specs.declared.kind.Kind.TheVariants as kinds;
 ghost use Rattle.ob_tree.specs.Constructs as constructs;
-ghost use Rattle.ob_tree.specs.Marks as marks;
-ghost use Rattle.ob_tree.specs.Marks.{word, if_there, each, each_after};
-ghost use Rattle.ob_tree.specs.Expressions.{relation_kind, mul_kind, add_kind, expr_outline, expr_list_outline, sum_outline, term_outline, factor_outline, element_outline, element_list_outline, designator_outline, selector_outline};
-ghost use Rattle.ob_parse.specs.Forms.{many, several, optional, unless, begins, accept_at, expect_at, name_at, seq, prefixed, node};
-ghost use Rattle.ob_parse.specs.Accords.{Accords, ahead};
+ghost use Rattle.ob_tree.specs.TreeEvents as marks;
+ghost use Rattle.ob_tree.specs.TreeEvents.{word, if_present, each, each_after};
+ghost use Rattle.ob_tree.specs.Expressions.{relation_kind, mul_kind, add_kind, expr_events, expr_list_events, sum_events, term_events, factor_events, element_events, element_list_events, designator_events, selector_events};
+ghost use Rattle.ob_parse.specs.Combinators.{many, several, optional, unless, begins, accept_at, expect_at, name_at, seq, prefixed, node};
+ghost use Rattle.ob_parse.specs.AgreesWith.{AgreesWith, remaining};
 ghost use Rattle.ob_parse.specs.ReadExpressions.{relation_start, mul_start, add_start, selector_first, element_with, selector_with, designator_with, factor_at, negated_at, term_at, sum_at, expr_at};
 
 use crate::cursor::Cursor;
 use crate::operators::{
     add_operator, begins_expression, begins_factor, begins_selector, mul_operator, relation, sign,
 };
-use crate::stop::{Stop, boxed, keep, keep_boxed, some};
-use crate::tokens::{accept, beyond, expect, identifier, is_at};
+use crate::stop::{Stop, boxed, push_boxed, push_item, some};
+use crate::tokens::{accept, depth_stop, expect, identifier, is_at};
 use ob_scan::{Kind, Token};
 use ob_tree::expression::{
     AddOperator, Designator, Element, ElementList, Expr, ExprList, Factor, MulOperator, Relation,
@@ -24,19 +25,19 @@ use ob_tree::expression::{
 use ob_tree::token::Leaf;
 use std::alloc::Global;
 
-/// An expression, itself a level.
+/// Parses an expression, which is a level itself.
 #[cycle(expressions)]
-#[tactic(auto, using(ob_tree::proofs::ExpressionLayers::expressions_made), unfolding(crate::specs::ReadExpressions::expr_at, crate::specs::ReadExpressions::expr_with, crate::specs::Forms::limit_at))]
+#[tactic(auto, using(ob_tree::proofs::ExpressionLayers::expressions_made), unfolding(crate::specs::ReadExpressions::expr_at, crate::specs::ReadExpressions::expr_with, crate::specs::Combinators::limit_at))]
 pub(crate) fn expression(
     alloc: Global,
     tokens: &[Token],
     input: Cursor,
     depth: u32,
 ) -> Result<(Box<Expr>, Cursor), Stop>
-    ensures { Accords tokens.now (λ x. (expr_outline x.0.value, ahead tokens.now x.1)) result (expr_at depth (ahead tokens.now input)) }
+    ensures { AgreesWith tokens.now (λ x. (expr_events x.0.value, remaining tokens.now x.1)) result (expr_at depth (remaining tokens.now input)) }
 {
     if depth == 0 {
-        return Err(beyond(tokens, input, begins_expression(tokens, input)));
+        return Err(depth_stop(tokens, input, begins_expression(tokens, input)));
     }
     let (left, input) = sum(alloc, tokens, input, depth - 1)?;
     let (compared, input) = compared(alloc, tokens, input, depth - 1)?;
@@ -45,15 +46,15 @@ pub(crate) fn expression(
     boxed(alloc, expression, input)
 }
 
-/// The expression behind a word, if this stands here.
-pub(crate) fn expression_behind(
+/// Parses the expression after a keyword, if the keyword is next.
+pub(crate) fn optional_expression(
     alloc: Global,
     tokens: &[Token],
     input: Cursor,
     depth: u32,
     word: Kind,
 ) -> Result<(Option<Box<Expr>>, Cursor), Stop>
-    ensures { Accords tokens.now (λ x. (if_there (λ e. marks.word word ++ expr_outline e.value) x.0, ahead tokens.now x.1)) result (optional (accept_at word) (expr_at depth) (ahead tokens.now input)) }
+    ensures { AgreesWith tokens.now (λ x. (if_present (λ e. marks.word word ++ expr_events e.value) x.0, remaining tokens.now x.1)) result (optional (accept_at word) (expr_at depth) (remaining tokens.now input)) }
 {
     match accept(tokens, input, word) {
         None => Ok((None, input)),
@@ -61,7 +62,7 @@ pub(crate) fn expression_behind(
     }
 }
 
-/// A relation and its right side, if it stands here.
+/// Parses a relation and its right operand, if a relation is next.
 #[cycle(expressions)]
 fn compared(
     alloc: Global,
@@ -69,7 +70,7 @@ fn compared(
     input: Cursor,
     depth: u32,
 ) -> Result<(Option<(Relation, Box<SimpleExpression>)>, Cursor), Stop>
-    ensures { Accords tokens.now (λ x. (if_there (λ c. word (relation_kind c.0) ++ sum_outline c.1.value) x.0, ahead tokens.now x.1)) result (optional relation_start (sum_at depth) (ahead tokens.now input)) }
+    ensures { AgreesWith tokens.now (λ x. (if_present (λ c. word (relation_kind c.0) ++ sum_events c.1.value) x.0, remaining tokens.now x.1)) result (optional relation_start (sum_at depth) (remaining tokens.now input)) }
 {
     match relation(tokens, input) {
         None => Ok((None, input)),
@@ -80,16 +81,16 @@ fn compared(
     }
 }
 
-/// Expressions with commas between them.
+/// Parses one expression or more, separated by commas.
 #[cycle(expressions)]
-#[tactic(auto, using(ob_tree::proofs::ExpressionLayers::expressions_made), unfolding(crate::specs::Forms::several))]
+#[tactic(auto, using(ob_tree::proofs::ExpressionLayers::expressions_made), unfolding(crate::specs::Combinators::several))]
 pub(crate) fn expression_list(
     alloc: Global,
     tokens: &[Token],
     input: Cursor,
     depth: u32,
 ) -> Result<(Box<ExprList>, Cursor), Stop>
-    ensures { Accords tokens.now (λ x. (expr_list_outline x.0.value, ahead tokens.now x.1)) result (several kinds.Comma (expr_at depth) (ahead tokens.now input)) }
+    ensures { AgreesWith tokens.now (λ x. (expr_list_events x.0.value, remaining tokens.now x.1)) result (several kinds.Comma (expr_at depth) (remaining tokens.now input)) }
 {
     let (first, here) = expression(alloc, tokens, input, depth)?;
     let (rest, here) = more_expressions(alloc, tokens, here, depth)?;
@@ -100,6 +101,7 @@ pub(crate) fn expression_list(
     boxed(alloc, list, here)
 }
 
+/// Parses the further expressions of a list, each after a comma.
 #[cycle(expressions)]
 fn more_expressions(
     alloc: Global,
@@ -107,17 +109,17 @@ fn more_expressions(
     input: Cursor,
     depth: u32,
 ) -> Result<(Vec<Expr>, Cursor), Stop>
-    ensures { Accords tokens.now (λ x. (each_after kinds.Comma expr_outline x.0.items, ahead tokens.now x.1)) result (many (accept_at kinds.Comma) (expr_at depth) (ahead tokens.now input)) }
+    ensures { AgreesWith tokens.now (λ x. (each_after kinds.Comma expr_events x.0.items, remaining tokens.now x.1)) result (many (accept_at kinds.Comma) (expr_at depth) (remaining tokens.now input)) }
 {
     let mut rest = Vec::new(alloc);
     let mut here = input;
     'more: while let Some(after) = accept(tokens, here, Kind::Comma) {
-        here = keep_boxed(&mut rest, expression(alloc, tokens, after, depth))?;
+        here = push_boxed(&mut rest, expression(alloc, tokens, after, depth))?;
     }
     Ok((rest, here))
 }
 
-/// A simple expression.
+/// Parses a simple expression.
 #[cycle(expressions)]
 #[tactic(auto, using(ob_tree::proofs::ExpressionLayers::expressions_made), unfolding(crate::specs::ReadExpressions::sum_with))]
 fn sum(
@@ -126,7 +128,7 @@ fn sum(
     input: Cursor,
     depth: u32,
 ) -> Result<(Box<SimpleExpression>, Cursor), Stop>
-    ensures { Accords tokens.now (λ x. (sum_outline x.0.value, ahead tokens.now x.1)) result (sum_at depth (ahead tokens.now input)) }
+    ensures { AgreesWith tokens.now (λ x. (sum_events x.0.value, remaining tokens.now x.1)) result (sum_at depth (remaining tokens.now input)) }
 {
     let (sign, here) = sign(tokens, input);
     let (first, here) = term(alloc, tokens, here, depth)?;
@@ -134,6 +136,7 @@ fn sum(
     boxed(alloc, SimpleExpression { sign, first, rest }, here)
 }
 
+/// Parses the further terms of a simple expression, each after an operator.
 #[cycle(expressions)]
 fn more_terms(
     alloc: Global,
@@ -141,7 +144,7 @@ fn more_terms(
     input: Cursor,
     depth: u32,
 ) -> Result<(Vec<(AddOperator, Term)>, Cursor), Stop>
-    ensures { Accords tokens.now (λ x. (each (λ p. word (add_kind p.0) ++ term_outline p.1) x.0.items, ahead tokens.now x.1)) result (many add_start (term_at depth) (ahead tokens.now input)) }
+    ensures { AgreesWith tokens.now (λ x. (each (λ p. word (add_kind p.0) ++ term_events p.1) x.0.items, remaining tokens.now x.1)) result (many add_start (term_at depth) (remaining tokens.now input)) }
 {
     let mut rest = Vec::new(alloc);
     let mut here = input;
@@ -153,16 +156,18 @@ fn more_terms(
     Ok((rest, here))
 }
 
+/// Parses a term.
 #[cycle(expressions)]
 #[tactic(auto, using(ob_tree::proofs::ExpressionLayers::expressions_made), unfolding(crate::specs::ReadExpressions::term_with))]
 fn term(alloc: Global, tokens: &[Token], input: Cursor, depth: u32) -> Result<(Term, Cursor), Stop>
-    ensures { Accords tokens.now (λ x. (term_outline x.0, ahead tokens.now x.1)) result (term_at depth (ahead tokens.now input)) }
+    ensures { AgreesWith tokens.now (λ x. (term_events x.0, remaining tokens.now x.1)) result (term_at depth (remaining tokens.now input)) }
 {
     let (first, here) = factor(alloc, tokens, input, depth)?;
     let (rest, here) = more_factors(alloc, tokens, here, depth)?;
     Ok((Term { first, rest }, here))
 }
 
+/// Parses the further factors of a term, each after an operator.
 #[cycle(expressions)]
 fn more_factors(
     alloc: Global,
@@ -170,7 +175,7 @@ fn more_factors(
     input: Cursor,
     depth: u32,
 ) -> Result<(Vec<(MulOperator, Factor)>, Cursor), Stop>
-    ensures { Accords tokens.now (λ x. (each (λ p. word (mul_kind p.0) ++ factor_outline p.1) x.0.items, ahead tokens.now x.1)) result (many mul_start (factor_at depth) (ahead tokens.now input)) }
+    ensures { AgreesWith tokens.now (λ x. (each (λ p. word (mul_kind p.0) ++ factor_events p.1) x.0.items, remaining tokens.now x.1)) result (many mul_start (factor_at depth) (remaining tokens.now input)) }
 {
     let mut rest = Vec::new(alloc);
     let mut here = input;
@@ -182,6 +187,7 @@ fn more_factors(
     Ok((rest, here))
 }
 
+/// Parses a factor.
 #[cycle(expressions)]
 #[tactic(auto, using(ob_tree::proofs::ExpressionLayers::expressions_made), unfolding(crate::specs::ReadExpressions::factor_with))]
 fn factor(
@@ -190,7 +196,7 @@ fn factor(
     input: Cursor,
     depth: u32,
 ) -> Result<(Factor, Cursor), Stop>
-    ensures { Accords tokens.now (λ x. (factor_outline x.0, ahead tokens.now x.1)) result (factor_at depth (ahead tokens.now input)) }
+    ensures { AgreesWith tokens.now (λ x. (factor_events x.0, remaining tokens.now x.1)) result (factor_at depth (remaining tokens.now input)) }
 {
     match input.next(tokens) {
         Some((Leaf::Name(number), rest)) => named(alloc, tokens, number, rest, depth),
@@ -205,7 +211,7 @@ fn factor(
     }
 }
 
-/// A designator as a factor, behind its name.
+/// Parses a designator as a factor, after its first identifier, which has this index.
 #[cycle(expressions)]
 #[tactic(auto, using(ob_tree::proofs::ExpressionLayers::expressions_made))]
 fn named(
@@ -215,25 +221,25 @@ fn named(
     input: Cursor,
     depth: u32,
 ) -> Result<(Factor, Cursor), Stop>
-    ensures { Accords tokens.now (λ x. (factor_outline x.0, ahead tokens.now x.1)) result (node constructs.Factor (designator_with (expr_at depth) number) (ahead tokens.now input)) }
+    ensures { AgreesWith tokens.now (λ x. (factor_events x.0, remaining tokens.now x.1)) result (node constructs.Factor (designator_with (expr_at depth) number) (remaining tokens.now input)) }
 {
     let (designator, rest) = designator(alloc, tokens, number, input, depth)?;
     Ok((Factor::Name(designator), rest))
 }
 
-/// What stands behind the brace that opens a set.
+/// Parses the part of a set after its opening brace.
 #[cycle(expressions)]
 #[tactic(auto, using(ob_tree::proofs::ExpressionLayers::expressions_made))]
 fn set(alloc: Global, tokens: &[Token], input: Cursor, depth: u32) -> Result<(Factor, Cursor), Stop>
-    ensures { Accords tokens.now (λ x. (factor_outline x.0, ahead tokens.now x.1)) result
-        (node constructs.Factor (prefixed (word kinds.LeftBrace) (seq (optional (unless kinds.RightBrace) (several kinds.Comma (element_with (expr_at depth)))) (expect_at kinds.RightBrace))) (ahead tokens.now input)) }
+    ensures { AgreesWith tokens.now (λ x. (factor_events x.0, remaining tokens.now x.1)) result
+        (node constructs.Factor (prefixed (word kinds.LeftBrace) (seq (optional (unless kinds.RightBrace) (several kinds.Comma (element_with (expr_at depth)))) (expect_at kinds.RightBrace))) (remaining tokens.now input)) }
 {
     let (elements, rest) = elements(alloc, tokens, input, depth)?;
     let rest = expect(tokens, rest, Kind::RightBrace)?;
     Ok((Factor::Set(elements), rest))
 }
 
-/// What stands behind a parenthesis.
+/// Parses the part of a factor in parentheses after the opening parenthesis.
 #[cycle(expressions)]
 #[tactic(auto, using(ob_tree::proofs::ExpressionLayers::expressions_made))]
 fn group(
@@ -242,44 +248,44 @@ fn group(
     input: Cursor,
     depth: u32,
 ) -> Result<(Factor, Cursor), Stop>
-    ensures { Accords tokens.now (λ x. (factor_outline x.0, ahead tokens.now x.1)) result
-        (node constructs.Factor (prefixed (word kinds.LeftParen) (seq (expr_at depth) (expect_at kinds.RightParen))) (ahead tokens.now input)) }
+    ensures { AgreesWith tokens.now (λ x. (factor_events x.0, remaining tokens.now x.1)) result
+        (node constructs.Factor (prefixed (word kinds.LeftParen) (seq (expr_at depth) (expect_at kinds.RightParen))) (remaining tokens.now input)) }
 {
     let (inner, rest) = expression(alloc, tokens, input, depth)?;
     let rest = expect(tokens, rest, Kind::RightParen)?;
     Ok((Factor::Group(inner), rest))
 }
 
-/// What stands behind a `~`: a factor, itself a level.
+/// Parses the factor after a `~`, which is a level itself.
 #[cycle(expressions)]
-#[tactic(auto, using(ob_tree::proofs::ExpressionLayers::expressions_made), unfolding(crate::specs::ReadExpressions::negated_at, crate::specs::Forms::limit_at))]
+#[tactic(auto, using(ob_tree::proofs::ExpressionLayers::expressions_made), unfolding(crate::specs::ReadExpressions::negated_at, crate::specs::Combinators::limit_at))]
 fn negated(
     alloc: Global,
     tokens: &[Token],
     input: Cursor,
     depth: u32,
 ) -> Result<(Factor, Cursor), Stop>
-    ensures { Accords tokens.now (λ x. (factor_outline x.0, ahead tokens.now x.1)) result
-        (node constructs.Factor (prefixed (word kinds.Tilde) (negated_at depth)) (ahead tokens.now input)) }
+    ensures { AgreesWith tokens.now (λ x. (factor_events x.0, remaining tokens.now x.1)) result
+        (node constructs.Factor (prefixed (word kinds.Tilde) (negated_at depth)) (remaining tokens.now input)) }
 {
     if depth == 0 {
-        return Err(beyond(tokens, input, begins_factor(tokens, input)));
+        return Err(depth_stop(tokens, input, begins_factor(tokens, input)));
     }
     let (factor, rest) = factor(alloc, tokens, input, depth - 1)?;
     let (factor, rest) = boxed(alloc, factor, rest)?;
     Ok((Factor::Not(factor), rest))
 }
 
-/// The elements of a set, if it isn't empty.
+/// Parses the elements of a set, if it has any.
 #[cycle(expressions)]
-#[tactic(auto, unfolding(crate::specs::Forms::unless))]
+#[tactic(auto, unfolding(crate::specs::Combinators::unless))]
 fn elements(
     alloc: Global,
     tokens: &[Token],
     input: Cursor,
     depth: u32,
 ) -> Result<(Option<Box<ElementList>>, Cursor), Stop>
-    ensures { Accords tokens.now (λ x. (if_there (λ l. element_list_outline l.value) x.0, ahead tokens.now x.1)) result (optional (unless kinds.RightBrace) (several kinds.Comma (element_with (expr_at depth))) (ahead tokens.now input)) }
+    ensures { AgreesWith tokens.now (λ x. (if_present (λ l. element_list_events l.value) x.0, remaining tokens.now x.1)) result (optional (unless kinds.RightBrace) (several kinds.Comma (element_with (expr_at depth))) (remaining tokens.now input)) }
 {
     if is_at(tokens, input, Kind::RightBrace) {
         return Ok((None, input));
@@ -287,15 +293,16 @@ fn elements(
     some(element_list(alloc, tokens, input, depth))
 }
 
+/// Parses one element or more, separated by commas.
 #[cycle(expressions)]
-#[tactic(auto, using(ob_tree::proofs::ExpressionLayers::expressions_made), unfolding(crate::specs::Forms::several))]
+#[tactic(auto, using(ob_tree::proofs::ExpressionLayers::expressions_made), unfolding(crate::specs::Combinators::several))]
 fn element_list(
     alloc: Global,
     tokens: &[Token],
     input: Cursor,
     depth: u32,
 ) -> Result<(Box<ElementList>, Cursor), Stop>
-    ensures { Accords tokens.now (λ x. (element_list_outline x.0.value, ahead tokens.now x.1)) result (several kinds.Comma (element_with (expr_at depth)) (ahead tokens.now input)) }
+    ensures { AgreesWith tokens.now (λ x. (element_list_events x.0.value, remaining tokens.now x.1)) result (several kinds.Comma (element_with (expr_at depth)) (remaining tokens.now input)) }
 {
     let (first, here) = element(alloc, tokens, input, depth)?;
     let (rest, here) = more_elements(alloc, tokens, here, depth)?;
@@ -306,6 +313,7 @@ fn element_list(
     boxed(alloc, list, here)
 }
 
+/// Parses the further elements of a set, each after a comma.
 #[cycle(expressions)]
 fn more_elements(
     alloc: Global,
@@ -313,16 +321,17 @@ fn more_elements(
     input: Cursor,
     depth: u32,
 ) -> Result<(Vec<Element>, Cursor), Stop>
-    ensures { Accords tokens.now (λ x. (each_after kinds.Comma element_outline x.0.items, ahead tokens.now x.1)) result (many (accept_at kinds.Comma) (element_with (expr_at depth)) (ahead tokens.now input)) }
+    ensures { AgreesWith tokens.now (λ x. (each_after kinds.Comma element_events x.0.items, remaining tokens.now x.1)) result (many (accept_at kinds.Comma) (element_with (expr_at depth)) (remaining tokens.now input)) }
 {
     let mut rest = Vec::new(alloc);
     let mut here = input;
     'more: while let Some(after) = accept(tokens, here, Kind::Comma) {
-        here = keep_boxed(&mut rest, element(alloc, tokens, after, depth))?;
+        here = push_boxed(&mut rest, element(alloc, tokens, after, depth))?;
     }
     Ok((rest, here))
 }
 
+/// Parses an element of a set: an expression or a range.
 #[cycle(expressions)]
 #[tactic(auto, using(ob_tree::proofs::ExpressionLayers::expressions_made), unfolding(crate::specs::ReadExpressions::element_with))]
 fn element(
@@ -331,7 +340,7 @@ fn element(
     input: Cursor,
     depth: u32,
 ) -> Result<(Box<Element>, Cursor), Stop>
-    ensures { Accords tokens.now (λ x. (element_outline x.0.value, ahead tokens.now x.1)) result (element_with (expr_at depth) (ahead tokens.now input)) }
+    ensures { AgreesWith tokens.now (λ x. (element_events x.0.value, remaining tokens.now x.1)) result (element_with (expr_at depth) (remaining tokens.now input)) }
 {
     let (low, here) = expression(alloc, tokens, input, depth)?;
     let (high, here) = high(alloc, tokens, here, depth)?;
@@ -342,7 +351,7 @@ fn element(
     boxed(alloc, element, here)
 }
 
-/// The end of a range behind its two dots, if they stand here.
+/// Parses `..` and the upper bound of a range, if `..` is next.
 #[cycle(expressions)]
 fn high(
     alloc: Global,
@@ -350,7 +359,7 @@ fn high(
     input: Cursor,
     depth: u32,
 ) -> Result<(Option<Expr>, Cursor), Stop>
-    ensures { Accords tokens.now (λ x. (if_there (λ e. word kinds.DotDot ++ expr_outline e) x.0, ahead tokens.now x.1)) result (optional (accept_at kinds.DotDot) (expr_at depth) (ahead tokens.now input)) }
+    ensures { AgreesWith tokens.now (λ x. (if_present (λ e. word kinds.DotDot ++ expr_events e) x.0, remaining tokens.now x.1)) result (optional (accept_at kinds.DotDot) (expr_at depth) (remaining tokens.now input)) }
 {
     match accept(tokens, input, Kind::DotDot) {
         None => Ok((None, input)),
@@ -361,7 +370,7 @@ fn high(
     }
 }
 
-/// A designator, behind its name.
+/// Parses a designator after its first identifier, which has the index `head`.
 #[cycle(expressions)]
 #[tactic(auto, using(ob_tree::proofs::ExpressionLayers::expressions_made), unfolding(crate::specs::ReadExpressions::designator_with))]
 pub(crate) fn designator(
@@ -371,12 +380,13 @@ pub(crate) fn designator(
     input: Cursor,
     depth: u32,
 ) -> Result<(Designator, Cursor), Stop>
-    ensures { Accords tokens.now (λ x. (designator_outline x.0, ahead tokens.now x.1)) result (designator_with (expr_at depth) head (ahead tokens.now input)) }
+    ensures { AgreesWith tokens.now (λ x. (designator_events x.0, remaining tokens.now x.1)) result (designator_with (expr_at depth) head (remaining tokens.now input)) }
 {
     let (selectors, here) = more_selectors(alloc, tokens, input, depth)?;
     Ok((Designator { head, selectors }, here))
 }
 
+/// Parses the selectors of a designator.
 #[cycle(expressions)]
 fn more_selectors(
     alloc: Global,
@@ -384,25 +394,26 @@ fn more_selectors(
     input: Cursor,
     depth: u32,
 ) -> Result<(Vec<Selector>, Cursor), Stop>
-    ensures { Accords tokens.now (λ x. (each selector_outline x.0.items, ahead tokens.now x.1)) result (many (begins selector_first) (selector_with (expr_at depth)) (ahead tokens.now input)) }
+    ensures { AgreesWith tokens.now (λ x. (each selector_events x.0.items, remaining tokens.now x.1)) result (many (begins selector_first) (selector_with (expr_at depth)) (remaining tokens.now input)) }
 {
     let mut selectors = Vec::new(alloc);
     let mut here = input;
     'more: while begins_selector(tokens, here) {
-        here = keep(&mut selectors, selector(alloc, tokens, here, depth))?;
+        here = push_item(&mut selectors, selector(alloc, tokens, here, depth))?;
     }
     Ok((selectors, here))
 }
 
+/// Parses a selector.
 #[cycle(expressions)]
-#[tactic(auto, using(ob_tree::proofs::ExpressionLayers::expressions_made), unfolding(crate::specs::ReadExpressions::selector_with, crate::specs::Forms::name_at))]
+#[tactic(auto, using(ob_tree::proofs::ExpressionLayers::expressions_made), unfolding(crate::specs::ReadExpressions::selector_with, crate::specs::Combinators::name_at))]
 fn selector(
     alloc: Global,
     tokens: &[Token],
     input: Cursor,
     depth: u32,
 ) -> Result<(Selector, Cursor), Stop>
-    ensures { Accords tokens.now (λ x. (selector_outline x.0, ahead tokens.now x.1)) result (selector_with (expr_at depth) (ahead tokens.now input)) }
+    ensures { AgreesWith tokens.now (λ x. (selector_events x.0, remaining tokens.now x.1)) result (selector_with (expr_at depth) (remaining tokens.now input)) }
 {
     match input.next(tokens) {
         Some((Leaf::Word(Kind::Dot), rest)) => field(tokens, rest),
@@ -413,16 +424,16 @@ fn selector(
     }
 }
 
-/// The name behind a dot.
-#[tactic(auto, using(ob_tree::proofs::ExpressionLayers::expressions_made), unfolding(crate::specs::Forms::name_at))]
+/// Parses the name of a field after its dot.
+#[tactic(auto, using(ob_tree::proofs::ExpressionLayers::expressions_made), unfolding(crate::specs::Combinators::name_at))]
 fn field(tokens: &[Token], input: Cursor) -> Result<(Selector, Cursor), Stop>
-    ensures { Accords tokens.now (λ x. (selector_outline x.0, ahead tokens.now x.1)) result (node constructs.Selector (prefixed (word kinds.Dot) (name_at marks.selected)) (ahead tokens.now input)) }
+    ensures { AgreesWith tokens.now (λ x. (selector_events x.0, remaining tokens.now x.1)) result (node constructs.Selector (prefixed (word kinds.Dot) (name_at marks.selected)) (remaining tokens.now input)) }
 {
     let (field, rest) = identifier(tokens, input)?;
     Ok((Selector::Field(field), rest))
 }
 
-/// What stands behind a bracket.
+/// Parses the indices after an opening bracket.
 #[cycle(expressions)]
 #[tactic(auto, using(ob_tree::proofs::ExpressionLayers::expressions_made))]
 fn index(
@@ -431,15 +442,15 @@ fn index(
     input: Cursor,
     depth: u32,
 ) -> Result<(Selector, Cursor), Stop>
-    ensures { Accords tokens.now (λ x. (selector_outline x.0, ahead tokens.now x.1)) result
-        (node constructs.Selector (prefixed (word kinds.LeftBracket) (seq (several kinds.Comma (expr_at depth)) (expect_at kinds.RightBracket))) (ahead tokens.now input)) }
+    ensures { AgreesWith tokens.now (λ x. (selector_events x.0, remaining tokens.now x.1)) result
+        (node constructs.Selector (prefixed (word kinds.LeftBracket) (seq (several kinds.Comma (expr_at depth)) (expect_at kinds.RightBracket))) (remaining tokens.now input)) }
 {
     let (list, rest) = expression_list(alloc, tokens, input, depth)?;
     let rest = expect(tokens, rest, Kind::RightBracket)?;
     Ok((Selector::Index(list), rest))
 }
 
-/// What stands behind the parenthesis of a call.
+/// Parses the part of a call, or of a type guard, after its opening parenthesis.
 #[cycle(expressions)]
 #[tactic(auto, using(ob_tree::proofs::ExpressionLayers::expressions_made))]
 fn call(
@@ -448,24 +459,24 @@ fn call(
     input: Cursor,
     depth: u32,
 ) -> Result<(Selector, Cursor), Stop>
-    ensures { Accords tokens.now (λ x. (selector_outline x.0, ahead tokens.now x.1)) result
-        (node constructs.Selector (prefixed (word kinds.LeftParen) (seq (optional (unless kinds.RightParen) (several kinds.Comma (expr_at depth))) (expect_at kinds.RightParen))) (ahead tokens.now input)) }
+    ensures { AgreesWith tokens.now (λ x. (selector_events x.0, remaining tokens.now x.1)) result
+        (node constructs.Selector (prefixed (word kinds.LeftParen) (seq (optional (unless kinds.RightParen) (several kinds.Comma (expr_at depth))) (expect_at kinds.RightParen))) (remaining tokens.now input)) }
 {
     let (list, rest) = arguments(alloc, tokens, input, depth)?;
     let rest = expect(tokens, rest, Kind::RightParen)?;
     Ok((Selector::Arguments(list), rest))
 }
 
-/// The arguments of a call, if there are any.
+/// Parses the arguments of a call, if it has any.
 #[cycle(expressions)]
-#[tactic(auto, unfolding(crate::specs::Forms::unless))]
+#[tactic(auto, unfolding(crate::specs::Combinators::unless))]
 fn arguments(
     alloc: Global,
     tokens: &[Token],
     input: Cursor,
     depth: u32,
 ) -> Result<(Option<Box<ExprList>>, Cursor), Stop>
-    ensures { Accords tokens.now (λ x. (if_there (λ l. expr_list_outline l.value) x.0, ahead tokens.now x.1)) result (optional (unless kinds.RightParen) (several kinds.Comma (expr_at depth)) (ahead tokens.now input)) }
+    ensures { AgreesWith tokens.now (λ x. (if_present (λ l. expr_list_events l.value) x.0, remaining tokens.now x.1)) result (optional (unless kinds.RightParen) (several kinds.Comma (expr_at depth)) (remaining tokens.now input)) }
 {
     if is_at(tokens, input, Kind::RightParen) {
         return Ok((None, input));

@@ -1,23 +1,23 @@
-//! Why tokens have no tree.
+//! The errors of the parser.
 
 use std::alloc::AllocError;
 use thiserror::Error;
 
-/// Why no tree was made. Offsets are in bytes, from 0.
+/// Why there is no tree. Offsets are in bytes, from 0.
 #[derive(Clone, Copy, Debug, PartialEq, Eq, Error)]
 pub enum ParseFault {
-    /// No tree derives the tokens. Read from the left, the token at the offset can't stand where it does; the offset is
-    /// the text's length where it ends too early.
+    /// No tree derives the tokens. Parsed from the left, the token at this offset is the first one that is wrong; the offset is the
+    /// length of the text if it ends too early.
     #[error("the token at {offset} is wrong")]
     Syntax { offset: u32 },
-    /// The tree has a name after an END that isn't the one of its module or procedure; the first such name begins there.
+    /// A name after an END differs from the name of its module or procedure. The first wrong name begins at this offset.
     #[error("the name at {offset} is not that of its module or procedure")]
     EndName { offset: u32 },
-    /// No tree of at most 200 levels derives the tokens. Read from the left, the token at the offset begins a construct
-    /// that has no level left. A token that begins none is wrong there, which is Syntax.
+    /// No tree of at most 200 levels derives the tokens. Parsed from the left, the token at this offset begins a construct for which no
+    /// level is left. A token there that begins no construct is a Syntax error.
     #[error("the construct at {offset} is nested too deep")]
     TooDeep { offset: u32 },
-    /// A growth of memory was refused.
+    /// An allocation failed.
     #[error("memory ran out")]
     Memory,
 }

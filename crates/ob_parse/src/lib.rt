@@ -1,6 +1,9 @@
-//! From the tokens of an Oberon-07 module to its syntax tree, by readers that others may use.
-//! Stands on `ob_scan` and `ob_tree`, with `thiserror` for its faults.
-//! Its contract: the one tree that derives the tokens, of at most 200 levels and with right END names, or why there is none.
+//! The parser: from the tokens of an Oberon-07 module to its syntax tree, by recursive descent with one token of look-ahead (a field list
+//! needs two).
+//! Depends on `ob_scan` for tokens, on `ob_tree` for the tree, and on `thiserror` for the messages of its errors. The readers of tokens
+//! and of parts are public for parsers that make no tree.
+//! Main call: `parse`. It returns the one tree that derives the tokens, of at most 200 levels and with right names after END, or the
+//! reason why there is none.
 #![tactic(auto)]
 
 pub mod cursor;

@@ -2,8 +2,8 @@
 
 ghost use Rattle.std.specs.Prelude.{◌≡◌, ◌+◌, IfOk};
 ghost use Rattle.ob_tree.specs.Widths.{identdef_width, name_width};
-ghost use Rattle.ob_tree.specs.Names.{qualident_outline, identdef_outline};
-ghost use Rattle.ob_parse.specs.Accords.{Accords, ahead};
+ghost use Rattle.ob_tree.specs.Names.{qualident_events, identdef_events};
+ghost use Rattle.ob_parse.specs.AgreesWith.{AgreesWith, remaining};
 ghost use Rattle.ob_parse.specs.ReadNames as readers;
 
 use crate::cursor::Cursor;
@@ -12,14 +12,16 @@ use crate::tokens::{accept, identifier, skip};
 use ob_scan::{Kind, Token};
 use ob_tree::name::{Identdef, Qualident};
 
-/// A qualified identifier, behind its first name.
-#[tactic(auto, unfolding(ob_tree::specs::Names::qualident_outline, crate::specs::ReadNames::qualident_after, crate::specs::Forms::name_at))]
+/// Parses a qualified identifier after its first identifier, which has the index `head`.
+#[tactic(auto, unfolding(ob_tree::specs::Names::qualident_events, crate::specs::ReadNames::qualident_after, crate::specs::Combinators::name_at))]
 pub fn qualident_after(
     tokens: &[Token],
     head: u32,
     input: Cursor,
 ) -> Result<(Qualident, Cursor), Stop>
-    ensures read { Accords tokens.now (λ x. (qualident_outline x.0, ahead tokens.now x.1)) result (readers.qualident_after head (ahead tokens.now input)) }
+    // What it returns is what the grammar reads, or the error is.
+    ensures read { AgreesWith tokens.now (λ x. (qualident_events x.0, remaining tokens.now x.1)) result (readers.qualident_after head (remaining tokens.now input)) }
+    // The cursor is advanced by these tokens.
     ensures number { IfOk result (λ x. x.1.at + 1 ≡ input.at + name_width x.0.member) }
 {
     match accept(tokens, input, Kind::Dot) {
@@ -37,20 +39,24 @@ pub fn qualident_after(
     }
 }
 
-/// A qualified identifier.
-#[tactic(auto, unfolding(crate::specs::ReadNames::qualident_after, crate::specs::ReadNames::qualident_at, crate::specs::Forms::name_at))]
+/// Parses a qualified identifier.
+#[tactic(auto, unfolding(crate::specs::ReadNames::qualident_after, crate::specs::ReadNames::qualident_at, crate::specs::Combinators::name_at))]
 pub fn qualident(tokens: &[Token], input: Cursor) -> Result<(Qualident, Cursor), Stop>
-    ensures read { Accords tokens.now (λ x. (qualident_outline x.0, ahead tokens.now x.1)) result (readers.qualident_at (ahead tokens.now input)) }
+    // What it returns is what the grammar reads, or the error is.
+    ensures read { AgreesWith tokens.now (λ x. (qualident_events x.0, remaining tokens.now x.1)) result (readers.qualident_at (remaining tokens.now input)) }
+    // The cursor is advanced by these tokens.
     ensures number { IfOk result (λ x. x.1.at ≡ input.at + name_width x.0.member) }
 {
     let (head, rest) = identifier(tokens, input)?;
     qualident_after(tokens, head, rest)
 }
 
-/// A declaring identifier.
-#[tactic(auto, using(crate::proofs::Stars::star_read), unfolding(ob_tree::specs::Names::identdef_outline, crate::specs::ReadNames::identdef_at, crate::specs::ReadNames::identdef_after))]
+/// Parses a declaring identifier, which an asterisk exports.
+#[tactic(auto, using(crate::proofs::Stars::star_read), unfolding(ob_tree::specs::Names::identdef_events, crate::specs::ReadNames::identdef_at, crate::specs::ReadNames::identdef_after))]
 pub fn identdef(tokens: &[Token], input: Cursor) -> Result<(Identdef, Cursor), Stop>
-    ensures read { Accords tokens.now (λ x. (identdef_outline x.0, ahead tokens.now x.1)) result (readers.identdef_at (ahead tokens.now input)) }
+    // What it returns is what the grammar reads, or the error is.
+    ensures read { AgreesWith tokens.now (λ x. (identdef_events x.0, remaining tokens.now x.1)) result (readers.identdef_at (remaining tokens.now input)) }
+    // The cursor is advanced by these tokens.
     ensures number { IfOk result (λ x. x.1.at ≡ input.at + identdef_width x.0) }
 {
     let (name, rest) = identifier(tokens, input)?;

@@ -1,11 +1,11 @@
-//! Operators, and the tokens that expressions and their parts begin with (Oberon-07 report, section 8).
+//! Operators, and the first tokens of expressions and their parts (Oberon-07 report, section 8).
 
 ghost use Rattle.std.specs.Prelude.{◌≡◌, ◌+◌, Ok, is_some, IfSome, if◌then◌else◌};
-ghost use Rattle.ob_tree.specs.Marks.{word, if_there};
+ghost use Rattle.ob_tree.specs.TreeEvents.{word, if_present};
 ghost use Rattle.ob_tree.specs.Expressions.{sign_kind};
-ghost use Rattle.ob_parse.specs.Front.{uncons, front};
-ghost use Rattle.ob_parse.specs.Forms.{nothing, optional};
-ghost use Rattle.ob_parse.specs.Accords.{ahead, seen};
+ghost use Rattle.ob_parse.specs.Lookahead.{uncons, head_is};
+ghost use Rattle.ob_parse.specs.Combinators.{nothing, optional};
+ghost use Rattle.ob_parse.specs.AgreesWith.{remaining, with_remaining};
 ghost use Rattle.ob_parse.specs.ReadExpressions.{relation_at, add_at, mul_at, sign_start, expr_first, factor_first, selector_first};
 
 use crate::cursor::Cursor;
@@ -13,10 +13,12 @@ use ob_scan::{Kind, Token};
 use ob_tree::expression::{AddOperator, MulOperator, Relation, Sign};
 use ob_tree::token::Leaf;
 
-/// The relation that stands here, if one does.
+/// The relation that is next, if one is, and the cursor after it.
 #[tactic(auto, unfolding(crate::specs::ReadExpressions::relation_at))]
 pub fn relation(tokens: &[Token], input: Cursor) -> Option<(Relation, Cursor)>
-    ensures read { seen tokens.now result ≡ relation_at (ahead tokens.now input) }
+    // Exactly what the grammar reads.
+    ensures read { with_remaining tokens.now result ≡ relation_at (remaining tokens.now input) }
+    // The cursor is advanced by the token, if there is one.
     ensures number { IfSome result (λ x. x.1.at ≡ input.at + 1) }
 {
     let (leaf, rest) = input.next(tokens)?;
@@ -34,10 +36,12 @@ pub fn relation(tokens: &[Token], input: Cursor) -> Option<(Relation, Cursor)>
     Some((relation, rest))
 }
 
-/// The sign that stands here, if one does, and the tokens behind it.
+/// The sign that is next, if one is, and the cursor after it.
 #[tactic(auto, unfolding(crate::specs::ReadExpressions::sign_at))]
 pub fn sign(tokens: &[Token], input: Cursor) -> (Option<Sign>, Cursor)
-    ensures read { Ok (if_there (λ x. word (sign_kind x)) result.0, ahead tokens.now result.1) ≡ optional sign_start nothing (ahead tokens.now input) }
+    // Exactly what the grammar reads.
+    ensures read { Ok (if_present (λ x. word (sign_kind x)) result.0, remaining tokens.now result.1) ≡ optional sign_start nothing (remaining tokens.now input) }
+    // The cursor is advanced by the token, if there is one.
     ensures number { result.1.at ≡ input.at + (if is_some result.0 then 1 else 0) }
 {
     match input.next(tokens) {
@@ -47,10 +51,12 @@ pub fn sign(tokens: &[Token], input: Cursor) -> (Option<Sign>, Cursor)
     }
 }
 
-/// The operator between terms that stands here, if one does.
+/// The operator between terms that is next, if one is, and the cursor after it.
 #[tactic(auto, unfolding(crate::specs::ReadExpressions::add_at))]
 pub fn add_operator(tokens: &[Token], input: Cursor) -> Option<(AddOperator, Cursor)>
-    ensures read { seen tokens.now result ≡ add_at (ahead tokens.now input) }
+    // Exactly what the grammar reads.
+    ensures read { with_remaining tokens.now result ≡ add_at (remaining tokens.now input) }
+    // The cursor is advanced by the token, if there is one.
     ensures number { IfSome result (λ x. x.1.at ≡ input.at + 1) }
 {
     match input.next(tokens) {
@@ -61,10 +67,12 @@ pub fn add_operator(tokens: &[Token], input: Cursor) -> Option<(AddOperator, Cur
     }
 }
 
-/// The operator between factors that stands here, if one does.
+/// The operator between factors that is next, if one is, and the cursor after it.
 #[tactic(auto, unfolding(crate::specs::ReadExpressions::mul_at))]
 pub fn mul_operator(tokens: &[Token], input: Cursor) -> Option<(MulOperator, Cursor)>
-    ensures read { seen tokens.now result ≡ mul_at (ahead tokens.now input) }
+    // Exactly what the grammar reads.
+    ensures read { with_remaining tokens.now result ≡ mul_at (remaining tokens.now input) }
+    // The cursor is advanced by the token, if there is one.
     ensures number { IfSome result (λ x. x.1.at ≡ input.at + 1) }
 {
     match input.next(tokens) {
@@ -79,7 +87,8 @@ pub fn mul_operator(tokens: &[Token], input: Cursor) -> Option<(MulOperator, Cur
 
 /// Whether a selector begins here.
 pub fn begins_selector(tokens: &[Token], input: Cursor) -> bool
-    ensures { result ≡ front selector_first (uncons (ahead tokens.now input)) }
+    // Exactly if the next token is one of those that begin it.
+    ensures { result ≡ head_is selector_first (uncons (remaining tokens.now input)) }
 {
     match input.next(tokens) {
         Some((Leaf::Word(Kind::Dot), _)) => true,
@@ -92,7 +101,8 @@ pub fn begins_selector(tokens: &[Token], input: Cursor) -> bool
 
 /// Whether a factor begins here.
 pub fn begins_factor(tokens: &[Token], input: Cursor) -> bool
-    ensures { result ≡ front factor_first (uncons (ahead tokens.now input)) }
+    // Exactly if the next token is one of those that begin it.
+    ensures { result ≡ head_is factor_first (uncons (remaining tokens.now input)) }
 {
     match input.next(tokens) {
         Some((Leaf::Name(_), _)) => true,
@@ -109,7 +119,8 @@ pub fn begins_factor(tokens: &[Token], input: Cursor) -> bool
 
 /// Whether an expression begins here.
 pub fn begins_expression(tokens: &[Token], input: Cursor) -> bool
-    ensures { result ≡ front expr_first (uncons (ahead tokens.now input)) }
+    // Exactly if the next token is one of those that begin it.
+    ensures { result ≡ head_is expr_first (uncons (remaining tokens.now input)) }
 {
     match input.next(tokens) {
         Some((Leaf::Word(Kind::Plus), _)) => true,

@@ -1,38 +1,40 @@
-//! The tree of a text.
+//! The main call of the parser.
 
 ghost use Rattle.std.specs.Prelude.{◌≡◌, ◌<◌, ◌^◌, length, slice_get, IfOk, IfErr, Ok};
 ghost use Rattle.ob_scan.specs.Spelling.{IsOutcome};
 ghost use Rattle.ob_scan.specs.declared.token.Token.{Token};
-ghost use Rattle.ob_tree.specs.Declaring.{module_outline};
+ghost use Rattle.ob_tree.specs.Declaring.{module_events};
 ghost use Rattle.ob_tree.specs.Derives.{spelling};
 ghost use Rattle.ob_tree.specs.Leaves.{leaves_from};
-ghost use Rattle.ob_parse.specs.Accords.{Accords};
-ghost use Rattle.ob_parse.specs.Ends.{told};
+ghost use Rattle.ob_parse.specs.AgreesWith.{AgreesWith};
+ghost use Rattle.ob_parse.specs.Ends.{fault_of_stop};
 ghost use Rattle.ob_parse.specs.Parsed.{IsTheTree, IsFaultOf, kinds_of, start_or};
-ghost use Rattle.ob_parse.specs.ReadModules.{all_of};
+ghost use Rattle.ob_parse.specs.ReadModules.{read_all};
 
 use crate::ParseFault;
 use crate::cursor::Cursor;
 use crate::ends::wrong_end;
-use crate::modules::whole;
+use crate::modules::all_tokens;
 use crate::stop::Stop;
 use ob_scan::{Token, Tokens};
 use ob_tree::declaration::Module;
 use ob_tree::walkers::endings;
 use std::alloc::Global;
 
-/// How many procedure declarations, types, statements that are not empty, expressions and factors after `~` may hold one another.
-pub const DEEPEST: u32 = 200;
+/// The largest depth of nesting. Procedure declarations, types, statements that are not empty, expressions and factors after `~` are
+/// levels.
+pub const MAX_DEPTH: u32 = 200;
 
-#[tactic(auto, using(crate::proofs::Ahead::all_ahead))]
+/// The tree of all tokens, before the names after END are compared.
+#[tactic(auto, using(crate::proofs::Remaining::all_remaining))]
 fn tree_of(alloc: Global, tokens: &[Token]) -> Result<Box<Module>, Stop>
     requires { length tokens.now < 2 ^ 32 }
-    ensures { Accords tokens.now (λ m. module_outline m.value) result (all_of 200 (leaves_from 0 (kinds_of tokens.now))) }
+    ensures { AgreesWith tokens.now (λ m. module_events m.value) result (read_all 200 (leaves_from 0 (kinds_of tokens.now))) }
 {
-    whole(alloc, tokens, Cursor::ALL, DEEPEST)
+    all_tokens(alloc, tokens, Cursor::ALL, MAX_DEPTH)
 }
 
-/// The offset of the token of this number, or the text's length where there is none.
+/// The offset of the token with this index, or `end` if there is none.
 fn offset_of(end: u32, tokens: &[Token], number: u32) -> u32
     ensures { result ≡ start_or end (slice_get tokens.now number) }
 {
@@ -42,10 +44,10 @@ fn offset_of(end: u32, tokens: &[Token], number: u32) -> u32
     }
 }
 
-/// The fault of a text of so many bytes whose tokens the parser stops among; of a token its offset, and the text's end where
-/// none stands there.
+/// The error of a text of `end` bytes for which the parser stopped with `stop`: the offset of the token, or `end` if there is none.
 pub fn fault_of(end: u32, tokens: &[Token], stop: Stop) -> ParseFault
-    ensures { result ≡ told end tokens.now stop }
+    // Exactly this error.
+    ensures { result ≡ fault_of_stop end tokens.now stop }
 {
     match stop {
         Stop::Unexpected(input) => ParseFault::Syntax {
@@ -61,22 +63,22 @@ pub fn fault_of(end: u32, tokens: &[Token], stop: Stop) -> ParseFault
     }
 }
 
-/// The syntax tree of the tokens of a text of these bytes (Oberon-07 report, appendix).
+/// The syntax tree of the tokens of a text (Oberon-07 report, appendix).
 ///
-/// Syntax is answered where no tree derives the tokens, and TooDeep where none of at most 200 levels does: at the token
-/// where reading them from the left stops, since it is wrong there, or since it begins a construct with no level left.
-/// EndName is answered where the tree has a wrong name after an END, and Memory where a growth of memory is refused.
+/// Errors: Syntax if no tree derives the tokens, and TooDeep if none of at most 200 levels does, at the token at which parsing from the
+/// left stops: it is wrong there, or it begins a construct for which no level is left. EndName if the tree has a wrong name after an END.
+/// Memory if an allocation fails.
 ///
-/// It recurses a few calls for each level, so at most 200 levels deep, for which a stack of 2 MiB is enough. Lists are loops.
+/// Recursion takes a few calls for each of at most 200 levels, for which a stack of 2 MiB is enough. Lists are parsed by loops.
 pub fn parse(alloc: Global, bytes: &[u8], tokens: &Tokens) -> Result<Module, ParseFault>
     // The tokens are those of the bytes.
     requires { IsOutcome bytes.now (Ok tokens.now) }
-    // The tree derives them, and all trees that do have its outline; it has at most 200 levels, and its names after END
-    // are right.
+    // The tree derives the tokens, has at most 200 levels and right names after END, and every tree that derives the tokens has its event
+    // sequence.
     ensures tree { IfOk result (IsTheTree bytes.now tokens.now) }
-    // It has so few tokens that each has a number of 32 bits.
+    // It has fewer than 2^32 tokens, so 32 bits number them.
     ensures few { IfOk result (λ tree. length (spelling tree) < 2 ^ 32) }
-    // The fault is so.
+    // The text has this error.
     ensures fault { IfErr result (IsFaultOf bytes.now tokens.now) }
 {
     let tokens = tokens.as_slice();

@@ -1,22 +1,22 @@
 //! Statements (Oberon-07 report, section 9).
 
 ghost use Rattle.std.specs.Prelude.{◌≡◌, ◌++◌};
-ghost use Rattle.ob_parse.specs.Forms.{accept_at, expect_at, many, node, optional, prefixed, seq};
-ghost use Rattle.ob_parse.specs.Front.{uncons, front};
-ghost use Rattle.ob_parse.specs.Accords.{Accords, ahead};
+ghost use Rattle.ob_parse.specs.Combinators.{accept_at, expect_at, many, node, optional, prefixed, seq};
+ghost use Rattle.ob_parse.specs.Lookahead.{uncons, head_is};
+ghost use Rattle.ob_parse.specs.AgreesWith.{AgreesWith, remaining};
 ghost use Rattle.ob_parse.specs.ReadExpressions.{expr_at};
 ghost use Rattle.ob_parse.specs.ReadStatements.{assign_with, block_at, branch_with, case_with, cases_with, for_with, if_with, repeat_with, statement_at, statement_first, statement_with, while_with};
 ghost use Rattle.ob_scan.specs.declared.kind.Kind.TheVariants as kinds;
 ghost use Rattle.ob_tree.specs.Constructs as constructs;
-ghost use Rattle.ob_tree.specs.Expressions.{expr_outline};
-ghost use Rattle.ob_tree.specs.Marks as marks;
-ghost use Rattle.ob_tree.specs.Marks.{each_after, if_there, word};
-ghost use Rattle.ob_tree.specs.Statements.{block_outline, branch_outline, case_outline, stmt_outline};
+ghost use Rattle.ob_tree.specs.Expressions.{expr_events};
+ghost use Rattle.ob_tree.specs.TreeEvents as marks;
+ghost use Rattle.ob_tree.specs.TreeEvents.{each_after, if_present, word};
+ghost use Rattle.ob_tree.specs.Statements.{block_events, branch_events, case_events, stmt_events};
 
 use crate::cursor::Cursor;
-use crate::expressions::{designator, expression, expression_behind};
+use crate::expressions::{designator, expression, optional_expression};
 use crate::labels::{begins_label, label_ranges};
-use crate::stop::{Stop, boxed, keep_boxed, some};
+use crate::stop::{Stop, boxed, push_boxed, some};
 use crate::tokens::{accept, expect, identifier};
 use ob_scan::{Kind, Token};
 use ob_tree::expression::Expr;
@@ -24,9 +24,10 @@ use ob_tree::statement::{Branch, Case, For, StatementSequence, Stmt};
 use ob_tree::token::Leaf;
 use std::alloc::Global;
 
-/// Whether a statement that isn't empty begins here.
+/// Whether a statement that is not empty begins here.
 pub fn begins_statement(tokens: &[Token], input: Cursor) -> bool
-    ensures { result ≡ front statement_first (uncons (ahead tokens.now input)) }
+    // Exactly if the next token is one of those that begin a statement.
+    ensures { result ≡ head_is statement_first (uncons (remaining tokens.now input)) }
 {
     match input.next(tokens) {
         Some((Leaf::Name(_), _)) => true,
@@ -39,14 +40,14 @@ pub fn begins_statement(tokens: &[Token], input: Cursor) -> bool
     }
 }
 
-/// An empty statement, where the depth is used up.
+/// Parses a statement when no level is left: it has to be empty.
 #[tactic(auto, using(crate::proofs::StatementSteps::made), unfolding(crate::specs::ReadStatements::statement_at, crate::specs::ReadStatements::empty_at))]
 fn empty_statement(
     alloc: Global,
     tokens: &[Token],
     input: Cursor,
 ) -> Result<(Box<Stmt>, Cursor), Stop>
-    ensures { Accords tokens.now (λ x. (stmt_outline x.0.value, ahead tokens.now x.1)) result (statement_at 0 (ahead tokens.now input)) }
+    ensures { AgreesWith tokens.now (λ x. (stmt_events x.0.value, remaining tokens.now x.1)) result (statement_at 0 (remaining tokens.now input)) }
 {
     if begins_statement(tokens, input) {
         return Err(Stop::TooDeep(input));
@@ -54,7 +55,7 @@ fn empty_statement(
     boxed(alloc, Stmt::Empty, input)
 }
 
-/// A statement, with at most so many levels in it, itself one of them.
+/// Parses a statement, for which `depth` levels of nesting are left. It is a level itself.
 #[cycle(statements)]
 #[tactic(auto, unfolding(crate::specs::ReadStatements::statement_at))]
 fn statement(
@@ -63,7 +64,7 @@ fn statement(
     input: Cursor,
     depth: u32,
 ) -> Result<(Box<Stmt>, Cursor), Stop>
-    ensures { Accords tokens.now (λ x. (stmt_outline x.0.value, ahead tokens.now x.1)) result (statement_at depth (ahead tokens.now input)) }
+    ensures { AgreesWith tokens.now (λ x. (stmt_events x.0.value, remaining tokens.now x.1)) result (statement_at depth (remaining tokens.now input)) }
 {
     if depth == 0 {
         return empty_statement(alloc, tokens, input);
@@ -72,7 +73,7 @@ fn statement(
     boxed(alloc, statement, input)
 }
 
-/// A statement whose parts have at most so many levels in them.
+/// Parses a statement, in whose parts `depth` levels of nesting are left.
 #[cycle(statements)]
 #[tactic(auto, using(crate::proofs::StatementSteps::made), unfolding(crate::specs::ReadStatements::statement_with))]
 fn statement_within(
@@ -81,7 +82,7 @@ fn statement_within(
     input: Cursor,
     depth: u32,
 ) -> Result<(Stmt, Cursor), Stop>
-    ensures { Accords tokens.now (λ x. (stmt_outline x.0, ahead tokens.now x.1)) result (statement_with (expr_at depth) (block_at depth) (ahead tokens.now input)) }
+    ensures { AgreesWith tokens.now (λ x. (stmt_events x.0, remaining tokens.now x.1)) result (statement_with (expr_at depth) (block_at depth) (remaining tokens.now input)) }
 {
     match input.next(tokens) {
         Some((Leaf::Name(number), rest)) => assignment(alloc, tokens, number, rest, depth),
@@ -94,7 +95,7 @@ fn statement_within(
     }
 }
 
-/// An assignment or a call, behind its first identifier.
+/// Parses an assignment or a call after its first identifier, which has the index `head`.
 #[tactic(auto, using(crate::proofs::StatementSteps::made), unfolding(crate::specs::ReadStatements::assign_with))]
 fn assignment(
     alloc: Global,
@@ -103,7 +104,7 @@ fn assignment(
     input: Cursor,
     depth: u32,
 ) -> Result<(Stmt, Cursor), Stop>
-    ensures { Accords tokens.now (λ x. (stmt_outline x.0, ahead tokens.now x.1)) result (node constructs.Statement (assign_with (expr_at depth) head) (ahead tokens.now input)) }
+    ensures { AgreesWith tokens.now (λ x. (stmt_events x.0, remaining tokens.now x.1)) result (node constructs.Statement (assign_with (expr_at depth) head) (remaining tokens.now input)) }
 {
     let (target, input) = designator(alloc, tokens, head, input, depth)?;
     match accept(tokens, input, Kind::Assign) {
@@ -115,16 +116,16 @@ fn assignment(
     }
 }
 
-/// Statements with semicolons between them.
+/// Parses one statement or more, separated by semicolons.
 #[cycle(statements)]
-#[tactic(auto, using(crate::proofs::StatementSteps::made), unfolding(crate::specs::ReadStatements::block_with, crate::specs::Forms::several))]
+#[tactic(auto, using(crate::proofs::StatementSteps::made), unfolding(crate::specs::ReadStatements::block_with, crate::specs::Combinators::several))]
 pub(crate) fn block(
     alloc: Global,
     tokens: &[Token],
     input: Cursor,
     depth: u32,
 ) -> Result<(Box<StatementSequence>, Cursor), Stop>
-    ensures { Accords tokens.now (λ x. (block_outline x.0.value, ahead tokens.now x.1)) result (block_at depth (ahead tokens.now input)) }
+    ensures { AgreesWith tokens.now (λ x. (block_events x.0.value, remaining tokens.now x.1)) result (block_at depth (remaining tokens.now input)) }
 {
     let (first, here) = statement(alloc, tokens, input, depth)?;
     let (rest, here) = more_statements(alloc, tokens, here, depth)?;
@@ -135,6 +136,7 @@ pub(crate) fn block(
     boxed(alloc, block, here)
 }
 
+/// Parses the further statements of a sequence, each after a semicolon.
 #[cycle(statements)]
 fn more_statements(
     alloc: Global,
@@ -142,17 +144,17 @@ fn more_statements(
     input: Cursor,
     depth: u32,
 ) -> Result<(Vec<Stmt>, Cursor), Stop>
-    ensures { Accords tokens.now (λ x. (each_after kinds.Semicolon stmt_outline x.0.items, ahead tokens.now x.1)) result (many (accept_at kinds.Semicolon) (statement_at depth) (ahead tokens.now input)) }
+    ensures { AgreesWith tokens.now (λ x. (each_after kinds.Semicolon stmt_events x.0.items, remaining tokens.now x.1)) result (many (accept_at kinds.Semicolon) (statement_at depth) (remaining tokens.now input)) }
 {
     let mut rest = Vec::new(alloc);
     let mut here = input;
     'more: while let Some(after) = accept(tokens, here, Kind::Semicolon) {
-        here = keep_boxed(&mut rest, statement(alloc, tokens, after, depth))?;
+        here = push_boxed(&mut rest, statement(alloc, tokens, after, depth))?;
     }
     Ok((rest, here))
 }
 
-/// A condition and the statements after it, with a keyword between them.
+/// Parses a condition, a keyword, and the statements after it.
 #[cycle(statements)]
 #[tactic(auto, using(crate::proofs::StatementSteps::made), unfolding(crate::specs::ReadStatements::branch_with))]
 fn branch(
@@ -162,7 +164,7 @@ fn branch(
     depth: u32,
     keyword: Kind,
 ) -> Result<(Box<Branch>, Cursor), Stop>
-    ensures { Accords tokens.now (λ x. (branch_outline x.0.value keyword, ahead tokens.now x.1)) result (branch_with (expr_at depth) (block_at depth) keyword (ahead tokens.now input)) }
+    ensures { AgreesWith tokens.now (λ x. (branch_events x.0.value keyword, remaining tokens.now x.1)) result (branch_with (expr_at depth) (block_at depth) keyword (remaining tokens.now input)) }
 {
     let (condition, input) = expression(alloc, tokens, input, depth)?;
     let input = expect(tokens, input, keyword)?;
@@ -174,6 +176,7 @@ fn branch(
     boxed(alloc, branch, input)
 }
 
+/// Parses the ELSIF branches, with `keyword` between each condition and its statements.
 #[cycle(statements)]
 fn more_branches(
     alloc: Global,
@@ -182,27 +185,27 @@ fn more_branches(
     depth: u32,
     keyword: Kind,
 ) -> Result<(Vec<Branch>, Cursor), Stop>
-    ensures { Accords tokens.now (λ x. (each_after kinds.Elsif (λ b. branch_outline b keyword) x.0.items, ahead tokens.now x.1)) result
-        (many (accept_at kinds.Elsif) (branch_with (expr_at depth) (block_at depth) keyword) (ahead tokens.now input)) }
+    ensures { AgreesWith tokens.now (λ x. (each_after kinds.Elsif (λ b. branch_events b keyword) x.0.items, remaining tokens.now x.1)) result
+        (many (accept_at kinds.Elsif) (branch_with (expr_at depth) (block_at depth) keyword) (remaining tokens.now input)) }
 {
     let mut rest = Vec::new(alloc);
     let mut here = input;
     'more: while let Some(after) = accept(tokens, here, Kind::Elsif) {
-        here = keep_boxed(&mut rest, branch(alloc, tokens, after, depth, keyword))?;
+        here = push_boxed(&mut rest, branch(alloc, tokens, after, depth, keyword))?;
     }
     Ok((rest, here))
 }
 
-/// The statements behind a word, if this stands here.
+/// Parses the statements after a keyword, if the keyword is next.
 #[cycle(statements)]
-pub(crate) fn block_behind(
+pub(crate) fn optional_block(
     alloc: Global,
     tokens: &[Token],
     input: Cursor,
     depth: u32,
     word: Kind,
 ) -> Result<(Option<Box<StatementSequence>>, Cursor), Stop>
-    ensures { Accords tokens.now (λ x. (if_there (λ b. marks.word word ++ block_outline b.value) x.0, ahead tokens.now x.1)) result (optional (accept_at word) (block_at depth) (ahead tokens.now input)) }
+    ensures { AgreesWith tokens.now (λ x. (if_present (λ b. marks.word word ++ block_events b.value) x.0, remaining tokens.now x.1)) result (optional (accept_at word) (block_at depth) (remaining tokens.now input)) }
 {
     match accept(tokens, input, word) {
         None => Ok((None, input)),
@@ -210,7 +213,7 @@ pub(crate) fn block_behind(
     }
 }
 
-/// What stands behind IF.
+/// Parses a statement after its IF.
 #[cycle(statements)]
 #[tactic(auto, using(crate::proofs::StatementSteps::made), unfolding(crate::specs::ReadStatements::if_with))]
 fn if_statement(
@@ -219,16 +222,16 @@ fn if_statement(
     input: Cursor,
     depth: u32,
 ) -> Result<(Stmt, Cursor), Stop>
-    ensures { Accords tokens.now (λ x. (stmt_outline x.0, ahead tokens.now x.1)) result (node constructs.Statement (prefixed (word kinds.If) (if_with (expr_at depth) (block_at depth))) (ahead tokens.now input)) }
+    ensures { AgreesWith tokens.now (λ x. (stmt_events x.0, remaining tokens.now x.1)) result (node constructs.Statement (prefixed (word kinds.If) (if_with (expr_at depth) (block_at depth))) (remaining tokens.now input)) }
 {
     let (first, input) = branch(alloc, tokens, input, depth, Kind::Then)?;
     let (rest, input) = more_branches(alloc, tokens, input, depth, Kind::Then)?;
-    let (otherwise, input) = block_behind(alloc, tokens, input, depth, Kind::Else)?;
+    let (otherwise, input) = optional_block(alloc, tokens, input, depth, Kind::Else)?;
     let input = expect(tokens, input, Kind::End)?;
     Ok((Stmt::If(first, rest, otherwise), input))
 }
 
-/// What stands behind CASE.
+/// Parses a statement after its CASE.
 #[cycle(statements)]
 #[tactic(auto, using(crate::proofs::StatementSteps::made), unfolding(crate::specs::ReadStatements::cases_with))]
 fn case_statement(
@@ -237,7 +240,7 @@ fn case_statement(
     input: Cursor,
     depth: u32,
 ) -> Result<(Stmt, Cursor), Stop>
-    ensures { Accords tokens.now (λ x. (stmt_outline x.0, ahead tokens.now x.1)) result (node constructs.Statement (prefixed (word kinds.Case) (cases_with (expr_at depth) (block_at depth))) (ahead tokens.now input)) }
+    ensures { AgreesWith tokens.now (λ x. (stmt_events x.0, remaining tokens.now x.1)) result (node constructs.Statement (prefixed (word kinds.Case) (cases_with (expr_at depth) (block_at depth))) (remaining tokens.now input)) }
 {
     let (value, input) = expression(alloc, tokens, input, depth)?;
     let input = expect(tokens, input, Kind::Of)?;
@@ -245,7 +248,7 @@ fn case_statement(
     Ok((Stmt::Case(Box::into_inner(value), first, rest), input))
 }
 
-/// The cases, up to their END.
+/// Parses the cases of a CASE statement, and its END.
 #[cycle(statements)]
 fn cases(
     alloc: Global,
@@ -253,8 +256,8 @@ fn cases(
     input: Cursor,
     depth: u32,
 ) -> Result<((Box<Case>, Vec<Case>), Cursor), Stop>
-    ensures { Accords tokens.now (λ x. (case_outline x.0.0.value ++ (each_after kinds.Bar case_outline x.0.1.items ++ word kinds.End), ahead tokens.now x.1)) result
-        (seq (case_with (block_at depth)) (seq (many (accept_at kinds.Bar) (case_with (block_at depth))) (expect_at kinds.End)) (ahead tokens.now input)) }
+    ensures { AgreesWith tokens.now (λ x. (case_events x.0.0.value ++ (each_after kinds.Bar case_events x.0.1.items ++ word kinds.End), remaining tokens.now x.1)) result
+        (seq (case_with (block_at depth)) (seq (many (accept_at kinds.Bar) (case_with (block_at depth))) (expect_at kinds.End)) (remaining tokens.now input)) }
 {
     let (first, input) = case(alloc, tokens, input, depth)?;
     let (rest, input) = more_cases(alloc, tokens, input, depth)?;
@@ -262,16 +265,16 @@ fn cases(
     Ok(((first, rest), input))
 }
 
-/// One case, which may be empty.
+/// Parses one case, which may be empty.
 #[cycle(statements)]
-#[tactic(auto, using(crate::proofs::StatementSteps::made), unfolding(crate::specs::ReadStatements::case_with, crate::specs::Forms::begins))]
+#[tactic(auto, using(crate::proofs::StatementSteps::made), unfolding(crate::specs::ReadStatements::case_with, crate::specs::Combinators::begins))]
 fn case(
     alloc: Global,
     tokens: &[Token],
     input: Cursor,
     depth: u32,
 ) -> Result<(Box<Case>, Cursor), Stop>
-    ensures { Accords tokens.now (λ x. (case_outline x.0.value, ahead tokens.now x.1)) result (case_with (block_at depth) (ahead tokens.now input)) }
+    ensures { AgreesWith tokens.now (λ x. (case_events x.0.value, remaining tokens.now x.1)) result (case_with (block_at depth) (remaining tokens.now input)) }
 {
     if !begins_label(tokens, input) {
         return boxed(alloc, Case::Nothing, input);
@@ -282,6 +285,7 @@ fn case(
     boxed(alloc, Case::Labelled(labels, body), input)
 }
 
+/// Parses the further cases, each after a bar.
 #[cycle(statements)]
 fn more_cases(
     alloc: Global,
@@ -289,17 +293,17 @@ fn more_cases(
     input: Cursor,
     depth: u32,
 ) -> Result<(Vec<Case>, Cursor), Stop>
-    ensures { Accords tokens.now (λ x. (each_after kinds.Bar case_outline x.0.items, ahead tokens.now x.1)) result (many (accept_at kinds.Bar) (case_with (block_at depth)) (ahead tokens.now input)) }
+    ensures { AgreesWith tokens.now (λ x. (each_after kinds.Bar case_events x.0.items, remaining tokens.now x.1)) result (many (accept_at kinds.Bar) (case_with (block_at depth)) (remaining tokens.now input)) }
 {
     let mut rest = Vec::new(alloc);
     let mut here = input;
     'more: while let Some(after) = accept(tokens, here, Kind::Bar) {
-        here = keep_boxed(&mut rest, case(alloc, tokens, after, depth))?;
+        here = push_boxed(&mut rest, case(alloc, tokens, after, depth))?;
     }
     Ok((rest, here))
 }
 
-/// What stands behind WHILE.
+/// Parses a statement after its WHILE.
 #[cycle(statements)]
 #[tactic(auto, using(crate::proofs::StatementSteps::made), unfolding(crate::specs::ReadStatements::while_with))]
 fn while_statement(
@@ -308,7 +312,7 @@ fn while_statement(
     input: Cursor,
     depth: u32,
 ) -> Result<(Stmt, Cursor), Stop>
-    ensures { Accords tokens.now (λ x. (stmt_outline x.0, ahead tokens.now x.1)) result (node constructs.Statement (prefixed (word kinds.While) (while_with (expr_at depth) (block_at depth))) (ahead tokens.now input)) }
+    ensures { AgreesWith tokens.now (λ x. (stmt_events x.0, remaining tokens.now x.1)) result (node constructs.Statement (prefixed (word kinds.While) (while_with (expr_at depth) (block_at depth))) (remaining tokens.now input)) }
 {
     let (first, input) = branch(alloc, tokens, input, depth, Kind::Do)?;
     let (rest, input) = more_branches(alloc, tokens, input, depth, Kind::Do)?;
@@ -316,7 +320,7 @@ fn while_statement(
     Ok((Stmt::While(first, rest), input))
 }
 
-/// What stands behind REPEAT.
+/// Parses a statement after its REPEAT.
 #[cycle(statements)]
 #[tactic(auto, using(crate::proofs::StatementSteps::made), unfolding(crate::specs::ReadStatements::repeat_with))]
 fn repeat_statement(
@@ -325,7 +329,7 @@ fn repeat_statement(
     input: Cursor,
     depth: u32,
 ) -> Result<(Stmt, Cursor), Stop>
-    ensures { Accords tokens.now (λ x. (stmt_outline x.0, ahead tokens.now x.1)) result (node constructs.Statement (prefixed (word kinds.Repeat) (repeat_with (expr_at depth) (block_at depth))) (ahead tokens.now input)) }
+    ensures { AgreesWith tokens.now (λ x. (stmt_events x.0, remaining tokens.now x.1)) result (node constructs.Statement (prefixed (word kinds.Repeat) (repeat_with (expr_at depth) (block_at depth))) (remaining tokens.now input)) }
 {
     let (body, input) = block(alloc, tokens, input, depth)?;
     let input = expect(tokens, input, Kind::Until)?;
@@ -333,16 +337,16 @@ fn repeat_statement(
     Ok((Stmt::Repeat(body, Box::into_inner(condition)), input))
 }
 
-/// What stands behind FOR.
+/// Parses a statement after its FOR.
 #[cycle(statements)]
-#[tactic(auto, using(crate::proofs::StatementSteps::made), unfolding(crate::specs::ReadStatements::for_with, crate::specs::Forms::name_at))]
+#[tactic(auto, using(crate::proofs::StatementSteps::made), unfolding(crate::specs::ReadStatements::for_with, crate::specs::Combinators::name_at))]
 fn for_statement(
     alloc: Global,
     tokens: &[Token],
     input: Cursor,
     depth: u32,
 ) -> Result<(Stmt, Cursor), Stop>
-    ensures { Accords tokens.now (λ x. (stmt_outline x.0, ahead tokens.now x.1)) result (node constructs.Statement (prefixed (word kinds.For) (for_with (expr_at depth) (block_at depth))) (ahead tokens.now input)) }
+    ensures { AgreesWith tokens.now (λ x. (stmt_events x.0, remaining tokens.now x.1)) result (node constructs.Statement (prefixed (word kinds.For) (for_with (expr_at depth) (block_at depth))) (remaining tokens.now input)) }
 {
     let (variable, input) = identifier(tokens, input)?;
     let input = expect(tokens, input, Kind::Assign)?;
@@ -359,7 +363,7 @@ fn for_statement(
     Ok((Stmt::For(statement), input))
 }
 
-/// A FOR statement from its TO on: the limit, the step and the body.
+/// Parses a FOR statement from its TO on: the limit, the step and the body.
 #[cycle(statements)]
 fn for_rest(
     alloc: Global,
@@ -373,22 +377,22 @@ fn for_rest(
     ),
     Stop,
 >
-    ensures { Accords tokens.now (λ x. (
-      word kinds.To ++ (expr_outline x.0.0.value ++ (if_there (λ e. word kinds.By ++ expr_outline e.value) x.0.1
-          ++ (word kinds.Do ++ (block_outline x.0.2.value ++ word kinds.End)))),
-      ahead tokens.now x.1,
+    ensures { AgreesWith tokens.now (λ x. (
+      word kinds.To ++ (expr_events x.0.0.value ++ (if_present (λ e. word kinds.By ++ expr_events e.value) x.0.1
+          ++ (word kinds.Do ++ (block_events x.0.2.value ++ word kinds.End)))),
+      remaining tokens.now x.1,
     )) result
         (seq (expect_at kinds.To) (seq (expr_at depth) (seq (optional (accept_at kinds.By) (expr_at depth))
-        (seq (expect_at kinds.Do) (seq (block_at depth) (expect_at kinds.End))))) (ahead tokens.now input)) }
+        (seq (expect_at kinds.Do) (seq (block_at depth) (expect_at kinds.End))))) (remaining tokens.now input)) }
 {
     let input = expect(tokens, input, Kind::To)?;
     let (to, input) = expression(alloc, tokens, input, depth)?;
-    let (by, input) = expression_behind(alloc, tokens, input, depth, Kind::By)?;
+    let (by, input) = optional_expression(alloc, tokens, input, depth, Kind::By)?;
     let (body, input) = for_body(alloc, tokens, input, depth)?;
     Ok(((to, by, body), input))
 }
 
-/// The body of a FOR statement, between DO and END.
+/// Parses the body of a FOR statement, from DO to END.
 #[cycle(statements)]
 fn for_body(
     alloc: Global,
@@ -396,7 +400,7 @@ fn for_body(
     input: Cursor,
     depth: u32,
 ) -> Result<(Box<StatementSequence>, Cursor), Stop>
-    ensures { Accords tokens.now (λ x. (word kinds.Do ++ (block_outline x.0.value ++ word kinds.End), ahead tokens.now x.1)) result (seq (expect_at kinds.Do) (seq (block_at depth) (expect_at kinds.End)) (ahead tokens.now input)) }
+    ensures { AgreesWith tokens.now (λ x. (word kinds.Do ++ (block_events x.0.value ++ word kinds.End), remaining tokens.now x.1)) result (seq (expect_at kinds.Do) (seq (block_at depth) (expect_at kinds.End)) (remaining tokens.now input)) }
 {
     let input = expect(tokens, input, Kind::Do)?;
     let (body, input) = block(alloc, tokens, input, depth)?;
@@ -404,9 +408,9 @@ fn for_body(
     Ok((body, input))
 }
 
-/// The step of a FOR statement, out of its box.
+/// The step of a FOR statement, moved out of its box.
 fn unboxed(step: Option<Box<Expr>>) -> Option<Expr>
-    ensures { if_there (λ e. word kinds.By ++ expr_outline e) result ≡ if_there (λ e. word kinds.By ++ expr_outline e.value) step }
+    ensures { if_present (λ e. word kinds.By ++ expr_events e) result ≡ if_present (λ e. word kinds.By ++ expr_events e.value) step }
 {
     match step {
         Some(step) => Some(Box::into_inner(step)),

@@ -1,20 +1,20 @@
-//! Why the parser stops, and what becomes of what it read until then.
+//! The errors inside the parser, and helpers that pass them on.
 
 ghost use Rattle.std.specs.Prelude.{◌≡◌, IfOk, IfErr};
-ghost use Rattle.ob_parse.specs.Accords.{some_of, Collects};
+ghost use Rattle.ob_parse.specs.AgreesWith.{some_of, Collects};
 ghost use Rattle.ob_parse.specs.declared.stop.Stop.TheVariants.{Memory};
 
 use crate::cursor::Cursor;
 use std::alloc::{AllocError, AllocFailed, Global};
 
-/// Why the parser stops before the end, with what is still to be read.
+/// Why the parser stops, with the cursor at the token at which it stops.
 #[derive(Clone, Copy)]
 pub enum Stop {
-    /// The next token is wrong, or there is none.
+    /// The next token is wrong, or missing.
     Unexpected(Cursor),
-    /// A construct that begins with it is nested too deep.
+    /// The next token begins a construct that is nested too deep.
     TooDeep(Cursor),
-    /// A growth of memory was refused.
+    /// An allocation failed.
     Memory,
 }
 
@@ -34,7 +34,7 @@ impl<T: Drop> From<AllocFailed<T>> for Stop {
     }
 }
 
-/// A value in a box, and the tokens behind what it was read from.
+/// The value in a box, and the cursor after its tokens.
 pub(crate) fn boxed<T: Drop>(
     alloc: Global,
     value: T,
@@ -46,8 +46,8 @@ pub(crate) fn boxed<T: Drop>(
     Ok((Box::new(alloc, value)?, rest))
 }
 
-/// One more at the end of a list, as it was read; and the tokens behind it.
-pub(crate) fn keep<T: Drop>(
+/// Appends the parsed item to the list, and returns the cursor after its tokens.
+pub(crate) fn push_item<T: Drop>(
     list: &mut Vec<T>,
     read: Result<(T, Cursor), Stop>,
 ) -> Result<Cursor, Stop>
@@ -58,8 +58,8 @@ pub(crate) fn keep<T: Drop>(
     Ok(rest)
 }
 
-/// The same, out of its box.
-pub(crate) fn keep_boxed<T: Drop>(
+/// Appends the parsed item to the list, moved out of its box, and returns the cursor after its tokens.
+pub(crate) fn push_boxed<T: Drop>(
     list: &mut Vec<T>,
     read: Result<(Box<T>, Cursor), Stop>,
 ) -> Result<Cursor, Stop>
@@ -70,7 +70,7 @@ pub(crate) fn keep_boxed<T: Drop>(
     Ok(rest)
 }
 
-/// What was read, where something may stand.
+/// Wraps the parsed item in `Some`.
 pub(crate) fn some<T: Drop>(read: Result<(T, Cursor), Stop>) -> Result<(Option<T>, Cursor), Stop>
     ensures { result ≡ some_of read }
 {

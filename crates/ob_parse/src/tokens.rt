@@ -1,20 +1,22 @@
-//! One token: expected, accepted or looked at.
+//! Single tokens: required, optional, or tested.
 
 ghost use Rattle.std.specs.Prelude.{◌≡◌, ◌+◌, Ok, IfOk, IfSome, if◌then◌else◌};
-ghost use Rattle.ob_parse.specs.Front.{uncons, front, is_word};
-ghost use Rattle.ob_parse.specs.Forms.{expect_at, accept_at, identifier_at, limited, nothing, optional};
-ghost use Rattle.ob_parse.specs.Accords.{Fails, Accords, ahead, skipped};
-ghost use Rattle.ob_tree.specs.Marks.{if_so, word};
+ghost use Rattle.ob_parse.specs.Lookahead.{uncons, head_is, is_word};
+ghost use Rattle.ob_parse.specs.Combinators.{expect_at, accept_at, identifier_at, limited, nothing, optional};
+ghost use Rattle.ob_parse.specs.AgreesWith.{Fails, AgreesWith, remaining, skipped};
+ghost use Rattle.ob_tree.specs.TreeEvents.{if_true, word};
 
 use crate::cursor::Cursor;
 use crate::stop::Stop;
 use ob_scan::{Kind, Token};
 use ob_tree::token::Leaf;
 
-/// A token of this kind, which has to stand here.
-#[tactic(auto, unfolding(crate::specs::Forms::expect_at))]
+/// The cursor after the next token, which has to be of this kind.
+#[tactic(auto, unfolding(crate::specs::Combinators::expect_at))]
 pub fn expect(tokens: &[Token], input: Cursor, kind: Kind) -> Result<Cursor, Stop>
-    ensures read { Accords tokens.now (λ rest. (word kind, ahead tokens.now rest)) result (expect_at kind (ahead tokens.now input)) }
+    // Exactly what the grammar reads, or its error.
+    ensures read { AgreesWith tokens.now (λ rest. (word kind, remaining tokens.now rest)) result (expect_at kind (remaining tokens.now input)) }
+    // The cursor is advanced by the token, if it is taken.
     ensures number { IfOk result (λ rest. rest.at ≡ input.at + 1) }
 {
     match input.next(tokens) {
@@ -23,10 +25,12 @@ pub fn expect(tokens: &[Token], input: Cursor, kind: Kind) -> Result<Cursor, Sto
     }
 }
 
-/// The tokens behind one of this kind, if it stands here.
-#[tactic(auto, unfolding(crate::specs::Forms::accept_at))]
+/// The cursor after the next token, if it is of this kind.
+#[tactic(auto, unfolding(crate::specs::Combinators::accept_at))]
 pub fn accept(tokens: &[Token], input: Cursor, kind: Kind) -> Option<Cursor>
-    ensures read { skipped tokens.now kind result ≡ accept_at kind (ahead tokens.now input) }
+    // Exactly what the grammar reads, or its error.
+    ensures read { skipped tokens.now kind result ≡ accept_at kind (remaining tokens.now input) }
+    // The cursor is advanced by the token, if it is taken.
     ensures number { IfSome result (λ rest. rest.at ≡ input.at + 1) }
 {
     match input.next(tokens) {
@@ -35,9 +39,11 @@ pub fn accept(tokens: &[Token], input: Cursor, kind: Kind) -> Option<Cursor>
     }
 }
 
-/// Whether a token of this kind stands here, and the tokens behind it then.
+/// Whether the next token is of this kind, and the cursor after it if it is.
 pub fn skip(tokens: &[Token], input: Cursor, kind: Kind) -> (bool, Cursor)
-    ensures read { Ok (if_so result.0 (word kind), ahead tokens.now result.1) ≡ optional (accept_at kind) nothing (ahead tokens.now input) }
+    // Exactly what the grammar reads, or its error.
+    ensures read { Ok (if_true result.0 (word kind), remaining tokens.now result.1) ≡ optional (accept_at kind) nothing (remaining tokens.now input) }
+    // The cursor is advanced by the token, if it is taken.
     ensures number { result.1.at ≡ input.at + (if result.0 then 1 else 0) }
 {
     match accept(tokens, input, kind) {
@@ -46,9 +52,10 @@ pub fn skip(tokens: &[Token], input: Cursor, kind: Kind) -> (bool, Cursor)
     }
 }
 
-/// Whether a token of this kind stands here.
+/// Whether the next token is of this kind.
 pub fn is_at(tokens: &[Token], input: Cursor, kind: Kind) -> bool
-    ensures { result ≡ front (is_word kind) (uncons (ahead tokens.now input)) }
+    // Exactly if it is of this kind.
+    ensures { result ≡ head_is (is_word kind) (uncons (remaining tokens.now input)) }
 {
     match input.next(tokens) {
         Some((Leaf::Word(found), _)) => found == kind,
@@ -56,10 +63,12 @@ pub fn is_at(tokens: &[Token], input: Cursor, kind: Kind) -> bool
     }
 }
 
-/// An identifier, which has to stand here.
-#[tactic(auto, unfolding(crate::specs::Forms::identifier_at))]
+/// The index of the next token, which has to be an identifier, and the cursor after it.
+#[tactic(auto, unfolding(crate::specs::Combinators::identifier_at))]
 pub fn identifier(tokens: &[Token], input: Cursor) -> Result<(u32, Cursor), Stop>
-    ensures read { Accords tokens.now (λ x. (x.0, ahead tokens.now x.1)) result (identifier_at (ahead tokens.now input)) }
+    // Exactly what the grammar reads, or its error.
+    ensures read { AgreesWith tokens.now (λ x. (x.0, remaining tokens.now x.1)) result (identifier_at (remaining tokens.now input)) }
+    // The cursor is advanced by the token, if it is taken.
     ensures number { IfOk result (λ x. x.1.at ≡ input.at + 1) }
 {
     match input.next(tokens) {
@@ -68,9 +77,10 @@ pub fn identifier(tokens: &[Token], input: Cursor) -> Result<(u32, Cursor), Stop
     }
 }
 
-/// Why the parser stops where the depth is used up: at the construct that begins here, or else at a wrong token.
-pub fn beyond(tokens: &[Token], input: Cursor, begins: bool) -> Stop
-    ensures { Fails tokens.now result (limited begins (uncons (ahead tokens.now input))) }
+/// The error if no level is left: TooDeep if a construct begins here, else the next token is wrong.
+pub fn depth_stop(tokens: &[Token], input: Cursor, begins: bool) -> Stop
+    // It is the error of the grammar.
+    ensures { Fails tokens.now result (limited begins (uncons (remaining tokens.now input))) }
 {
     if begins {
         Stop::TooDeep(input)

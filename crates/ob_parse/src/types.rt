@@ -3,24 +3,24 @@
 ghost use Rattle.std.specs.Prelude.{◌≡◌, ◌+◌, ◌++◌, IfOk, IfSome};
 ghost use Rattle.ob_scan.specs.declared.kind.Kind.TheVariants as kinds;
 ghost use Rattle.ob_tree.specs.Constructs as constructs;
-ghost use Rattle.ob_tree.specs.Marks.{construct, word, if_there, each_after, separated};
-ghost use Rattle.ob_tree.specs.Names.{qualident_outline, identdef_outline};
-ghost use Rattle.ob_tree.specs.Types.{type_outline, fields_outline, var_outline};
+ghost use Rattle.ob_tree.specs.TreeEvents.{construct, word, if_present, each_after, separated};
+ghost use Rattle.ob_tree.specs.Names.{qualident_events, identdef_events};
+ghost use Rattle.ob_tree.specs.Types.{type_events, fields_events, var_events};
 ghost use Rattle.ob_tree.specs.Widths.{base_width};
-ghost use Rattle.ob_parse.specs.Front.{front, uncons};
-ghost use Rattle.ob_parse.specs.Forms.{optional, accept_at, expect_at, many, several, unless, seq, node, prefixed};
+ghost use Rattle.ob_parse.specs.Lookahead.{head_is, uncons};
+ghost use Rattle.ob_parse.specs.Combinators.{optional, accept_at, expect_at, many, several, unless, seq, node, prefixed};
 ghost use Rattle.ob_parse.specs.ReadExpressions.{expr_at};
 ghost use Rattle.ob_parse.specs.ReadNames as names;
 ghost use Rattle.ob_parse.specs.ReadNames.{qualident_at, identdef_at};
 ghost use Rattle.ob_parse.specs.ReadTypes.{some_parameters_at, type_first, var_with, field_start, fields_with, record_with, type_with, type_at};
-ghost use Rattle.ob_parse.specs.Accords.{Accords, ahead, skipped};
+ghost use Rattle.ob_parse.specs.AgreesWith.{AgreesWith, remaining, skipped};
 
 use crate::cursor::Cursor;
 use crate::expressions::expression_list;
 use crate::names::{identdef, qualident, qualident_after};
 use crate::parameters::some_parameters;
-use crate::stop::{Stop, boxed, keep, keep_boxed, some};
-use crate::tokens::{accept, beyond, expect, is_at, skip};
+use crate::stop::{Stop, boxed, push_boxed, push_item, some};
+use crate::tokens::{accept, depth_stop, expect, is_at, skip};
 use ob_scan::{Kind, Token};
 use ob_tree::declaration::{Fields, Record, TypeForm, VarDecl};
 use ob_tree::name::{Identdef, OneOrMore, Qualident};
@@ -29,7 +29,8 @@ use std::alloc::Global;
 
 /// Whether a type begins here.
 pub fn begins_type(tokens: &[Token], input: Cursor) -> bool
-    ensures { result ≡ front type_first (uncons (ahead tokens.now input)) }
+    // Exactly if the next token is one of those that begin a type.
+    ensures { result ≡ head_is type_first (uncons (remaining tokens.now input)) }
 {
     match input.next(tokens) {
         Some((Leaf::Name(_), _)) => true,
@@ -41,37 +42,37 @@ pub fn begins_type(tokens: &[Token], input: Cursor) -> bool
     }
 }
 
-/// Declaring identifiers behind the first: each after a comma.
+/// Parses the further declaring identifiers, each after a comma.
 fn more_identdefs(
     alloc: Global,
     tokens: &[Token],
     input: Cursor,
 ) -> Result<(Vec<Identdef>, Cursor), Stop>
-    ensures { Accords tokens.now (λ x. (each_after kinds.Comma identdef_outline x.0.items, ahead tokens.now x.1)) result (many (accept_at kinds.Comma) identdef_at (ahead tokens.now input)) }
+    ensures { AgreesWith tokens.now (λ x. (each_after kinds.Comma identdef_events x.0.items, remaining tokens.now x.1)) result (many (accept_at kinds.Comma) identdef_at (remaining tokens.now input)) }
 {
     let mut rest = Vec::new(alloc);
     let mut here = input;
     'more: while let Some(after) = accept(tokens, here, Kind::Comma) {
-        here = keep(&mut rest, identdef(tokens, after))?;
+        here = push_item(&mut rest, identdef(tokens, after))?;
     }
     Ok((rest, here))
 }
 
-/// Declaring identifiers with commas between them.
-#[tactic(auto, unfolding(crate::specs::Forms::several))]
+/// Parses one declaring identifier or more, separated by commas.
+#[tactic(auto, unfolding(crate::specs::Combinators::several))]
 fn identdefs(
     alloc: Global,
     tokens: &[Token],
     input: Cursor,
 ) -> Result<(OneOrMore<Identdef>, Cursor), Stop>
-    ensures { Accords tokens.now (λ x. (separated kinds.Comma identdef_outline x.0, ahead tokens.now x.1)) result (several kinds.Comma identdef_at (ahead tokens.now input)) }
+    ensures { AgreesWith tokens.now (λ x. (separated kinds.Comma identdef_events x.0, remaining tokens.now x.1)) result (several kinds.Comma identdef_at (remaining tokens.now input)) }
 {
     let (first, here) = identdef(tokens, input)?;
     let (rest, here) = more_identdefs(alloc, tokens, here)?;
     Ok((OneOrMore { first, rest }, here))
 }
 
-/// Variables or fields of one type.
+/// Parses variables or fields of one type.
 #[cycle(types)]
 #[tactic(auto, using(ob_tree::proofs::TypeLayers::types_made), unfolding(crate::specs::ReadTypes::var_with))]
 pub(crate) fn var_declaration(
@@ -80,20 +81,22 @@ pub(crate) fn var_declaration(
     input: Cursor,
     depth: u32,
 ) -> Result<(Box<VarDecl>, Cursor), Stop>
-    ensures { Accords tokens.now (λ x. (var_outline x.0.value, ahead tokens.now x.1)) result (var_with (type_at depth) (ahead tokens.now input)) }
+    ensures { AgreesWith tokens.now (λ x. (var_events x.0.value, remaining tokens.now x.1)) result (var_with (type_at depth) (remaining tokens.now input)) }
 {
     let (names, here) = identdefs(alloc, tokens, input)?;
     let here = expect(tokens, here, Kind::Colon)?;
-    let (form, here) = type_form(alloc, tokens, here, depth)?;
-    let form = Box::into_inner(form);
-    boxed(alloc, VarDecl { names, form }, here)
+    let (type_expr, here) = type_expression(alloc, tokens, here, depth)?;
+    let type_expr = Box::into_inner(type_expr);
+    boxed(alloc, VarDecl { names, type_expr }, here)
 }
 
-/// What stands behind a semicolon, if a field list begins there.
+/// The cursor after a semicolon, if a field list follows it: the second token of look-ahead that the grammar needs.
 #[inline(always)]
 #[tactic(auto, unfolding(crate::specs::ReadTypes::field_start))]
-pub fn next_fields(tokens: &[Token], input: Cursor) -> Option<Cursor>
-    ensures read { skipped tokens.now kinds.Semicolon result ≡ field_start (ahead tokens.now input) }
+pub fn accept_fields(tokens: &[Token], input: Cursor) -> Option<Cursor>
+    // Exactly what the grammar reads.
+    ensures read { skipped tokens.now kinds.Semicolon result ≡ field_start (remaining tokens.now input) }
+    // The cursor is one token further.
     ensures number { IfSome result (λ rest. rest.at ≡ input.at + 1) }
 {
     match input.next(tokens) {
@@ -105,7 +108,7 @@ pub fn next_fields(tokens: &[Token], input: Cursor) -> Option<Cursor>
     }
 }
 
-/// Fields of one type.
+/// Parses the fields of one type.
 #[cycle(types)]
 fn field_list(
     alloc: Global,
@@ -113,12 +116,12 @@ fn field_list(
     input: Cursor,
     depth: u32,
 ) -> Result<(Box<VarDecl>, Cursor), Stop>
-    ensures { Accords tokens.now (λ x. (construct constructs.FieldList (var_outline x.0.value), ahead tokens.now x.1)) result (node constructs.FieldList (var_with (type_at depth)) (ahead tokens.now input)) }
+    ensures { AgreesWith tokens.now (λ x. (construct constructs.FieldList (var_events x.0.value), remaining tokens.now x.1)) result (node constructs.FieldList (var_with (type_at depth)) (remaining tokens.now input)) }
 {
     var_declaration(alloc, tokens, input, depth)
 }
 
-/// Field lists behind the first: each after a semicolon.
+/// Parses the further field lists, each after a semicolon.
 #[cycle(types)]
 fn more_fields(
     alloc: Global,
@@ -126,18 +129,18 @@ fn more_fields(
     input: Cursor,
     depth: u32,
 ) -> Result<(Vec<VarDecl>, Cursor), Stop>
-    ensures { Accords tokens.now (λ x. (each_after kinds.Semicolon (λ v. construct constructs.FieldList (var_outline v)) x.0.items, ahead tokens.now x.1)) result
-        (many field_start (node constructs.FieldList (var_with (type_at depth))) (ahead tokens.now input)) }
+    ensures { AgreesWith tokens.now (λ x. (each_after kinds.Semicolon (λ v. construct constructs.FieldList (var_events v)) x.0.items, remaining tokens.now x.1)) result
+        (many field_start (node constructs.FieldList (var_with (type_at depth))) (remaining tokens.now input)) }
 {
     let mut rest = Vec::new(alloc);
     let mut here = input;
-    'more: while let Some(after) = next_fields(tokens, here) {
-        here = keep_boxed(&mut rest, field_list(alloc, tokens, after, depth))?;
+    'more: while let Some(after) = accept_fields(tokens, here) {
+        here = push_boxed(&mut rest, field_list(alloc, tokens, after, depth))?;
     }
     Ok((rest, here))
 }
 
-/// The field lists of a record.
+/// Parses the field lists of a record.
 #[cycle(types)]
 #[tactic(auto, using(ob_tree::proofs::TypeLayers::types_made), unfolding(crate::specs::ReadTypes::fields_with))]
 fn fields(
@@ -146,7 +149,7 @@ fn fields(
     input: Cursor,
     depth: u32,
 ) -> Result<(Box<Fields>, Cursor), Stop>
-    ensures { Accords tokens.now (λ x. (fields_outline x.0.value, ahead tokens.now x.1)) result (fields_with (type_at depth) (ahead tokens.now input)) }
+    ensures { AgreesWith tokens.now (λ x. (fields_events x.0.value, remaining tokens.now x.1)) result (fields_with (type_at depth) (remaining tokens.now input)) }
 {
     let (first, here) = field_list(alloc, tokens, input, depth)?;
     let (rest, here) = more_fields(alloc, tokens, here, depth)?;
@@ -159,11 +162,13 @@ fn fields(
     boxed(alloc, fields, here)
 }
 
-/// The base of a record in parentheses, if it stands here.
+/// Parses the base of a record in parentheses, if an opening parenthesis is next.
 #[inline(always)]
 pub fn base(tokens: &[Token], input: Cursor) -> Result<(Option<Qualident>, Cursor), Stop>
-    ensures read { Accords tokens.now (λ x. (if_there (λ q. word kinds.LeftParen ++ (qualident_outline q ++ word kinds.RightParen)) x.0, ahead tokens.now x.1)) result
-        (optional (accept_at kinds.LeftParen) (seq qualident_at (expect_at kinds.RightParen)) (ahead tokens.now input)) }
+    // What it returns is what the grammar reads, or the error is.
+    ensures read { AgreesWith tokens.now (λ x. (if_present (λ q. word kinds.LeftParen ++ (qualident_events q ++ word kinds.RightParen)) x.0, remaining tokens.now x.1)) result
+        (optional (accept_at kinds.LeftParen) (seq qualident_at (expect_at kinds.RightParen)) (remaining tokens.now input)) }
+    // The cursor is advanced by these tokens.
     ensures number { IfOk result (λ x. x.1.at ≡ input.at + base_width x.0) }
 {
     match accept(tokens, input, Kind::LeftParen) {
@@ -176,16 +181,16 @@ pub fn base(tokens: &[Token], input: Cursor) -> Result<(Option<Qualident>, Curso
     }
 }
 
-/// The field lists of a record, up to its END.
+/// Parses the field lists of a record, if its END is not next.
 #[cycle(types)]
-#[tactic(auto, unfolding(crate::specs::Forms::unless))]
+#[tactic(auto, unfolding(crate::specs::Combinators::unless))]
 fn some_fields(
     alloc: Global,
     tokens: &[Token],
     input: Cursor,
     depth: u32,
 ) -> Result<(Option<Box<Fields>>, Cursor), Stop>
-    ensures { Accords tokens.now (λ x. (if_there (λ f. fields_outline f.value) x.0, ahead tokens.now x.1)) result (optional (unless kinds.End) (fields_with (type_at depth)) (ahead tokens.now input)) }
+    ensures { AgreesWith tokens.now (λ x. (if_present (λ f. fields_events f.value) x.0, remaining tokens.now x.1)) result (optional (unless kinds.End) (fields_with (type_at depth)) (remaining tokens.now input)) }
 {
     if is_at(tokens, input, Kind::End) {
         return Ok((None, input));
@@ -193,7 +198,7 @@ fn some_fields(
     some(fields(alloc, tokens, input, depth))
 }
 
-/// A type, with at most so many levels in its parts.
+/// Parses a type, in whose parts `depth` levels of nesting are left.
 #[cycle(types)]
 #[tactic(auto, using(ob_tree::proofs::TypeLayers::types_made), unfolding(crate::specs::ReadTypes::type_with))]
 fn type_within(
@@ -202,7 +207,7 @@ fn type_within(
     input: Cursor,
     depth: u32,
 ) -> Result<(TypeForm, Cursor), Stop>
-    ensures { Accords tokens.now (λ x. (type_outline x.0, ahead tokens.now x.1)) result (type_with (expr_at depth) (type_at depth) (ahead tokens.now input)) }
+    ensures { AgreesWith tokens.now (λ x. (type_events x.0, remaining tokens.now x.1)) result (type_with (expr_at depth) (type_at depth) (remaining tokens.now input)) }
 {
     match input.next(tokens) {
         Some((Leaf::Name(head), rest)) => named(tokens, head, rest),
@@ -214,16 +219,16 @@ fn type_within(
     }
 }
 
-/// A type by its name, behind the first identifier.
+/// Parses a type name after its first identifier, which has the index `head`.
 #[tactic(auto, using(ob_tree::proofs::TypeLayers::types_made))]
 fn named(tokens: &[Token], head: u32, input: Cursor) -> Result<(TypeForm, Cursor), Stop>
-    ensures { Accords tokens.now (λ x. (type_outline x.0, ahead tokens.now x.1)) result (node constructs.NamedType (names.qualident_after head) (ahead tokens.now input)) }
+    ensures { AgreesWith tokens.now (λ x. (type_events x.0, remaining tokens.now x.1)) result (node constructs.NamedType (names.qualident_after head) (remaining tokens.now input)) }
 {
     let (name, rest) = qualident_after(tokens, head, input)?;
     Ok((TypeForm::Named(name), rest))
 }
 
-/// What stands behind ARRAY.
+/// Parses a type after its ARRAY.
 #[cycle(types)]
 #[tactic(auto, using(ob_tree::proofs::TypeLayers::types_made))]
 fn array(
@@ -232,16 +237,16 @@ fn array(
     input: Cursor,
     depth: u32,
 ) -> Result<(TypeForm, Cursor), Stop>
-    ensures { Accords tokens.now (λ x. (type_outline x.0, ahead tokens.now x.1)) result
-        (node constructs.ArrayType (prefixed (word kinds.Array) (seq (several kinds.Comma (expr_at depth)) (seq (expect_at kinds.Of) (type_at depth)))) (ahead tokens.now input)) }
+    ensures { AgreesWith tokens.now (λ x. (type_events x.0, remaining tokens.now x.1)) result
+        (node constructs.ArrayType (prefixed (word kinds.Array) (seq (several kinds.Comma (expr_at depth)) (seq (expect_at kinds.Of) (type_at depth)))) (remaining tokens.now input)) }
 {
     let (lengths, rest) = expression_list(alloc, tokens, input, depth)?;
     let rest = expect(tokens, rest, Kind::Of)?;
-    let (of, rest) = type_form(alloc, tokens, rest, depth)?;
+    let (of, rest) = type_expression(alloc, tokens, rest, depth)?;
     Ok((TypeForm::ArrayOf(lengths, of), rest))
 }
 
-/// What stands behind RECORD.
+/// Parses a type after its RECORD.
 #[cycle(types)]
 #[tactic(auto, using(ob_tree::proofs::TypeLayers::types_made), unfolding(crate::specs::ReadTypes::record_with))]
 fn record(
@@ -250,8 +255,8 @@ fn record(
     input: Cursor,
     depth: u32,
 ) -> Result<(TypeForm, Cursor), Stop>
-    ensures { Accords tokens.now (λ x. (type_outline x.0, ahead tokens.now x.1)) result
-        (node constructs.RecordType (prefixed (word kinds.Record) (record_with (type_at depth))) (ahead tokens.now input)) }
+    ensures { AgreesWith tokens.now (λ x. (type_events x.0, remaining tokens.now x.1)) result
+        (node constructs.RecordType (prefixed (word kinds.Record) (record_with (type_at depth))) (remaining tokens.now input)) }
 {
     let (base, here) = base(tokens, input)?;
     let (fields, here) = some_fields(alloc, tokens, here, depth)?;
@@ -259,7 +264,7 @@ fn record(
     Ok((TypeForm::RecordOf(Record { base, fields }), here))
 }
 
-/// What stands behind POINTER.
+/// Parses a type after its POINTER.
 #[cycle(types)]
 #[tactic(auto, using(ob_tree::proofs::TypeLayers::types_made))]
 fn pointer(
@@ -268,38 +273,38 @@ fn pointer(
     input: Cursor,
     depth: u32,
 ) -> Result<(TypeForm, Cursor), Stop>
-    ensures { Accords tokens.now (λ x. (type_outline x.0, ahead tokens.now x.1)) result
-        (node constructs.PointerType (prefixed (word kinds.Pointer) (seq (expect_at kinds.To) (type_at depth))) (ahead tokens.now input)) }
+    ensures { AgreesWith tokens.now (λ x. (type_events x.0, remaining tokens.now x.1)) result
+        (node constructs.PointerType (prefixed (word kinds.Pointer) (seq (expect_at kinds.To) (type_at depth))) (remaining tokens.now input)) }
 {
     let rest = expect(tokens, input, Kind::To)?;
-    let (to, rest) = type_form(alloc, tokens, rest, depth)?;
+    let (to, rest) = type_expression(alloc, tokens, rest, depth)?;
     Ok((TypeForm::PointerTo(to), rest))
 }
 
-/// What stands behind PROCEDURE.
+/// Parses a type after its PROCEDURE.
 #[tactic(auto, using(ob_tree::proofs::TypeLayers::types_made))]
 fn procedure(alloc: Global, tokens: &[Token], input: Cursor) -> Result<(TypeForm, Cursor), Stop>
-    ensures { Accords tokens.now (λ x. (type_outline x.0, ahead tokens.now x.1)) result
-        (node constructs.ProcedureType (prefixed (word kinds.Procedure) some_parameters_at) (ahead tokens.now input)) }
+    ensures { AgreesWith tokens.now (λ x. (type_events x.0, remaining tokens.now x.1)) result
+        (node constructs.ProcedureType (prefixed (word kinds.Procedure) some_parameters_at) (remaining tokens.now input)) }
 {
     let (parameters, rest) = some_parameters(alloc, tokens, input)?;
     Ok((TypeForm::ProcOf(parameters), rest))
 }
 
-/// A type, with at most so many levels in it, itself one of them.
+/// Parses a type, for which `depth` levels of nesting are left. It is a level itself.
 #[cycle(types)]
-#[tactic(auto, unfolding(crate::specs::ReadTypes::type_at, crate::specs::Forms::limit_at))]
-pub(crate) fn type_form(
+#[tactic(auto, unfolding(crate::specs::ReadTypes::type_at, crate::specs::Combinators::limit_at))]
+pub(crate) fn type_expression(
     alloc: Global,
     tokens: &[Token],
     input: Cursor,
     depth: u32,
 ) -> Result<(Box<TypeForm>, Cursor), Stop>
-    ensures { Accords tokens.now (λ x. (type_outline x.0.value, ahead tokens.now x.1)) result (type_at depth (ahead tokens.now input)) }
+    ensures { AgreesWith tokens.now (λ x. (type_events x.0.value, remaining tokens.now x.1)) result (type_at depth (remaining tokens.now input)) }
 {
     if depth == 0 {
-        return Err(beyond(tokens, input, begins_type(tokens, input)));
+        return Err(depth_stop(tokens, input, begins_type(tokens, input)));
     }
-    let (form, here) = type_within(alloc, tokens, input, depth - 1)?;
-    boxed(alloc, form, here)
+    let (type_expr, here) = type_within(alloc, tokens, input, depth - 1)?;
+    boxed(alloc, type_expr, here)
 }

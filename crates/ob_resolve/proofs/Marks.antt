@@ -8,9 +8,9 @@ use Rattle.std.proofs.lemmas.Bool.Decides.{nat_tests}
 use Rattle.std.proofs.lemmas.Iterator.Adapters.{position_from-zero}
 use Rattle.std.proofs.lemmas.List.{drop_more}
 use Rattle.std.proofs.lemmas.Option.{slice_get_within}
-use Rattle.ob_targets.specs.declared.standing.Standing.{Standing}
-use Rattle.ob_targets.specs.Standing.{is_token}
-use Rattle.ob_resolve.specs.Marked.{IsMarked}
+use Rattle.ob_targets.specs.declared.syntax_position.SyntaxPosition.{SyntaxPosition}
+use Rattle.ob_targets.specs.SyntaxPosition.{is_token}
+use Rattle.ob_resolve.specs.Positions.{ArePositionsSet}
 
 pub not_same : (n k : ℕ) → (n ≡ k → ⊥) → n == k ≡ false
 not_same n k ne = grind (arith, nat_tests)
@@ -27,60 +27,60 @@ slice_get-set_other (x ∷ xs) zero (suc j) v ne = refl
 slice_get-set_other (x ∷ xs) (suc i) zero v ne = refl
 slice_get-set_other (x ∷ xs) (suc i) (suc j) v ne = slice_get-set_other xs i j v (λ e. ne (ap suc e))
 
-module _ {X : Type 0} (has : ℕ → X → Bool) (at : ℕ → Standing) where
+module _ {X : Type 0} (has : ℕ → X → Bool) (at : ℕ → SyntaxPosition) where
   -- the rows from this place on have left their marks
-  pub record AreMarkedFrom (place : ℕ) (rows : List X) (old new : List Standing) : Type 0 where
+  pub record AreMarkedFrom (position : ℕ) (rows : List X) (old new : List SyntaxPosition) : Type 0 where
     pub as_many : length new ≡ length old
-    pub each : (k : ℕ) (s : Standing) → slice_get old k ≡ Some s → slice_get new k ≡ Some (option_map_or at (position_from (has k) place rows) s)
+    pub each : (k : ℕ) (s : SyntaxPosition) → slice_get old k ≡ Some s → slice_get new k ≡ Some (option_map_or at (position_from (has k) position rows) s)
 
-  pub unmarked : (place : ℕ) (old : List Standing) → AreMarkedFrom place [] old old
-  unmarked place old = record { as_many = refl; each = λ k s e. e }
+  pub unmarked : (position : ℕ) (old : List SyntaxPosition) → AreMarkedFrom position [] old old
+  unmarked position old = record { as_many = refl; each = λ k s e. e }
 
   -- a row in which no marked token stands
-  pub marked_as_before : (place : ℕ) (row : X) (rest : List X) (old new : List Standing) → ((k : ℕ) → k < length old → has k row ≡ false) →
-      AreMarkedFrom (place + 1) rest old new → AreMarkedFrom place (row ∷ rest) old new
-  marked_as_before place row rest old new nowhere m = record {
+  pub marked_as_before : (position : ℕ) (row : X) (rest : List X) (old new : List SyntaxPosition) → ((k : ℕ) → k < length old → has k row ≡ false) →
+      AreMarkedFrom (position + 1) rest old new → AreMarkedFrom position (row ∷ rest) old new
+  marked_as_before position row rest old new nowhere m = record {
     as_many = m.as_many;
-    each = λ k s e. m.each k s e ∙ ap (λ b. Some (option_map_or at (cond b (Some place) (position_from (has k) (place + 1) rest)) s)) (sym (nowhere k (slice_get_within old k s e)));
+    each = λ k s e. m.each k s e ∙ ap (λ b. Some (option_map_or at (cond b (Some position) (position_from (has k) (position + 1) rest)) s)) (sym (nowhere k (slice_get_within old k s e)));
   }
 
   -- a row in which this token stands alone
-  pub marked_by_row : (place : ℕ) (row : X) (rest : List X) (old new : List Standing) (n : ℕ) → ((k : ℕ) → has k row ≡ (n == k)) → n < length old →
-      AreMarkedFrom (place + 1) rest old new → AreMarkedFrom place (row ∷ rest) old (set new n (at place))
-  marked_by_row place row rest old new n alone l m =
-      let told = λ (k : ℕ) (s : Standing) (b : Bool). Some (option_map_or at (cond b (Some place) (position_from (has k) (place + 1) rest)) s) in
+  pub marked_by_row : (position : ℕ) (row : X) (rest : List X) (old new : List SyntaxPosition) (n : ℕ) → ((k : ℕ) → has k row ≡ (n == k)) → n < length old →
+      AreMarkedFrom (position + 1) rest old new → AreMarkedFrom position (row ∷ rest) old (set new n (at position))
+  marked_by_row position row rest old new n alone l m =
+      let told = λ (k : ℕ) (s : SyntaxPosition) (b : Bool). Some (option_map_or at (cond b (Some position) (position_from (has k) (position + 1) rest)) s) in
       let room : n < length new = rw m.as_many l in
       record {
-        as_many = length-set new n (at place) ∙ m.as_many;
+        as_many = length-set new n (at position) ∙ m.as_many;
         each = λ k s e. elim (cases_eq k n) [
-          | inl same ↦ (let is : has k row ≡ true = alone k ∙ eq-eqb n k (sym same) in rw same (slice_get-set_same new n (at place) room) ∙ ap (told k s) (sym is))
-          | inr other ↦ (let is : has k row ≡ false = alone k ∙ not_same n k (λ e'. other (sym e')) in slice_get-set_other new n k (at place) other ∙ m.each k s e ∙ ap (told k s) (sym is))
+          | inl same ↦ (let is : has k row ≡ true = alone k ∙ eq-eqb n k (sym same) in rw same (slice_get-set_same new n (at position) room) ∙ ap (told k s) (sym is))
+          | inr other ↦ (let is : has k row ≡ false = alone k ∙ not_same n k (λ e'. other (sym e')) in slice_get-set_other new n k (at position) other ∙ m.each k s e ∙ ap (told k s) (sym is))
         ];
       }
 
   -- the row before this place
-  row_before : (rows : List X) (place : ℕ) (row : X) → 0 < place → place ≤ length rows → row ≡ get_or rows (place - 1) row → drop (place - 1) rows ≡ row ∷ drop place rows
-  row_before rows place row some within is =
-      let next : place - 1 + 1 ≡ place = omega arith in
-      drop_more rows (place - 1) row (omega arith) ∙ ap (λ x. x ∷ drop (place - 1 + 1) rows) (sym is) ∙ ap (λ p. row ∷ drop p rows) next
+  row_before : (rows : List X) (position : ℕ) (row : X) → 0 < position → position ≤ length rows → row ≡ get_or rows (position - 1) row → drop (position - 1) rows ≡ row ∷ drop position rows
+  row_before rows position row some within is =
+      let next : position - 1 + 1 ≡ position = omega arith in
+      drop_more rows (position - 1) row (omega arith) ∙ ap (λ x. x ∷ drop (position - 1 + 1) rows) (sym is) ∙ ap (λ p. row ∷ drop p rows) next
 
-  pub step_as_before : (rows : List X) (place : ℕ) (row : X) (old new : List Standing) → 0 < place → place ≤ length rows → row ≡ get_or rows (place - 1) row →
-      ((k : ℕ) → k < length old → has k row ≡ false) → AreMarkedFrom place (drop place rows) old new → AreMarkedFrom (place - 1) (drop (place - 1) rows) old new
-  step_as_before rows place row old new some within is nowhere m =
-      let next : place ≡ place - 1 + 1 = omega arith in
-      rw (row_before rows place row some within is) (marked_as_before (place - 1) row (drop place rows) old new nowhere (subst (λ p. AreMarkedFrom p (drop place rows) old new) next m))
+  pub step_as_before : (rows : List X) (position : ℕ) (row : X) (old new : List SyntaxPosition) → 0 < position → position ≤ length rows → row ≡ get_or rows (position - 1) row →
+      ((k : ℕ) → k < length old → has k row ≡ false) → AreMarkedFrom position (drop position rows) old new → AreMarkedFrom (position - 1) (drop (position - 1) rows) old new
+  step_as_before rows position row old new some within is nowhere m =
+      let next : position ≡ position - 1 + 1 = omega arith in
+      rw (row_before rows position row some within is) (marked_as_before (position - 1) row (drop position rows) old new nowhere (subst (λ p. AreMarkedFrom p (drop position rows) old new) next m))
 
-  pub step_by_row : (rows : List X) (place : ℕ) (row : X) (old new : List Standing) (n : ℕ) (mark : Standing) → 0 < place → place ≤ length rows → row ≡ get_or rows (place - 1) row →
-      ((k : ℕ) → has k row ≡ is_token k (Some n)) → n < length old → mark ≡ at (place - 1) →
-      AreMarkedFrom place (drop place rows) old new → AreMarkedFrom (place - 1) (drop (place - 1) rows) old (set new n mark)
-  step_by_row rows place row old new n mark some within is alone l made m =
-      let next : place ≡ place - 1 + 1 = omega arith in
-      rw (row_before rows place row some within is, made) (marked_by_row (place - 1) row (drop place rows) old new n alone l (subst (λ p. AreMarkedFrom p (drop place rows) old new) next m))
+  pub step_by_row : (rows : List X) (position : ℕ) (row : X) (old new : List SyntaxPosition) (n : ℕ) (set_positions : SyntaxPosition) → 0 < position → position ≤ length rows → row ≡ get_or rows (position - 1) row →
+      ((k : ℕ) → has k row ≡ is_token k (Some n)) → n < length old → set_positions ≡ at (position - 1) →
+      AreMarkedFrom position (drop position rows) old new → AreMarkedFrom (position - 1) (drop (position - 1) rows) old (set new n set_positions)
+  step_by_row rows position row old new n set_positions some within is alone l made m =
+      let next : position ≡ position - 1 + 1 = omega arith in
+      rw (row_before rows position row some within is, made) (marked_by_row (position - 1) row (drop position rows) old new n alone l (subst (λ p. AreMarkedFrom p (drop position rows) old new) next m))
 
   -- a token beyond the last is no marked one
-  pub beyond : (row : X) (old : List Standing) (n : ℕ) → ((k : ℕ) → has k row ≡ is_token k (Some n)) → length old ≤ n → (k : ℕ) → k < length old → has k row ≡ false
+  pub beyond : (row : X) (old : List SyntaxPosition) (n : ℕ) → ((k : ℕ) → has k row ≡ is_token k (Some n)) → length old ≤ n → (k : ℕ) → k < length old → has k row ≡ false
   beyond row old n alone l k h = alone k ∙ not_same n k (omega arith)
 
   -- marks that all rows have left
-  pub all_marked : (rows : List X) (old new : List Standing) → AreMarkedFrom 0 rows old new → IsMarked has at rows old new
+  pub all_marked : (rows : List X) (old new : List SyntaxPosition) → AreMarkedFrom 0 rows old new → ArePositionsSet has at rows old new
   all_marked rows old new m k s e = m.each k s e ∙ ap (λ o. Some (option_map_or at o s)) (sym (position_from-zero (has k) rows))

@@ -5,26 +5,26 @@ use Rattle.std.specs.List.{All, cons_option, filter_map, enumerate_from}
 use Rattle.std.proofs.lemmas.List.{append-nil, drop_more}
 use Rattle.std.proofs.lemmas.List.Elements.{All-nil, All-push}
 use Rattle.std.proofs.lemmas.Option.{slice_get-get_or, slice_get_within, get_or_from_slice_get}
-use Rattle.ob_rows.specs.declared.rows.End.{End}
-use Rattle.ob_rows.specs.declared.rows.Step.{Step}
-use Rattle.ob_rows.specs.declared.rows.Step.TheVariants as steps
-use Rattle.ob_rows.specs.declared.rows.Used.{Used}
+use Rattle.module_table.specs.declared.rows.End.{End}
+use Rattle.module_table.specs.declared.rows.Step.{Step}
+use Rattle.module_table.specs.declared.rows.Step.TheVariants as steps
+use Rattle.module_table.specs.declared.rows.Used.{Used}
 use Rattle.ob_scan.specs.declared.kind.Kind.{Kind}
 use Rattle.ob_scan.specs.declared.kind.Kind.TheVariants as kinds
 use Rattle.ob_scan.specs.declared.token.Token.{Token}
 use Rattle.ob_types.specs.World.{World}
-use Rattle.ob_targets.specs.declared.known.Known.{Known}
-use Rattle.ob_targets.specs.declared.standing.Standing.{Standing}
-use Rattle.ob_targets.specs.declared.standing.Standing.TheVariants as standings
+use Rattle.ob_targets.specs.declared.known.DesignatorType.{DesignatorType}
+use Rattle.ob_targets.specs.declared.syntax_position.SyntaxPosition.{SyntaxPosition}
+use Rattle.ob_targets.specs.declared.syntax_position.SyntaxPosition.TheVariants as syntax_positions
 use Rattle.ob_targets.specs.declared.target.Target.{Target}
 use Rattle.ob_targets.specs.declared.target.Target.TheVariants as targets
 use Rattle.ob_targets.specs.declared.target.Reference.{Reference}
-use Rattle.ob_targets.specs.Standing.{standing}
+use Rattle.ob_targets.specs.SyntaxPosition.{syntax_position}
 use Rattle.ob_targets.specs.Targets.{end_target, is_written, second_target, use_role, used_target}
-use Rattle.ob_targets.specs.Steps.{Knows, Selects}
-use Rattle.ob_targets.specs.Refers.{identifiers, is_identifier, identifier_number, AreReferences, Refers, own_name, item, declaration, end, used, selected, second, nowhere}
-use Rattle.ob_resolve.specs.declared.found.Found.{Found}
-use Rattle.ob_resolve.specs.Found.{IsFound, IsReference}
+use Rattle.ob_targets.specs.Steps.{IsTypeBefore, Selects}
+use Rattle.ob_targets.specs.Refers.{identifiers, is_identifier, identifier_number, AreReferences, Refers, module_name_token, item, declaration, end, used, selected, second, nowhere}
+use Rattle.ob_resolve.specs.declared.found.Precomputed.{Precomputed}
+use Rattle.ob_resolve.specs.Precomputed.{IsPrecomputed, IsReference}
 use Rattle.ob_resolve.specs.Selected.{IsNamed, Names}
 use Rattle.ob_resolve.proofs.WrittenNames.{drop_past}
 use Rattle.ob_resolve.proofs.Placed.{placed, IsPlaced, SelectsAt}
@@ -35,65 +35,65 @@ read_row xs ys i d are l = rw are (slice_get-get_or ys i d l)
 
 module _ (w : World) where
   -- there is a row where an identifier stands
-  pub stands_placed : (k : ℕ) (s : Standing) → standing w.rows k ≡ s → IsPlaced w.rows k s
+  pub stands_placed : (k : ℕ) (s : SyntaxPosition) → syntax_position w.rows k ≡ s → IsPlaced w.rows k s
   stands_placed k s is = subst (IsPlaced w.rows k) is (placed w.rows k)
 
-  pub stands_as : (f : Found) (k : ℕ) (s t d : Standing) → IsFound w f → k < length w.tokens → s ≡ get_or f.standings.items k d → s ≡ t → standing w.rows k ≡ t
-  stands_as f k s t d found l read is = sym (get_or_from_slice_get f.standings.items k (standing w.rows k) d (found.standings k l)) ∙ sym read ∙ is
+  pub stands_as : (f : Precomputed) (k : ℕ) (s t d : SyntaxPosition) → IsPrecomputed w f → k < length w.tokens → s ≡ get_or f.syntax_positions.items k d → s ≡ t → syntax_position w.rows k ≡ t
+  stands_as f k s t d found l read is = sym (get_or_from_slice_get f.syntax_positions.items k (syntax_position w.rows k) d (found.syntax_positions k l)) ∙ sym read ∙ is
 
-  pub written_as : (f : Found) (k : ℕ) (b d : Bool) → IsFound w f → k < length w.tokens → b ≡ get_or f.written.items k d → b ≡ is_written w.rows k
+  pub written_as : (f : Precomputed) (k : ℕ) (b d : Bool) → IsPrecomputed w f → k < length w.tokens → b ≡ get_or f.written.items k d → b ≡ is_written w.rows k
   written_as f k b d found l read = read ∙ get_or_from_slice_get f.written.items k (is_written w.rows k) d (found.written k l)
 
-  pub own_refers : (k : ℕ) → standing w.rows k ≡ standings.OwnName → IsReference w k (record { number = k; target = targets.Own; role = 1 })
-  own_refers k is = record { number = refl; refers = own_name is }
+  pub own_refers : (k : ℕ) → syntax_position w.rows k ≡ syntax_positions.OwnName → IsReference w k (record { number = k; target = targets.Own; role = 1 })
+  own_refers k is = record { number = refl; refers = module_name_token is }
 
-  pub item_refers : (k at : ℕ) (t : Target) → standing w.rows k ≡ standings.Item at → t ≡ targets.«Module» at → IsReference w k (record { number = k; target = t; role = 2 })
+  pub item_refers : (k at : ℕ) (t : Target) → syntax_position w.rows k ≡ syntax_positions.Item at → t ≡ targets.«Module» at → IsReference w k (record { number = k; target = t; role = 2 })
   item_refers k at t is made = rw made (record { number = refl; refers = item is })
 
-  pub declaration_refers : (k at : ℕ) → standing w.rows k ≡ standings.Declaration at → IsReference w k (record { number = k; target = targets.Declared k; role = 1 })
+  pub declaration_refers : (k at : ℕ) → syntax_position w.rows k ≡ syntax_positions.Declaration at → IsReference w k (record { number = k; target = targets.Declared k; role = 1 })
   declaration_refers k at is = record { number = refl; refers = declaration is }
 
-  pub nowhere_refers : (k : ℕ) → standing w.rows k ≡ standings.Nowhere → IsReference w k (record { number = k; target = targets.Unresolved; role = 0 })
+  pub nowhere_refers : (k : ℕ) → syntax_position w.rows k ≡ syntax_positions.Nowhere → IsReference w k (record { number = k; target = targets.Unresolved; role = 0 })
   nowhere_refers k is = record { number = refl; refers = nowhere is }
 
-  pub end_refers : (k at : ℕ) (e : End) (t : Target) → standing w.rows k ≡ standings.End at → slice_get w.rows.ends at ≡ Some e → t ≡ end_target e.of →
+  pub end_refers : (k at : ℕ) (e : End) (t : Target) → syntax_position w.rows k ≡ syntax_positions.End at → slice_get w.rows.ends at ≡ Some e → t ≡ end_target e.of →
       IsReference w k (record { number = k; target = t; role = 0 })
   end_refers k at e t is there made = rw made (record { number = refl; refers = end is there })
 
-  pub use_refers : (k at : ℕ) (t : Target) (b : Bool) (r : ℕ) → b ≡ is_written w.rows k → t ≡ used_target w k → r ≡ use_role w t b → standing w.rows k ≡ standings.Use at →
+  pub use_refers : (k at : ℕ) (t : Target) (b : Bool) (r : ℕ) → b ≡ is_written w.rows k → t ≡ used_target w k → r ≡ use_role w t b → syntax_position w.rows k ≡ syntax_positions.Use at →
       IsReference w k (record { number = k; target = t; role = r })
   use_refers k at t b r written made role is = rw (role, made, written) (record { number = refl; refers = used is })
 
-  pub second_refers : (k at : ℕ) (u : Used) (t : Target) (r : ℕ) → standing w.rows k ≡ standings.Second at → slice_get w.rows.uses at ≡ Some u →
+  pub second_refers : (k at : ℕ) (u : Used) (t : Target) (r : ℕ) → syntax_position w.rows k ≡ syntax_positions.Second at → slice_get w.rows.uses at ≡ Some u →
       t ≡ second_target w k (used_target w u.number) → r ≡ use_role w t false → IsReference w k (record { number = k; target = t; role = r })
   second_refers k at u t r is there made role = rw (role, made) (record { number = refl; refers = second is there })
 
   -- what the name of a selector stands for
   record NamedAt (k at : ℕ) (t : Target) : Type 0 where
-    before : Known
-    knows : Knows w at before
+    before : DesignatorType
+    is_type_before : IsTypeBefore w at before
     selects : Selects w before k t
 
   named_at : (k at : ℕ) (s : Step) (t : Target) → s ≡ steps.Field k → IsNamed w at s t → NamedAt k at t
-  named_at k at s t is n = record { before = n.before; knows = n.knows; selects = subst (λ (v : Step). Names w n.before v t) is n.names }
+  named_at k at s t is n = record { before = n.before; is_type_before = n.is_type_before; selects = subst (λ (v : Step). Names w n.before v t) is n.names }
 
-  selected_named : (f : Found) (k at : ℕ) (d : Target) → IsFound w f → SelectsAt w.rows k at → NamedAt k at (get_or f.selected.items at d)
+  selected_named : (f : Precomputed) (k at : ℕ) (d : Target) → IsPrecomputed w f → SelectsAt w.rows k at → NamedAt k at (get_or f.selected.items at d)
   selected_named f k at d found s =
       let within : at < length w.rows.selectors = slice_get_within w.rows.selectors at s.selector s.there in
       let room : at < length f.selected.items = subst (λ (n : ℕ). at < n) (sym found.selected.as_many) within in
       named_at k at s.selector.step (get_or f.selected.items at d) s.name
       (found.selected.each at s.selector (get_or f.selected.items at d) s.there (slice_get-get_or f.selected.items at d room))
 
-  pub selected_within : (f : Found) (k at : ℕ) → IsFound w f → standing w.rows k ≡ standings.Selected at → at < length f.selected.items
+  pub selected_within : (f : Precomputed) (k at : ℕ) → IsPrecomputed w f → syntax_position w.rows k ≡ syntax_positions.Selected at → at < length f.selected.items
   selected_within f k at found is =
-      let s : SelectsAt w.rows k at = stands_placed k (standings.Selected at) is in
+      let s : SelectsAt w.rows k at = stands_placed k (syntax_positions.Selected at) is in
       subst (λ (n : ℕ). at < n) (sym found.selected.as_many) (slice_get_within w.rows.selectors at s.selector s.there)
 
-  pub selected_refers : (f : Found) (k at : ℕ) (t d : Target) (b : Bool) (r : ℕ) → IsFound w f → b ≡ is_written w.rows k → standing w.rows k ≡ standings.Selected at →
+  pub selected_refers : (f : Precomputed) (k at : ℕ) (t d : Target) (b : Bool) (r : ℕ) → IsPrecomputed w f → b ≡ is_written w.rows k → syntax_position w.rows k ≡ syntax_positions.Selected at →
       t ≡ get_or f.selected.items at d → r ≡ use_role w t b → IsReference w k (record { number = k; target = t; role = r })
   selected_refers f k at t d b r found written is read role =
-      let n : NamedAt k at (get_or f.selected.items at d) = selected_named f k at d found (stands_placed k (standings.Selected at) is) in
-      rw (role, read, written) (record { number = refl; refers = selected is n.knows n.selects })
+      let n : NamedAt k at (get_or f.selected.items at d) = selected_named f k at d found (stands_placed k (syntax_positions.Selected at) is) in
+      rw (role, read, written) (record { number = refl; refers = selected is n.is_type_before n.selects })
 
 -- ---- all of them
 

@@ -1,7 +1,7 @@
 -- A step of a designator, by what the searches for types find.
 use Rattle.std.proofs.Common.{◌≡◌, ℕ, List, [], Bool, Option, Some, None, subst}
 use Rattle.std.specs.Prelude.{IfSome, IfNone}
-use Rattle.type_search.specs.Searches.{Finds}
+use Rattle.type_graph.specs.Searches.{Finds}
 use Rattle.ob_types.specs.declared.nodes.Node.{Node}
 use Rattle.ob_types.specs.declared.nodes.Named.{Named}
 use Rattle.ob_types.specs.declared.nodes.Field.{Field}
@@ -12,8 +12,8 @@ use Rattle.ob_types.specs.Shapes.{shape, field_of, base_of}
 use Rattle.ob_types.proofs.Same.{eq_is_same}
 use Rattle.ob_targets.specs.declared.target.Target.{Target}
 use Rattle.ob_targets.specs.declared.target.Target.TheVariants as targets
-use Rattle.ob_targets.specs.declared.known.Known.{Known}
-use Rattle.ob_targets.specs.declared.known.Known.TheVariants as knowns
+use Rattle.ob_targets.specs.declared.known.DesignatorType.{DesignatorType}
+use Rattle.ob_targets.specs.declared.known.DesignatorType.TheVariants as knowns
 use Rattle.ob_targets.specs.Targets.{field_target, exported_target}
 use Rattle.ob_targets.specs.Steps.{Follows, Selects, exported, field, no_field, unknown, there, nowhere, of_module, of_nothing}
 
@@ -36,21 +36,21 @@ module _ (w : World) (n : Node) (k : ℕ) (name : List ℕ) (o : Option Field) (
       let here : (f : Field) → IsThere (derived.eq-value).it name f → ⊥ = rw is at missed in
       no_field (subst (λ (x : List ℕ). (f : Field) → IsThere same x f → ⊥) is_text (subst (λ (eq : Named → Named → Bool). (f : Field) → IsThere eq name f → ⊥) eq_is_same here))
 
-module _ (w : World) (o : Known) (k : ℕ) where
+module _ (w : World) (o : DesignatorType) (k : ℕ) where
   pub selects_nothing : o ≡ knowns.Nothing → Selects w o k targets.Unresolved
   selects_nothing is = rw is unknown
 
   pub selects_exported : (at : ℕ) (t : Target) → o ≡ knowns.«Module» at → t ≡ exported_target w at k → Selects w o k t
   selects_exported at t is made = rw (is, made) exported
 
-module _ (Leads : Node → Node → Type 0) (o : Known) where
+module _ (Leads : Node → Node → Type 0) (o : DesignatorType) where
   pub follows_nothing : o ≡ knowns.Nothing → Follows Leads o knowns.Nothing
   follows_nothing is = rw is of_nothing
 
   pub follows_module : (at : ℕ) → o ≡ knowns.«Module» at → Follows Leads o knowns.Nothing
   follows_module at is = rw is of_module
 
-module _ (Leads : (Named → Named → Bool) → Node → Node → Type 0) (o : Known) where
+module _ (Leads : (Named → Named → Bool) → Node → Node → Type 0) (o : DesignatorType) where
   pub follows_there : (n m : Node) (found : Option Node) → o ≡ knowns.Typed n → found ≡ Some m → IfSome found (Leads (derived.eq-value).it n) → Follows (Leads same) o (knowns.Typed m)
   follows_there n m found is is_found leads =
       let here : Leads (derived.eq-value).it n m = rw is_found at leads in

@@ -3,12 +3,12 @@ use Rattle.std.proofs.Common.{◌≡◌, ℕ, zero, suc, ◌<◌, ◌≤◌, Lis
 use Rattle.std.specs.Prelude.{slice_get}
 use Rattle.std.proofs.lemmas.List.Elements.{All-get_or}
 use Rattle.std.proofs.lemmas.Option.{get_or_from_slice_get, slice_get_within, slice_get-get_or}
-use Rattle.ob_rows.specs.Order.{AscendBy}
+use Rattle.module_table.specs.Order.{IsIncreasingBy}
 use Rattle.ob_scan.specs.Spelling.{AreInText}
 use Rattle.ob_scan.specs.declared.token.Token.{Token}
 
 -- of rows that ascend
-pub row_within : {X : Type 0} (n : X → ℕ) (xs : List X) → AscendBy n xs → (i : ℕ) (x : X) → slice_get xs i ≡ Some x → i ≤ n x
+pub row_within : {X : Type 0} (n : X → ℕ) (xs : List X) → IsIncreasingBy n xs → (i : ℕ) (x : X) → slice_get xs i ≡ Some x → i ≤ n x
 row_within n xs up zero x at = omega arith
 row_within n xs up (suc i) x at =
     let room : suc i < length xs = slice_get_within xs (suc i) x at in
@@ -18,7 +18,7 @@ row_within n xs up (suc i) x at =
     omega arith
 
 -- tokens in a text ascend by their offsets
-pub tokens_ascend : (bytes : List ℕ) (ts : List Token) → AreInText bytes ts → AscendBy (λ (t : Token). t.start) ts
+pub tokens_ascend : (bytes : List ℕ) (ts : List Token) → AreInText bytes ts → IsIncreasingBy (λ (t : Token). t.start) ts
 tokens_ascend bytes ts text i j x y less at_x at_y =
     let within : j < length ts = slice_get_within ts j y at_y in
     let some : (get_or ts i x).start < (get_or ts i x).end = All-get_or (λ (u : Token). u.start < u.end) ts i x (omega arith) text.some in
@@ -28,7 +28,7 @@ tokens_ascend bytes ts text i j x y less at_x at_y =
     rw (← second) (subst (λ (t : Token). t.start < (get_or ts j x).start) first (omega arith))
 
 -- the place of a row whose number fits fits
-pub place_fits : {X : Type 0} (n : X → ℕ) (xs : List X) (i bound : ℕ) (d : X) → AscendBy n xs → i < length xs → n (get_or xs i d) < bound → i < bound
+pub place_fits : {X : Type 0} (n : X → ℕ) (xs : List X) (i bound : ℕ) (d : X) → IsIncreasingBy n xs → i < length xs → n (get_or xs i d) < bound → i < bound
 place_fits n xs i bound d up l fits =
     let below : i ≤ n (get_or xs i d) = row_within n xs up i (get_or xs i d) (slice_get-get_or xs i d l) in
     omega arith

@@ -4,8 +4,8 @@ use Rattle.std.specs.Prelude.{slice_get}
 use Rattle.std.specs.List.{list_any}
 use Rattle.std.proofs.lemmas.Bool.{cases_eq, cases_lt}
 use Rattle.std.proofs.lemmas.Option.{slice_get_within, slice_get-get_or}
-use Rattle.ob_targets.specs.Standing.{is_token}
-use Rattle.ob_resolve.specs.Marked.{with_mark}
+use Rattle.ob_targets.specs.SyntaxPosition.{is_token}
+use Rattle.ob_resolve.specs.Positions.{with_flag}
 use Rattle.ob_resolve.proofs.Marks.{not_same, slice_get-set_same, slice_get-set_other}
 
 pub drop_past : {X : Type 0} (xs : List X) (i : ℕ) → length xs ≤ i → drop i xs ≡ []
@@ -16,27 +16,27 @@ drop_past (x ∷ xs) (suc i) l = drop_past xs i (omega arith)
 
 module _ {X : Type 0} (has : ℕ → X → Bool) (all : List X) (count : ℕ) where
   -- so many tokens are marked if a row that was passed has them
-  pub record AreWritten (rest : List X) (marks : List Bool) : Type 0 where
-    pub as_many : length marks ≡ count
-    pub each : (k : ℕ) (b : Bool) → slice_get marks k ≡ Some b → (b || list_any (has k) rest) ≡ list_any (has k) all
+  pub record AreWritten (rest : List X) (positions : List Bool) : Type 0 where
+    pub as_many : length positions ≡ count
+    pub each : (k : ℕ) (b : Bool) → slice_get positions k ≡ Some b → (b || list_any (has k) rest) ≡ list_any (has k) all
 
   always_false : (n k : ℕ) (b : Bool) → slice_get (replicate n false) k ≡ Some b → b ≡ false
   always_false zero k b e = cc
   always_false (suc n) zero b e = cc
   always_false (suc n) (suc k) b e = always_false n k b e
 
-  pub begun : (marks : List Bool) → length marks ≡ count → marks ≡ replicate count false → AreWritten all marks
-  begun marks many are = record {
+  pub begun : (positions : List Bool) → length positions ≡ count → positions ≡ replicate count false → AreWritten all positions
+  begun positions many are = record {
     as_many = many;
     each = λ k b e. ap (λ x. x || list_any (has k) all) (always_false count k b (ap (λ m. slice_get m k) (sym are) ∙ e));
   }
 
   -- a row that has no marked token
-  pub passed : (x : X) (rest : List X) (marks : List Bool) → ((k : ℕ) → k < count → has k x ≡ false) → AreWritten (x ∷ rest) marks → AreWritten rest marks
-  passed x rest marks nowhere m = record {
+  pub passed : (x : X) (rest : List X) (positions : List Bool) → ((k : ℕ) → k < count → has k x ≡ false) → AreWritten (x ∷ rest) positions → AreWritten rest positions
+  passed x rest positions nowhere m = record {
     as_many = m.as_many;
     each = λ k b e.
-        let within : k < length marks = slice_get_within marks k b e in
+        let within : k < length positions = slice_get_within positions k b e in
         let below : k < count = subst (λ n. k < n) m.as_many within in
         ap (λ h. b || (h || list_any (has k) rest)) (sym (nowhere k below)) ∙ m.each k b e;
   }
@@ -50,41 +50,41 @@ module _ {X : Type 0} (has : ℕ → X → Bool) (all : List X) (count : ℕ) wh
   or_false false = refl
 
   -- a row that has this token alone
-  pub written : (x : X) (rest : List X) (marks : List Bool) (n : ℕ) → ((k : ℕ) → has k x ≡ (n == k)) → n < count → AreWritten (x ∷ rest) marks → AreWritten rest (set marks n true)
-  written x rest marks n alone l m =
-      let room : n < length marks = subst (λ c. n < c) (sym m.as_many) l in
-      let full : list_any (has n) all ≡ true = sym (m.each n _ (slice_get-get_or marks n false room)) ∙ ap (λ h. get_or marks n false || (h || list_any (has n) rest)) (alone n ∙ eq-eqb n n refl) ∙ or_true (get_or marks n false) (list_any (has n) rest) in
+  pub written : (x : X) (rest : List X) (positions : List Bool) (n : ℕ) → ((k : ℕ) → has k x ≡ (n == k)) → n < count → AreWritten (x ∷ rest) positions → AreWritten rest (set positions n true)
+  written x rest positions n alone l m =
+      let room : n < length positions = subst (λ c. n < c) (sym m.as_many) l in
+      let full : list_any (has n) all ≡ true = sym (m.each n _ (slice_get-get_or positions n false room)) ∙ ap (λ h. get_or positions n false || (h || list_any (has n) rest)) (alone n ∙ eq-eqb n n refl) ∙ or_true (get_or positions n false) (list_any (has n) rest) in
       record {
-        as_many = length-set marks n true ∙ m.as_many;
+        as_many = length-set positions n true ∙ m.as_many;
         each = λ k b e. elim (cases_eq k n) [
           | inl same ↦ (
-              let here : slice_get (set marks n true) n ≡ Some b = rw same at e in
-              let top : slice_get (set marks n true) n ≡ Some true = slice_get-set_same marks n true room in
+              let here : slice_get (set positions n true) n ≡ Some b = rw same at e in
+              let top : slice_get (set positions n true) n ≡ Some true = slice_get-set_same positions n true room in
               let is : b ≡ true = cc in
               ap (λ x. x || list_any (has k) rest) is ∙ sym full ∙ ap (λ j. list_any (has j) all) (sym same))
           | inr other ↦ (
-              let before : slice_get marks k ≡ Some b = sym (slice_get-set_other marks n k true other) ∙ e in
+              let before : slice_get positions k ≡ Some b = sym (slice_get-set_other positions n k true other) ∙ e in
               ap (λ h. b || (h || list_any (has k) rest)) (sym (alone k ∙ not_same n k (λ e'. other (sym e')))) ∙ m.each k b before)
         ];
       }
 
-  set_past : (marks : List Bool) (n : ℕ) → length marks ≤ n → set marks n true ≡ marks
+  set_past : (positions : List Bool) (n : ℕ) → length positions ≤ n → set positions n true ≡ positions
   set_past [] n l = refl
-  set_past (b ∷ marks) zero l = absurd (omega arith)
-  set_past (b ∷ marks) (suc n) l = ap (λ m. b ∷ m) (set_past marks n (omega arith))
+  set_past (b ∷ positions) zero l = absurd (omega arith)
+  set_past (b ∷ positions) (suc n) l = ap (λ m. b ∷ m) (set_past positions n (omega arith))
 
   -- a row, with the token that it has, if any
-  pub stepped : (x : X) (rest : List X) (marks : List Bool) (name : Option ℕ) → ((k : ℕ) → has k x ≡ is_token k name) → AreWritten (x ∷ rest) marks → AreWritten rest (with_mark name marks)
-  stepped x rest marks None has_none m = passed x rest marks (λ k l. has_none k) m
-  stepped x rest marks (Some n) alone m = elim (cases_lt n count) [
-    | inl within ↦ written x rest marks n alone within m
+  pub stepped : (x : X) (rest : List X) (positions : List Bool) (name : Option ℕ) → ((k : ℕ) → has k x ≡ is_token k name) → AreWritten (x ∷ rest) positions → AreWritten rest (with_flag name positions)
+  stepped x rest positions None has_none m = passed x rest positions (λ k l. has_none k) m
+  stepped x rest positions (Some n) alone m = elim (cases_lt n count) [
+    | inl within ↦ written x rest positions n alone within m
     | inr past ↦ (
-        let room : length marks ≤ n = omega (arith, m.as_many) in
-        rw (set_past marks n room) (passed x rest marks (λ k l. alone k ∙ not_same n k (omega arith)) m))
+        let room : length positions ≤ n = omega (arith, m.as_many) in
+        rw (set_past positions n room) (passed x rest positions (λ k l. alone k ∙ not_same n k (omega arith)) m))
   ]
 
   -- marks when all rows were passed
-  pub done : (marks : List Bool) → AreWritten [] marks → (k : ℕ) → k < count → slice_get marks k ≡ Some (list_any (has k) all)
-  done marks m k l =
-      let there = slice_get-get_or marks k false (subst (λ c. k < c) (sym m.as_many) l) in
-      there ∙ ap Some (sym (or_false (get_or marks k false)) ∙ m.each k _ there)
+  pub done : (positions : List Bool) → AreWritten [] positions → (k : ℕ) → k < count → slice_get positions k ≡ Some (list_any (has k) all)
+  done positions m k l =
+      let there = slice_get-get_or positions k false (subst (λ c. k < c) (sym m.as_many) l) in
+      there ∙ ap Some (sym (or_false (get_or positions k false)) ∙ m.each k _ there)

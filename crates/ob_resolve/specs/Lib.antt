@@ -1,5 +1,5 @@
-pub mod Found
-pub mod Marked
+pub mod Precomputed
+pub mod Positions
 pub mod Selected
-pub mod Sorted
+pub mod StoredKinds
 pub mod Used

@@ -1,6 +1,6 @@
 -- The stored targets of uses.
 use Rattle.std.specs.Prelude.{◌≡◌, List, map}
-use Rattle.ob_rows.specs.declared.rows.Used.{Used}
+use Rattle.module_table.specs.declared.rows.Used.{Used}
 use Rattle.ob_types.specs.World.{World}
 use Rattle.ob_targets.specs.declared.target.Target.{Target}
 use Rattle.ob_targets.specs.Targets.{used_target}

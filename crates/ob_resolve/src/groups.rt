@@ -1,15 +1,15 @@
 //! The selectors of designators that are requested in the order of their heads.
 ghost use Rattle.std.specs.Prelude.{◌≡◌, ◌<◌, ◌≤◌, ℕ, true, Some, nat_eq, slice_get, IfSome};
 ghost use Rattle.std.specs.List.{filter};
-ghost use Rattle.ob_rows.specs.Tables.{rows_in};
-ghost use Rattle.ob_rows.specs.Order.{RiseBy};
-ghost use Rattle.ob_rows.specs.declared.rows.Selector.{Selector as Row};
+ghost use Rattle.module_table.specs.Tables.{rows_in};
+ghost use Rattle.module_table.specs.Order.{IsMonotoneBy};
+ghost use Rattle.module_table.specs.declared.rows.Selector.{Selector as Row};
 ghost use Rattle.ob_targets.specs.Targets.{selectors_of};
 
-use ob_rows::{Selector, Table};
+use module_table::{Selector, Table};
 
 /// The first index from `from` on whose selector belongs to this designator or a later one. It has no contract: callers check the index.
-fn place_from(selectors: &[Selector], from: usize, head: u32) -> usize {
+fn first_from(selectors: &[Selector], from: usize, head: u32) -> usize {
     let mut at = from;
     'selectors: while at < selectors.len() && selectors[at].of < head {
         at += 1;
@@ -18,7 +18,7 @@ fn place_from(selectors: &[Selector], from: usize, head: u32) -> usize {
 }
 
 /// The first index from `from` on whose selector belongs to a later designator. It has no contract: callers check the index.
-fn place_behind(selectors: &[Selector], from: usize, head: u32) -> usize {
+fn first_after(selectors: &[Selector], from: usize, head: u32) -> usize {
     let mut at = from;
     'selectors: while at < selectors.len() && selectors[at].of <= head {
         at += 1;
@@ -28,7 +28,7 @@ fn place_behind(selectors: &[Selector], from: usize, head: u32) -> usize {
 
 /// Whether all selectors before an index belong to earlier designators. Selectors are sorted by head, so one comparison suffices.
 fn are_before(selectors: &[Selector], at: usize, head: u32) -> bool
-    requires { RiseBy (λ (s : Row). s.of) selectors.now }
+    requires { IsMonotoneBy (λ (s : Row). s.of) selectors.now }
     ensures { result ≡ true → (i : ℕ) (s : Row) → i < at → slice_get selectors.now i ≡ Some s → s.of < head }
 {
     match at.checked_sub(1) {
@@ -42,7 +42,7 @@ fn are_before(selectors: &[Selector], at: usize, head: u32) -> bool
 
 /// Whether no selector from an index on belongs to an earlier designator. Selectors are sorted by head, so one comparison suffices.
 fn are_from(selectors: &[Selector], at: usize, head: u32) -> bool
-    requires { RiseBy (λ (s : Row). s.of) selectors.now }
+    requires { IsMonotoneBy (λ (s : Row). s.of) selectors.now }
     ensures { result ≡ true → (i : ℕ) (s : Row) → at ≤ i → slice_get selectors.now i ≡ Some s → head ≤ s.of }
 {
     match selectors.get(at) {
@@ -53,7 +53,7 @@ fn are_from(selectors: &[Selector], at: usize, head: u32) -> bool
 
 /// Whether no selector before an index belongs to a later designator. Selectors are sorted by head, so one comparison suffices.
 fn are_up_to(selectors: &[Selector], end: usize, head: u32) -> bool
-    requires { RiseBy (λ (s : Row). s.of) selectors.now }
+    requires { IsMonotoneBy (λ (s : Row). s.of) selectors.now }
     ensures { result ≡ true → (i : ℕ) (s : Row) → i < end → slice_get selectors.now i ≡ Some s → s.of ≤ head }
 {
     match end.checked_sub(1) {
@@ -66,8 +66,8 @@ fn are_up_to(selectors: &[Selector], end: usize, head: u32) -> bool
 }
 
 /// Whether all selectors from an index on belong to later designators. Selectors are sorted by head, so one comparison suffices.
-fn are_behind(selectors: &[Selector], end: usize, head: u32) -> bool
-    requires { RiseBy (λ (s : Row). s.of) selectors.now }
+fn are_after(selectors: &[Selector], end: usize, head: u32) -> bool
+    requires { IsMonotoneBy (λ (s : Row). s.of) selectors.now }
     ensures { result ≡ true → (i : ℕ) (s : Row) → end ≤ i → slice_get selectors.now i ≡ Some s → head < s.of }
 {
     match selectors.get(end) {
@@ -77,8 +77,8 @@ fn are_behind(selectors: &[Selector], end: usize, head: u32) -> bool
 }
 
 /// The selectors from index `at` to index `end`, if these are all selectors of the designator with this head.
-fn group_there(selectors: &[Selector], at: usize, end: usize, head: u32) -> Option<&[Selector]>
-    requires { RiseBy (λ (s : Row). s.of) selectors.now }
+fn group_between(selectors: &[Selector], at: usize, end: usize, head: u32) -> Option<&[Selector]>
+    requires { IsMonotoneBy (λ (s : Row). s.of) selectors.now }
     ensures { IfSome result (λ g. g.now ≡ filter (λ (s : Row). nat_eq s.of head) selectors.now) }
 {
     if at > end || end > selectors.len() {
@@ -87,7 +87,7 @@ fn group_there(selectors: &[Selector], at: usize, end: usize, head: u32) -> Opti
     if are_before(selectors, at, head)
         && are_from(selectors, at, head)
         && are_up_to(selectors, end, head)
-        && are_behind(selectors, end, head)
+        && are_after(selectors, end, head)
     {
         Some(&selectors[at..end])
     } else {
@@ -97,15 +97,15 @@ fn group_there(selectors: &[Selector], at: usize, end: usize, head: u32) -> Opti
 
 /// The selectors of the designator with this head. The search begins after the selectors of the last request; a wrong guess costs a binary
 /// search.
-pub(crate) fn selectors_near<'a>(table: &'a Table, near: &mut usize, head: u32) -> &'a [Selector]
+pub(crate) fn selectors_by_hint<'a>(table: &'a Table, hint: &mut usize, head: u32) -> &'a [Selector]
     ensures { result.now ≡ selectors_of (rows_in table.now) head }
 {
-    table.keeps();
+    table.invariants();
     let selectors = table.selectors();
-    let at = place_from(selectors, *near, head);
-    let end = place_behind(selectors, at, head);
-    *near = end;
-    match group_there(selectors, at, end, head) {
+    let at = first_from(selectors, *hint, head);
+    let end = first_after(selectors, at, head);
+    *hint = end;
+    match group_between(selectors, at, end, head) {
         Some(group) => group,
         None => table.selectors_of(head),
     }

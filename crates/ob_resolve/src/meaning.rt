@@ -1,15 +1,15 @@
 //! The targets of names, what is known of a target, and the roles of uses.
 ghost use Rattle.std.specs.Prelude.{◌≡◌};
-ghost use Rattle.ob_targets.specs.Targets.{declared_target, used_target, exported_target, second_target, end_target, field_target, known_of, typed, holds_value, use_role, value_role};
+ghost use Rattle.ob_targets.specs.Targets.{declared_target, used_target, exported_target, second_target, end_target, field_target, target_type, typed, holds_value, use_role, value_role};
 ghost use Rattle.ob_targets.specs.Steps.{guard_of};
-ghost use Rattle.ob_types.specs.World.{form_of, meaning};
-ghost use Rattle.ob_resolve.specs.Sorted.{AreSorts};
+ghost use Rattle.ob_types.specs.World.{type_node_of, meaning};
+ghost use Rattle.ob_resolve.specs.StoredKinds.{AreKinds};
 
-use crate::sorts::sort_of;
-use ob_rows::{Sort, TypeName};
-use ob_targets::{Known, Target, is_predeclared};
+use crate::decl_kinds::decl_kind_of;
+use module_table::{DeclKind, TypeName};
+use ob_targets::{DesignatorType, Target, is_predeclared};
 use ob_types::{Field, Node, Types};
-use type_search::Shape;
+use type_graph::Shape;
 
 /// The target of the uses that mean a declaration: the module for an import item's alias, otherwise the declaration itself.
 fn declared_target(types: &Types<'_>, declared: u32) -> Target
@@ -23,7 +23,7 @@ fn declared_target(types: &Types<'_>, declared: u32) -> Target
 
 /// The target of a use whose meaning is already known. Inlined into the loop over all uses.
 #[inline(always)]
-fn target_meant(types: &Types<'_>, used: u32, meant: Option<u32>) -> Target
+fn meaning_target(types: &Types<'_>, used: u32, meant: Option<u32>) -> Target
     requires { meant ≡ meaning types.now used }
     ensures { result ≡ used_target types.now used }
 {
@@ -43,21 +43,21 @@ fn target_meant(types: &Types<'_>, used: u32, meant: Option<u32>) -> Target
 pub(crate) fn used_target(types: &Types<'_>, used: u32) -> Target
     ensures { result ≡ used_target types.now used }
 {
-    target_meant(types, used, types.meaning(used))
+    meaning_target(types, used, types.meaning(used))
 }
 
-/// The target of a use, for uses that are requested in order: the search begins at the hint `near`.
-pub(crate) fn used_near(types: &Types<'_>, near: &mut usize, used: u32) -> Target
+/// The target of a use, for uses that are requested in order: the search begins at the hint `hint`.
+pub(crate) fn used_by_hint(types: &Types<'_>, hint: &mut usize, used: u32) -> Target
     ensures { result ≡ used_target types.now used }
 {
-    target_meant(types, used, types.meaning_near(near, used))
+    meaning_target(types, used, types.meaning_by_hint(hint, used))
 }
 
 /// The target of a name after the alias of an import item and a dot.
 pub(crate) fn exported_target(types: &Types<'_>, item: u32, name: u32) -> Target
     ensures { result ≡ exported_target types.now item name }
 {
-    match types.home(item) {
+    match types.module_number(item) {
         None => Target::External { item, name },
         Some(reached) => match types.exported(reached, types.text(name)) {
             None => Target::Unresolved,
@@ -111,28 +111,28 @@ pub(crate) fn field_target(field: Field) -> Target
 }
 
 /// Whether a declaration of this kind holds a value.
-fn holds_value(sort: Sort) -> bool
-    ensures { result ≡ holds_value sort }
+fn holds_value(decl_kind: DeclKind) -> bool
+    ensures { result ≡ holds_value decl_kind }
 {
-    match sort {
-        Sort::Variable | Sort::Parameter | Sort::Field => true,
-        Sort::Import | Sort::Constant | Sort::Type | Sort::Procedure => false,
+    match decl_kind {
+        DeclKind::Variable | DeclKind::Parameter | DeclKind::Field => true,
+        DeclKind::Import | DeclKind::Constant | DeclKind::Type | DeclKind::Procedure => false,
     }
 }
 
 /// What is known of a declaration of this kind and type.
-fn typed(sort: Option<Sort>, node: Option<Node>) -> Known
-    ensures { result ≡ typed sort node }
+fn typed(decl_kind: Option<DeclKind>, node: Option<Node>) -> DesignatorType
+    ensures { result ≡ typed decl_kind node }
 {
-    match sort {
-        None => Known::Nothing,
-        Some(sort) => match node {
-            None => Known::Nothing,
+    match decl_kind {
+        None => DesignatorType::Nothing,
+        Some(decl_kind) => match node {
+            None => DesignatorType::Nothing,
             Some(node) => {
-                if holds_value(sort) {
-                    Known::Typed(node)
+                if holds_value(decl_kind) {
+                    DesignatorType::Typed(node)
                 } else {
-                    Known::Nothing
+                    DesignatorType::Nothing
                 }
             }
         },
@@ -140,16 +140,16 @@ fn typed(sort: Option<Sort>, node: Option<Node>) -> Known
 }
 
 /// What is known of a declaration of the module, by its kind. The type is looked up only if the declaration holds a value.
-fn known_here(types: &Types<'_>, sort: Option<Sort>, declared: u32) -> Known
-    ensures { result ≡ typed sort (form_of types.now declared) }
+fn declared_type(types: &Types<'_>, decl_kind: Option<DeclKind>, declared: u32) -> DesignatorType
+    ensures { result ≡ typed decl_kind (type_node_of types.now declared) }
 {
-    match sort {
-        None => Known::Nothing,
-        Some(sort) => {
-            if holds_value(sort) {
-                typed(Some(sort), types.form(declared))
+    match decl_kind {
+        None => DesignatorType::Nothing,
+        Some(decl_kind) => {
+            if holds_value(decl_kind) {
+                typed(Some(decl_kind), types.type_expr(declared))
             } else {
-                Known::Nothing
+                DesignatorType::Nothing
             }
         }
     }
@@ -157,61 +157,65 @@ fn known_here(types: &Types<'_>, sort: Option<Sort>, declared: u32) -> Known
 
 /// What is known of a target. Inlined into the loop over all selectors.
 #[inline(always)]
-pub(crate) fn known_of(types: &Types<'_>, sorts: &[Option<Sort>], target: Target) -> Known
-    requires { AreSorts types.now sorts.now }
-    ensures { result ≡ known_of types.now target }
+pub(crate) fn target_type(
+    types: &Types<'_>,
+    decl_kinds: &[Option<DeclKind>],
+    target: Target,
+) -> DesignatorType
+    requires { AreKinds types.now decl_kinds.now }
+    ensures { result ≡ target_type types.now target }
 {
     match target {
         Target::Declared(declared) => {
-            known_here(types, sort_of(types, sorts, declared), declared)
+            declared_type(types, decl_kind_of(types, decl_kinds, declared), declared)
         }
         Target::Imported {
             reached,
             declaration,
         } => typed(
-            types.sort_there(reached, declaration),
+            types.imported_kind(reached, declaration),
             Some(Node::Other {
                 reached,
                 declaration,
                 part: 0,
             }),
         ),
-        Target::Module(item) => Known::Module(item),
-        Target::External { .. } => Known::Nothing,
-        Target::Own => Known::Nothing,
-        Target::Predeclared => Known::Nothing,
-        Target::Unresolved => Known::Nothing,
+        Target::Module(item) => DesignatorType::Module(item),
+        Target::External { .. } => DesignatorType::Nothing,
+        Target::Own => DesignatorType::Nothing,
+        Target::Predeclared => DesignatorType::Nothing,
+        Target::Unresolved => DesignatorType::Nothing,
     }
 }
 
 /// What is known after parentheses: the type, if their only content is its name (a type guard).
-pub(crate) fn guard_of(types: &Types<'_>, guard: Option<TypeName>) -> Known
+pub(crate) fn guard_of(types: &Types<'_>, guard: Option<TypeName>) -> DesignatorType
     ensures { result ≡ guard_of types.now guard }
 {
     match guard {
-        None => Known::Nothing,
+        None => DesignatorType::Nothing,
         Some(name) => match types.named(name.head, name.member) {
-            Shape::Named(_, _) => Known::Typed(Node::Name {
+            Shape::Named(_, _) => DesignatorType::Typed(Node::Name {
                 head: name.head,
                 member: name.member,
             }),
-            Shape::Array(_) => Known::Nothing,
-            Shape::Pointer(_) => Known::Nothing,
-            Shape::Record(_) => Known::Nothing,
-            Shape::Procedure => Known::Nothing,
-            Shape::Unknown => Known::Nothing,
+            Shape::Array(_) => DesignatorType::Nothing,
+            Shape::Pointer(_) => DesignatorType::Nothing,
+            Shape::Record(_) => DesignatorType::Nothing,
+            Shape::Procedure => DesignatorType::Nothing,
+            Shape::Unknown => DesignatorType::Nothing,
         },
     }
 }
 
 /// The role of a use of a declaration of this kind.
-fn value_role(sort: Option<Sort>, written: bool) -> u8
-    ensures { result ≡ value_role sort written }
+fn value_role(decl_kind: Option<DeclKind>, written: bool) -> u8
+    ensures { result ≡ value_role decl_kind written }
 {
-    match sort {
+    match decl_kind {
         None => 0,
-        Some(sort) => {
-            if holds_value(sort) {
+        Some(decl_kind) => {
+            if holds_value(decl_kind) {
                 if written { 4 } else { 8 }
             } else {
                 0
@@ -223,19 +227,22 @@ fn value_role(sort: Option<Sort>, written: bool) -> u8
 /// The role of a use, by its target and by whether it is written.
 pub(crate) fn use_role(
     types: &Types<'_>,
-    sorts: &[Option<Sort>],
+    decl_kinds: &[Option<DeclKind>],
     target: Target,
     written: bool,
 ) -> u8
-    requires { AreSorts types.now sorts.now }
+    requires { AreKinds types.now decl_kinds.now }
     ensures { result ≡ use_role types.now target written }
 {
     match target {
-        Target::Declared(declared) => value_role(sort_of(types, sorts, declared), written),
+        Target::Declared(declared) => value_role(
+            decl_kind_of(types, decl_kinds, declared),
+            written,
+        ),
         Target::Imported {
             reached,
             declaration,
-        } => value_role(types.sort_there(reached, declaration), written),
+        } => value_role(types.imported_kind(reached, declaration), written),
         Target::Module(_) => 0,
         Target::External { .. } => 0,
         Target::Own => 0,

@@ -1,11 +1,11 @@
 //! The references of a module.
 ghost use Rattle.std.specs.Prelude.{◌≡◌, ◌<◌, IfOk, length};
-ghost use Rattle.ob_rows.specs.Order.{AscendBy};
+ghost use Rattle.module_table.specs.Order.{IsIncreasingBy};
 ghost use Rattle.ob_scan.specs.declared.token.Token.{Token as TokenSeen};
 ghost use Rattle.ob_targets.specs.Refers.{is_identifier, unresolved, AreReferences};
 
-use crate::found::find_all;
-use crate::standing_for::referred;
+use crate::found::precompute;
+use crate::identifier_reference::reference_of;
 use ob_scan::{Kind, Token};
 use ob_targets::Reference;
 use ob_types::Types;
@@ -58,13 +58,13 @@ fn is_identifier(kind: Kind) -> bool
 
 /// A token's index as a number of 32 bits. It fits, because the starts of tokens are increasing offsets of 32 bits: no index is above its
 /// token's start.
-fn token_number(tokens: &[Token], place: usize) -> u32
-    requires within { place < length tokens.now }
-    requires ascend { AscendBy (λ (t : TokenSeen). t.start) tokens.now }
-    ensures { result ≡ place }
+fn token_number(tokens: &[Token], position: usize) -> u32
+    requires within { position < length tokens.now }
+    requires ascend { IsIncreasingBy (λ (t : TokenSeen). t.start) tokens.now }
+    ensures { result ≡ position }
 {
-    let _offset = tokens[place].start;
-    place as u32
+    let _offset = tokens[position].start;
+    position as u32
 }
 
 /// Finds what each identifier of a module denotes, and its role (Oberon-07 report, sections 4 to 11).
@@ -75,13 +75,13 @@ pub fn references(alloc: Global, types: &Types<'_>) -> Result<Refs, AllocError>
     // it.
     ensures exact { IfOk result (AreReferences types.now) }
 {
-    types.keeps();
-    let found = find_all(alloc, types)?;
+    types.invariants();
+    let found = precompute(alloc, types)?;
     let tokens = types.tokens();
     let mut rows = Vec::new(alloc);
-    for place in 0..tokens.len() {
-        if is_identifier(tokens[place].kind) {
-            rows.push(referred(types, &found, token_number(tokens, place)))?;
+    for position in 0..tokens.len() {
+        if is_identifier(tokens[position].kind) {
+            rows.push(reference_of(types, &found, token_number(tokens, position)))?;
         }
     }
     Ok(Refs { rows })

@@ -1,32 +1,32 @@
 //! The targets of the names after the dots of designators.
 ghost use Rattle.std.specs.Prelude.{◌≡◌, ◌<◌, IfOk, Some, length};
-ghost use Rattle.ob_rows.specs.declared.rows.Step.TheVariants as steps;
-ghost use Rattle.ob_targets.specs.Steps.{begins_designator, Knows};
-ghost use Rattle.ob_resolve.specs.Selected.{AreNamed, IsBehind, IsLed};
-ghost use Rattle.ob_resolve.specs.Sorted.{AreSorts};
+ghost use Rattle.module_table.specs.declared.rows.Step.TheVariants as steps;
+ghost use Rattle.ob_targets.specs.Steps.{begins_designator, IsTypeBefore};
+ghost use Rattle.ob_resolve.specs.Selected.{AreNamed, IsTypeAfter, IsSelectorResult};
+ghost use Rattle.ob_resolve.specs.StoredKinds.{AreKinds};
 ghost use Rattle.ob_resolve.specs.Used.{AreUsed};
 
-use crate::meaning::{guard_of, known_of};
+use crate::meaning::{guard_of, target_type};
 use crate::steps::{elements_of, selected, target_of};
 use crate::used::used_by;
-use ob_rows::{Selector, Sort, Step};
-use ob_targets::{Known, Standing, Target};
+use module_table::{DeclKind, Selector, Step};
+use ob_targets::{DesignatorType, SyntaxPosition, Target};
 use ob_types::Types;
 use std::alloc::{AllocError, Global};
-use type_search::Finder;
+use type_graph::Finder;
 
 /// The result of following a selector: the target of its name, `Unresolved` if it has none, and what is known after it.
 #[derive(Clone, Copy, Drop)]
-pub(crate) struct Led {
+pub(crate) struct SelectorResult {
     pub(crate) target: Target,
-    pub(crate) known: Known,
+    pub(crate) known: DesignatorType,
 }
 
 /// Whether the selector at this index is the first of its designator.
-fn begins_designator(selectors: &[Selector], place: usize, selector: Selector) -> bool
-    ensures { result ≡ begins_designator selectors.now place selector }
+fn begins_designator(selectors: &[Selector], position: usize, selector: Selector) -> bool
+    ensures { result ≡ begins_designator selectors.now position selector }
 {
-    match place.checked_sub(1) {
+    match position.checked_sub(1) {
         None => true,
         Some(earlier) => match selectors.get(earlier) {
             None => true,
@@ -36,66 +36,70 @@ fn begins_designator(selectors: &[Selector], place: usize, selector: Selector) -
 }
 
 /// Follows a dot and a name.
-fn led_by_name(
+fn select_by_name(
     finder: &mut Finder<'_, Types<'_>>,
-    sorts: &[Option<Sort>],
-    before: Known,
+    decl_kinds: &[Option<DeclKind>],
+    before: DesignatorType,
     name: u32,
-) -> Result<Led, AllocError>
-    requires { AreSorts finder.old sorts.now }
+) -> Result<SelectorResult, AllocError>
+    requires { AreKinds finder.old decl_kinds.now }
     ensures types { finder.new ≡ finder.old }
-    ensures led { IfOk result (IsLed finder.old before (steps.Field name)) }
+    ensures step_result { IfOk result (IsSelectorResult finder.old before (steps.Field name)) }
 {
     let target = selected(finder, before, name)?;
-    Ok(Led {
+    Ok(SelectorResult {
         target,
-        known: known_of(finder.graph(), sorts, target),
+        known: target_type(finder.graph(), decl_kinds, target),
     })
 }
 
 /// Follows a selector.
-fn taken(
+fn follow_selector(
     finder: &mut Finder<'_, Types<'_>>,
-    sorts: &[Option<Sort>],
-    before: Known,
+    decl_kinds: &[Option<DeclKind>],
+    before: DesignatorType,
     step: Step,
-) -> Result<Led, AllocError>
-    requires { AreSorts finder.old sorts.now }
+) -> Result<SelectorResult, AllocError>
+    requires { AreKinds finder.old decl_kinds.now }
     ensures types { finder.new ≡ finder.old }
-    ensures led { IfOk result (IsLed finder.old before step) }
+    ensures step_result { IfOk result (IsSelectorResult finder.old before step) }
 {
     let known = match step {
-        Step::Field(name) => return led_by_name(finder, sorts, before, name),
+        Step::Field(name) => return select_by_name(finder, decl_kinds, before, name),
         Step::Elements(count) => elements_of(finder, before, count)?,
         Step::Target => target_of(finder, before)?,
         Step::Arguments(guard) => guard_of(finder.graph(), guard),
     };
-    Ok(Led {
+    Ok(SelectorResult {
         target: Target::Unresolved,
         known,
     })
 }
 
 /// What is known before the selector at this index, by what is known after the selector before it.
-fn known_before(
+fn type_before(
     types: &Types<'_>,
-    sorts: &[Option<Sort>],
-    standings: &[Standing],
+    decl_kinds: &[Option<DeclKind>],
+    syntax_positions: &[SyntaxPosition],
     used: &[Target],
     selectors: &[Selector],
-    place: usize,
-    behind: Known,
-) -> Known
-    requires sorts { AreSorts types.now sorts.now }
+    position: usize,
+    behind: DesignatorType,
+) -> DesignatorType
+    requires decl_kinds { AreKinds types.now decl_kinds.now }
     requires used { AreUsed types.now used.now }
     requires same { selectors.now ≡ types.now.rows.selectors }
-    requires within { place < length selectors.now }
-    requires behind { IsBehind types.now place behind }
-    ensures { Knows types.now place result }
+    requires within { position < length selectors.now }
+    requires behind { IsTypeAfter types.now position behind }
+    ensures { IsTypeBefore types.now position result }
 {
-    let selector = selectors[place];
-    if begins_designator(selectors, place, selector) {
-        known_of(types, sorts, used_by(types, standings, used, selector.of))
+    let selector = selectors[position];
+    if begins_designator(selectors, position, selector) {
+        target_type(
+            types,
+            decl_kinds,
+            used_by(types, syntax_positions, used, selector.of),
+        )
     } else {
         behind
     }
@@ -105,23 +109,36 @@ fn known_before(
 pub(crate) fn selected_targets(
     alloc: Global,
     types: &Types<'_>,
-    sorts: &[Option<Sort>],
-    standings: &[Standing],
+    decl_kinds: &[Option<DeclKind>],
+    syntax_positions: &[SyntaxPosition],
     used: &[Target],
 ) -> Result<Vec<Target>, AllocError>
-    requires sorts { AreSorts types.now sorts.now }
+    requires decl_kinds { AreKinds types.now decl_kinds.now }
     requires used { AreUsed types.now used.now }
     ensures { IfOk result (λ v. AreNamed types.now (length types.now.rows.selectors) v.items) }
 {
     let selectors = types.table().selectors();
     let mut finder = Finder::new(alloc, types, types.bytes(), selectors.len());
     let mut targets = Vec::with_capacity(alloc, selectors.len())?;
-    let mut behind = Known::Nothing;
-    for place in 0..selectors.len() {
-        let before = known_before(types, sorts, standings, used, selectors, place, behind);
-        let led = taken(&mut finder, sorts, before, selectors[place].step)?;
-        targets.push(led.target)?;
-        behind = led.known;
+    let mut behind = DesignatorType::Nothing;
+    for position in 0..selectors.len() {
+        let before = type_before(
+            types,
+            decl_kinds,
+            syntax_positions,
+            used,
+            selectors,
+            position,
+            behind,
+        );
+        let step_result = follow_selector(
+            &mut finder,
+            decl_kinds,
+            before,
+            selectors[position].step,
+        )?;
+        targets.push(step_result.target)?;
+        behind = step_result.known;
     }
     Ok(targets)
 }

@@ -3,8 +3,8 @@ ghost use Rattle.std.specs.Prelude.{◌≡◌, IfOk, IfSome};
 ghost use Rattle.ob_targets.specs.Targets.{used_target};
 ghost use Rattle.ob_resolve.specs.Used.{AreUsed};
 
-use crate::meaning::{used_near, used_target};
-use ob_targets::{Standing, Target};
+use crate::meaning::{used_by_hint, used_target};
+use ob_targets::{SyntaxPosition, Target};
 use ob_types::Types;
 use std::alloc::{AllocError, Global};
 
@@ -14,15 +14,15 @@ pub(crate) fn used_targets(alloc: Global, types: &Types<'_>) -> Result<Vec<Targe
 {
     let uses = types.table().uses();
     let mut targets = Vec::with_capacity(alloc, uses.len())?;
-    let mut near = 0;
+    let mut hint = 0;
     for row in uses {
-        targets.push(used_near(types, &mut near, row.number))?;
+        targets.push(used_by_hint(types, &mut hint, row.number))?;
     }
     Ok(targets)
 }
 
 /// The stored target of a use, if the entry at this index has its token number.
-fn kept_at(types: &Types<'_>, used: &[Target], at: usize, number: u32) -> Option<Target>
+fn stored_at(types: &Types<'_>, used: &[Target], at: usize, number: u32) -> Option<Target>
     requires { AreUsed types.now used.now }
     ensures { IfSome result (λ t. t ≡ used_target types.now number) }
 {
@@ -39,7 +39,7 @@ pub(crate) fn used_at(types: &Types<'_>, used: &[Target], at: usize, number: u32
     requires { AreUsed types.now used.now }
     ensures { result ≡ used_target types.now number }
 {
-    match kept_at(types, used, at, number) {
+    match stored_at(types, used, at, number) {
         Some(target) => target,
         None => used_target(types, number),
     }
@@ -48,15 +48,15 @@ pub(crate) fn used_at(types: &Types<'_>, used: &[Target], at: usize, number: u32
 /// The target of a use, by the syntactic position of its token.
 pub(crate) fn used_by(
     types: &Types<'_>,
-    standings: &[Standing],
+    syntax_positions: &[SyntaxPosition],
     used: &[Target],
     number: u32,
 ) -> Target
     requires { AreUsed types.now used.now }
     ensures { result ≡ used_target types.now number }
 {
-    match standings.get(number as usize) {
-        Some(Standing::Use(at)) => used_at(types, used, *at, number),
+    match syntax_positions.get(number as usize) {
+        Some(SyntaxPosition::Use(at)) => used_at(types, used, *at, number),
         _ => used_target(types, number),
     }
 }

@@ -1,13 +1,13 @@
 //! The names that are written: by assignments, and by FOR statements.
 ghost use Rattle.std.specs.Prelude.{◌≡◌, ◌<◌, ℕ, IfOk, Some, false, length, replicate, slice_get};
-ghost use Rattle.ob_rows.specs.Tables.{rows_in};
-ghost use Rattle.ob_resolve.specs.Marked.{with_mark};
-ghost use Rattle.ob_targets.specs.Standing.{is_token};
+ghost use Rattle.module_table.specs.Tables.{rows_in};
+ghost use Rattle.ob_resolve.specs.Positions.{with_flag};
+ghost use Rattle.ob_targets.specs.SyntaxPosition.{is_token};
 ghost use Rattle.ob_targets.specs.Targets.{is_written, last_name, writes};
 
-use crate::groups::selectors_near;
-use crate::standings::name_of;
-use ob_rows::{Designator, Selector, Table};
+use crate::groups::selectors_by_hint;
+use crate::syntax_positions::name_of;
+use module_table::{Designator, Selector, Table};
 use std::alloc::{AllocError, Global};
 
 /// The last name of the designator with this head and these selectors.
@@ -24,13 +24,13 @@ fn last_name(head: u32, selectors: &[Selector]) -> u32
 }
 
 /// The name that a designator writes, if it is written. Designators are requested in the order of their heads.
-fn written_by(table: &Table, near: &mut usize, designator: Designator) -> Option<u32>
+fn written_by(table: &Table, hint: &mut usize, designator: Designator) -> Option<u32>
     ensures { (k : ℕ) → writes (rows_in table.now) k designator ≡ is_token k result }
 {
     if designator.is_written {
         Some(last_name(
             designator.head,
-            selectors_near(table, near, designator.head),
+            selectors_by_hint(table, hint, designator.head),
         ))
     } else {
         None
@@ -38,8 +38,8 @@ fn written_by(table: &Table, near: &mut usize, designator: Designator) -> Option
 }
 
 /// Sets the flag of this token, if there is one and the list has an element for it.
-fn mark_name(written: &mut [bool], name: Option<u32>)
-    ensures { written.new ≡ with_mark name written.old }
+fn set_flag(written: &mut [bool], name: Option<u32>)
+    ensures { written.new ≡ with_flag name written.old }
 {
     if let Some(name) = name {
         if (name as usize) < written.len() {
@@ -49,15 +49,15 @@ fn mark_name(written: &mut [bool], name: Option<u32>)
 }
 
 /// Sets the flags of all names that are written.
-fn mark_written(written: &mut [bool], table: &Table)
+fn set_written_flags(written: &mut [bool], table: &Table)
     requires { written.old ≡ replicate (length written.old) false }
     ensures { (k : ℕ) → k < length written.old → slice_get written.new k ≡ Some (is_written (rows_in table.now) k) }
 {
     let designators = table.designators();
-    let mut near = 0;
+    let mut hint = 0;
     for designator in designators {
-        let name = written_by(table, &mut near, *designator);
-        mark_name(written, name);
+        let name = written_by(table, &mut hint, *designator);
+        set_flag(written, name);
     }
 }
 
@@ -70,6 +70,6 @@ pub(crate) fn written_names(
     ensures { IfOk result (λ v. (k : ℕ) → k < count → slice_get v.items k ≡ Some (is_written (rows_in table.now) k)) }
 {
     let mut written = vec![in alloc; false; count]?;
-    mark_written(written.as_mut_slice(), table);
+    set_written_flags(written.as_mut_slice(), table);
     Ok(written)
 }

@@ -6,10 +6,10 @@ use Rattle.std.proofs.lemmas.Bool.{cases_Bool}
 use Rattle.std.proofs.lemmas.Slice.Eq.{bytes_eq-Decides}
 use Rattle.ob_scan.specs.declared.kind.Kind.{Kind}
 use Rattle.ob_scan.specs.declared.kind.Kind.TheVariants.{Ident}
-use Rattle.ob_scan.specs.Pieces.{has_second_capital}
+use Rattle.ob_scan.specs.Lexemes.{has_second_capital}
 use Rattle.ob_scan.specs.Tables.{word_of_two, word_of_three, word_of_four, word_of_five, long_word_of, word_of}
 
--- one test of a table, which a text without a second capital doesn't pass, and the ones behind it
+-- one test of a table, which a text without a second capital doesn't pass, and the ones after it
 skip : (text t : List ℕ) (k : Kind) (o : Option Kind) → has_second_capital text ≡ false → has_second_capital t ≡ true → o ≡ None → cond (bytes_eq text t) (Some k) o ≡ None
 skip text t k o e f next =
     elim (cases_Bool (bytes_eq text t)) [

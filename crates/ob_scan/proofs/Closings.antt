@@ -1,10 +1,10 @@
--- Counting marks finds the end of a comment.
+-- Counting brackets finds the end of a comment.
 use Rattle.std.proofs.Common.{◌≡◌, ℕ, zero, suc, ◌≤◌, true, false, ◌&&◌, ◌||◌, eqb, List, [], ◌∷◌, length, Some, None, refl, ap, ◌∙◌, inl, inr, arith}
 use Rattle.std.proofs.lemmas.Bool.{cases_Bool, and_parts, or_parts, or_from, eqb-true}
 use Rattle.ob_scan.specs.Comments.{begins_comment, ends_comment, Closes, closed, nested, other}
-use Rattle.ob_scan.specs.Pieces.{after_comment}
+use Rattle.ob_scan.specs.Lexemes.{after_comment}
 
--- so many comments are closed, and then there is this rest
+-- that many comments are closed, and then there is this rest
 data ClosesAll : ℕ → List ℕ → List ℕ → Type 0 where
   none : {bs : List ℕ} → ClosesAll zero bs bs
   more : {n : ℕ} {bs after rest : List ℕ} → Closes bs after → ClosesAll n after rest → ClosesAll (suc n) bs rest
@@ -37,7 +37,7 @@ found (suc n) (b ∷ c ∷ bs) rest e =
           ]
     ]
 
--- where so many marks are open and one comment is closed, one fewer is open behind it
+-- if that many brackets are open and one comment is closed, one fewer is open after it
 counted : {bs rest : List ℕ} → Closes bs rest → (n : ℕ) → after_comment (suc n) bs ≡ after_comment n rest
 counted (closed e) n = rw e refl
 counted (nested e x y) n = rw e (counted x (suc n) ∙ counted y n)
@@ -54,7 +54,7 @@ closes_from bs rest e = one (found (suc zero) bs rest e)
 pub closes_is : (bs rest : List ℕ) → Closes bs rest → after_comment 1 bs ≡ Some rest
 closes_is bs rest c = counted c 0
 
--- where none is found, there is none
+-- if none is found, there is none
 pub closes_none : (bs : List ℕ) → after_comment 1 bs ≡ None → (rest : List ℕ) → Closes bs rest → ⊥
 closes_none bs e rest c = let f = closes_is bs rest c in cc
 

@@ -13,12 +13,12 @@ use Rattle.ob_scan.specs.declared.kind.Kind.{Kind}
 use Rattle.ob_scan.specs.declared.kind.Kind.TheVariants as kinds
 use Rattle.ob_scan.specs.declared.token.Token.{Token}
 use Rattle.ob_scan.specs.Comments.{begins_comment, Closes, closed, nested, other}
-use Rattle.ob_scan.specs.Numbers.{first_passes, begins_digit, is_hex_digit, digits, hex_digits, is_next, sign_len, scale_of, with_scale, fraction_of, decimal_of, number_token}
-use Rattle.ob_scan.specs.Pieces.{after_comment, string_len, delimiter_of}
+use Rattle.ob_scan.specs.Numbers.{first_passes, begins_digit, is_hex_digit, digits, hex_digits, begins_byte, sign_len, scale_of, with_scale, fraction_of, decimal_of, number_token}
+use Rattle.ob_scan.specs.Lexemes.{after_comment, string_len, delimiter_of}
 use Rattle.ob_scan.specs.Spelling.{begins_blank, begins_quote, IsGap, blank, comment, Scanned, start, gap, token, IsBadByte, IsBadNumber, IsOpenString, IsOpenComment, IsOutcome}
 use Rattle.ob_scan.specs.Tokens.{IsToken, number, longest}
 use Rattle.ob_scan.proofs.Closings.{closes_from, closes_none, comment_long}
-use Rattle.ob_scan.proofs.Marks.{drop-drop}
+use Rattle.ob_scan.proofs.CommentBrackets.{drop-drop}
 use Rattle.ob_scan.proofs.Names.{name_token}
 use Rattle.ob_scan.proofs.Places.{token_some}
 use Rattle.ob_scan.proofs.Signs.{IsPlain, delimiter_token, delimiter_none}
@@ -28,7 +28,7 @@ use Rattle.ob_scan.proofs.Strings.{string_token, string_open}
 abbrev IsWithin : List ℕ → Option (Kind × ℕ) → Type 0
 IsWithin bs o = IfSome o (λ x. x.1 ≤ length bs)
 
-next_some : (c : ℕ) (bs : List ℕ) → is_next c bs ≡ true → 0 < length bs
+next_some : (c : ℕ) (bs : List ℕ) → begins_byte c bs ≡ true → 0 < length bs
 next_some c [] e = absurd cc
 next_some c (b ∷ bs) e = omega arith
 
@@ -55,23 +55,23 @@ scale_within n bs h =
         omega arith)
 
 fraction_within : (n : ℕ) (bs : List ℕ) → n ≤ length bs → IsWithin bs (fraction_of n bs)
-fraction_within n bs h = cond_both (is_next 69 (drop n bs)) _ _ (IsWithin bs) (λ e. scale_within n bs h) (λ e. h)
+fraction_within n bs h = cond_both (begins_byte 69 (drop n bs)) _ _ (IsWithin bs) (λ e. scale_within n bs h) (λ e. h)
 
 decimal_within : (n : ℕ) (bs : List ℕ) → n ≤ length bs → IsWithin bs (decimal_of n bs)
 decimal_within n bs h =
-    cond_both (is_next 46 (drop n bs)) _ _ (IsWithin bs)
+    cond_both (begins_byte 46 (drop n bs)) _ _ (IsWithin bs)
     (λ e. let some = next_some 46 (drop n bs) e in
     let long = length-drop n bs in
     let more = digits_within (n + 1) bs in
-    cond_both (is_next 46 (drop (n + 1) bs)) _ _ (IsWithin bs) (λ f. h) (λ f. fraction_within (n + 1 + digits (drop (n + 1) bs)) bs (omega arith))) (λ e. h)
+    cond_both (begins_byte 46 (drop (n + 1) bs)) _ _ (IsWithin bs) (λ f. h) (λ f. fraction_within (n + 1 + digits (drop (n + 1) bs)) bs (omega arith))) (λ e. h)
 
 number_within : (bs : List ℕ) → IsWithin bs (number_token bs)
 number_within bs =
     let n = hex_digits bs in
     let h : n ≤ length bs = hex_within bs in
     let long = length-drop n bs in
-    cond_both (is_next 72 (drop n bs)) _ _ (IsWithin bs) (λ e. let some = next_some 72 (drop n bs) e in omega arith)
-    (λ e. cond_both (is_next 88 (drop n bs)) _ _ (IsWithin bs) (λ f. let some = next_some 88 (drop n bs) f in omega arith)
+    cond_both (begins_byte 72 (drop n bs)) _ _ (IsWithin bs) (λ e. let some = next_some 72 (drop n bs) e in omega arith)
+    (λ e. cond_both (begins_byte 88 (drop n bs)) _ _ (IsWithin bs) (λ f. let some = next_some 88 (drop n bs) f in omega arith)
     (λ f. cond_both (eqb (digits bs) n) _ _ (IsWithin bs) (λ g. decimal_within n bs h) (λ g. tt)))
 
 token_within : {k : Kind} {n : ℕ} {bs : List ℕ} → IsToken k n bs → n ≤ length bs
@@ -80,7 +80,7 @@ token_within {k} {n} {bs} (longest {text = text} c x s l h) =
     let whole : length bs ≡ length text + length s.rest = ap length s.front ∙ length-append text s.rest in
     omega arith
 
--- what stands behind a comment is an end of the bytes
+-- what is after a comment is an end of the bytes
 record IsRest (bs rest : List ℕ) : Type 0 where
   count : ℕ
   within : count ≤ length bs

@@ -1,4 +1,4 @@
--- Where tokens begin and end is in their text; one beyond the last stands at its front.
+-- The ends of tokens are in the bounds of their text; a token beyond the last one begins and ends at its start.
 use Rattle.std.proofs.Common.{◌≡◌, ◌≤◌, ◌<◌, ℕ, List, length, Some, inl, inr, subst, arith}
 use Rattle.std.specs.Prelude.{slice_get}
 use Rattle.std.proofs.lemmas.Bool.{cases_lt}

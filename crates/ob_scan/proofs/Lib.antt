@@ -4,14 +4,15 @@ pub mod Continuing
 pub mod InText
 pub mod LineStarts
 pub mod LineTables
+pub mod LineHints
 pub mod LinesPassed
-pub mod Marks
+pub mod CommentBrackets
 pub mod NameTokens
 pub mod Names
 pub mod Numbers
 pub mod OneToken
 pub mod Outcomes
-pub mod Pieces
+pub mod Lexemes
 pub mod Places
 pub mod Runs
 pub mod Shapes

@@ -1,4 +1,4 @@
--- Where the lines begin up to an offset, and the last of them.
+-- The line starts up to an offset, and the last of them.
 use Rattle.std.proofs.Common.{◌≡◌, ℕ, zero, suc, ◌+◌, ◌-◌, ◌≤◌, ◌<◌, Bool, true, false, cond, List, [], ◌∷◌, ◌++◌, length, get_or, refl, sym, ap, subst, ◌∙◌, inl, inr, add-zero, add-one, leb, length-append, arith}
 use Rattle.std.specs.Prelude.{min}
 use Rattle.std.specs.List.{All, range_with_len, filter}
@@ -25,9 +25,9 @@ one_more bytes at b e =
     let zero_add : 0 + (at + 1) ≡ at + 1 = omega arith in
     let back : suc at - 1 ≡ at = omega arith in
     let begins : p (suc at) ≡ b = rw (eqb-suc-zero at, back) e in
-    let kept : filter p next ≡ cond b next [] = ap (λ (x : Bool). cond x next []) (ap p (add-one at) ∙ begins) in
+    let shrink_tokens : filter p next ≡ cond b next [] = ap (λ (x : Bool). cond x next []) (ap p (add-one at) ∙ begins) in
     let more : range_with_len 0 (suc (at + 1)) ≡ range_with_len 0 (at + 1) ++ next = range_last 0 (at + 1) ∙ ap (λ (x : ℕ). range_with_len 0 (at + 1) ++ x ∷ []) zero_add in
-    ap (λ (n : ℕ). filter p (range_with_len 0 n)) (add-one (at + 1)) ∙ (ap (filter p) more ∙ (filter-append p (range_with_len 0 (at + 1)) next ∙ ap (λ (xs : List ℕ). starts_to bytes at ++ xs) kept))
+    ap (λ (n : ℕ). filter p (range_with_len 0 n)) (add-one (at + 1)) ∙ (ap (filter p) more ∙ (filter-append p (range_with_len 0 (at + 1)) next ∙ ap (λ (xs : List ℕ). starts_to bytes at ++ xs) shrink_tokens))
 
 pub start_more : (bytes : List ℕ) (at : ℕ) → ends_line bytes at ≡ true → starts_to bytes (at + 1) ≡ starts_to bytes at ++ (at + 1) ∷ []
 start_more bytes at e = one_more bytes at true e
@@ -35,7 +35,7 @@ start_more bytes at e = one_more bytes at true e
 pub start_same : (bytes : List ℕ) (at : ℕ) → ends_line bytes at ≡ false → starts_to bytes (at + 1) ≡ starts_to bytes at
 start_same bytes at e = one_more bytes at false e ∙ append-nil _
 
--- where no line ends between two places, no more lines begin
+-- if no line ends between two places, no more lines begin
 pub start_none : (bytes : List ℕ) (at more : ℕ) → ((k : ℕ) → at ≤ k → k < at + more → ends_line bytes k ≡ false) → starts_to bytes (at + more) ≡ starts_to bytes at
 start_none bytes at zero none = rw add-zero refl
 start_none bytes at (suc more) none =
@@ -115,7 +115,7 @@ begun : (bytes : List ℕ) (at : ℕ) → Begun bytes at
 begun bytes zero = begun_first bytes
 begun bytes (suc at) = rw (sym (add-one at)) (begun_next bytes at (begun bytes at) (ends_line bytes at) refl)
 
--- behind the lines that begin up to an offset stand those that begin behind it
+-- after the lines that begin up to an offset are those that begin after it
 record Behind (bytes : List ℕ) (at more : ℕ) : Type 0 where
   rest : List ℕ
   is : starts_to bytes (at + more) ≡ starts_to bytes at ++ rest
@@ -135,9 +135,9 @@ behind_next bytes at more before false e =
     let none : starts_to bytes (at + suc more) ≡ starts_to bytes (at + more) = rw (sym next) (start_same bytes (at + more) e) in
     record { rest = before.rest; is = none ∙ before.is; above = before.above }
 
-behind : (bytes : List ℕ) (at more : ℕ) → Behind bytes at more
-behind bytes at zero = record { rest = []; is = rw add-zero (sym (append-nil _)); above = All-nil _ }
-behind bytes at (suc more) = behind_next bytes at more (behind bytes at more) (ends_line bytes (at + more)) refl
+lower : (bytes : List ℕ) (at more : ℕ) → Behind bytes at more
+lower bytes at zero = record { rest = []; is = rw add-zero (sym (append-nil _)); above = All-nil _ }
+lower bytes at (suc more) = behind_next bytes at more (lower bytes at more) (ends_line bytes (at + more)) refl
 
 -- where a list is cut between what is at most a number and what is above it
 point_is : (xs ys : List ℕ) (t i : ℕ) → All (λ x. x ≤ t) xs → All (λ x. t < x) ys → i ≤ length (xs ++ ys) →
@@ -164,7 +164,7 @@ place_is bytes starts offset i fits is within bound point =
     let n = min (length bytes + 1) 4294967296 - 1 in
     let all : min (length bytes + 1) 4294967296 ≡ (offset + (n - offset)) + 1 = omega (arith, fits, within) in
     let b = begun bytes offset in
-    let r = behind bytes offset (n - offset) in
+    let r = lower bytes offset (n - offset) in
     let listed : starts ≡ starts_to bytes (offset + (n - offset)) = is ∙ ap (λ (m : ℕ). filter (begins_line bytes) (range_with_len 0 m)) all in
     let parts : starts ≡ starts_to bytes offset ++ r.rest = listed ∙ r.is in
     let long : length (starts_to bytes offset) ≡ length b.front + 1 = rw b.is (length-append b.front (b.first ∷ [])) in

@@ -1,10 +1,10 @@
--- Where no line ends among sixteen bytes.
+-- Sixteen bytes among which no line ends.
 use Rattle.std.proofs.Common.{◌≡◌, ℕ, ◌+◌, ◌<◌, ◌≤◌, Bool, true, false, not, ◌&&◌, ◌||◌, List, length, take, drop, refl, inl, inr, rules, arith}
 use Rattle.std.proofs.lemmas.Bool.{cases_lt}
 use Rattle.std.proofs.lemmas.Simd.{run_in_chunk_le, run_in_chunk_fails}
 use Rattle.std.specs.List.{prefix_len}
 use Rattle.std.specs.Prelude.{slice_index, ◌==◌}
-use Rattle.ob_scan.specs.Pieces.{ends_no_line}
+use Rattle.ob_scan.specs.Lexemes.{ends_no_line}
 use Rattle.ob_scan.specs.Position.{ends_line}
 
 ends_none_by : (a b c : Bool) → a || b ≡ false → a || (b && c) ≡ false
@@ -12,7 +12,7 @@ ends_none_by true b c e = e
 ends_none_by false true c e = absurd (search (rules, e))
 ends_none_by false false c e = refl
 
--- a byte that ends no line, whatever stands behind it
+-- a byte that ends no line, whatever is after it
 pub ends_none : (bytes : List ℕ) (k : ℕ) → (slice_index bytes k == 10) || (slice_index bytes k == 13) ≡ false → ends_line bytes k ≡ false
 ends_none bytes k e = ends_none_by (slice_index bytes k == 10) (slice_index bytes k == 13) (not (slice_index bytes (k + 1) == 10)) e
 

@@ -1,4 +1,4 @@
--- The longest run of letters and digits behind a letter is a token.
+-- The longest run of letters and digits after a letter is a token.
 use Rattle.std.proofs.Common.{◌≡◌, ℕ, ◌≤◌, ◌<◌, true, false, eqb, List, [], ◌∷◌, length, take, drop, Option, Some, None, refl, sym, one-add, arith}
 use Rattle.std.specs.Prelude.{unwrap_or}
 use Rattle.std.specs.List.{prefix_len}
@@ -12,11 +12,11 @@ use Rattle.ob_scan.specs.Comments.{begins_comment}
 use Rattle.ob_scan.specs.Kinds.{text_of}
 use Rattle.ob_scan.specs.Numbers.{first_passes}
 use Rattle.ob_scan.specs.Tables.{word_of}
-use Rattle.ob_scan.specs.Tokens.{is_name, IsText, fixed, name, Stands, IsToken, longest}
+use Rattle.ob_scan.specs.Tokens.{is_name, IsText, fixed, name, StartsWith, IsToken, longest}
 use Rattle.ob_scan.proofs.Texts.{listed, word_of_is}
 use Rattle.ob_scan.proofs.Shapes.{begins_paren, shape_of, word, sign, string, begins_sign, begins_string, apart, letter_digit, letter_sign, letter_quote, letter_paren, is_quote, word_all, letter_alphanumeric}
 use Rattle.ob_scan.proofs.Texts.{is_sign_byte}
-use Rattle.texts.proofs.NamesAhead.{run_passes}
+use Rattle.texts.proofs.NamePrefixes.{run_passes}
 use Rattle.ob_scan.proofs.Runs.{run_covers}
 
 reserved_is : (text : List ℕ) → is_name text ≡ true → (k : Kind) → text_of k ≡ Some text → word_of text ≡ Some k
@@ -35,8 +35,8 @@ front_name : (bs : List ℕ) → first_passes is_ascii_alphabetic bs ≡ true �
 front_name [] e = absurd cc
 front_name (b ∷ bs) e = rw (letter_alphanumeric b e, one-add) (and_from _ _ e (run_passes is_ascii_alphanumeric bs))
 
--- nothing longer stands there
-name_longest : (bs : List ℕ) → first_passes is_ascii_alphabetic bs ≡ true → (j : Kind) (other : List ℕ) → Stands j other bs → length other ≤ prefix_len is_ascii_alphanumeric bs
+-- nothing longer is there
+name_longest : (bs : List ℕ) → first_passes is_ascii_alphabetic bs ≡ true → (j : Kind) (other : List ℕ) → StartsWith j other bs → length other ≤ prefix_len is_ascii_alphanumeric bs
 name_longest bs e j other s =
     elim (shape_of s.is_text) [
       | word w ↦ rw s.front (run_covers is_ascii_alphanumeric other s.rest (word_all other w))

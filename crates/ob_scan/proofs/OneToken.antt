@@ -7,7 +7,7 @@ use Rattle.std.proofs.lemmas.Option.{some_pair_parts}
 use Rattle.ob_scan.specs.declared.kind.Kind.{Kind}
 use Rattle.ob_scan.specs.Kinds.{text_of}
 use Rattle.ob_scan.specs.Spelling.{IsGap, blank, comment}
-use Rattle.ob_scan.specs.Tokens.{IsText, fixed, name, quoted, Stands, IsToken, number, longest}
+use Rattle.ob_scan.specs.Tokens.{IsText, fixed, name, quoted, StartsWith, IsToken, number, longest}
 use Rattle.ob_scan.proofs.Closings.{one_close}
 use Rattle.ob_scan.proofs.Shapes.{begins_paren, shape_of, word, sign, string, begins_word, begins_sign, begins_string, apart, is_quote, is_blank, letter_quote, letter_blank, quote_sign, quote_blank, blank_sign, digit_blank, digit_paren, paren_blank}
 use Rattle.ob_scan.proofs.Texts.{is_sign_byte, listed}
@@ -15,7 +15,7 @@ use Rattle.ob_scan.proofs.Texts.{is_sign_byte, listed}
 same_some : (k j : Kind) → Some k ≡ Some j → k ≡ j
 same_some k j e = cc
 
-whole : {k : Kind} {text : List ℕ} → IsText k text → Stands k text text
+whole : {k : Kind} {text : List ℕ} → IsText k text → StartsWith k text text
 whole {k} {text} t = record { is_text = t; rest = []; front = sym (append-nil text) }
 
 fixed_quoted : (k : Kind) (text inside : List ℕ) → text_of k ≡ Some text → text ≡ 34 ∷ inside ++ 34 ∷ [] → ⊥

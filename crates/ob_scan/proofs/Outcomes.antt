@@ -9,21 +9,21 @@ use Rattle.ob_scan.specs.declared.token.Token.{Token}
 use Rattle.ob_scan.specs.declared.fault.ScanFault.{ScanFault}
 use Rattle.ob_scan.specs.declared.fault.ScanFault.TheVariants as faults
 use Rattle.ob_scan.specs.Comments.{begins_comment}
-use Rattle.ob_scan.specs.Faults.{Tells}
+use Rattle.ob_scan.specs.Faults.{HasOutcome}
 use Rattle.ob_scan.specs.Numbers.{first_passes, begins_digit}
-use Rattle.ob_scan.specs.Spelling.{begins_quote, IsGap, blank, comment, Scanned, start, gap, token, Spells, IsBadByte, IsBadNumber, IsOpenString, IsOpenComment, IsShort, IsOutcome}
+use Rattle.ob_scan.specs.Spelling.{begins_quote, IsGap, blank, comment, Scanned, start, gap, token, Spells, IsBadByte, IsBadNumber, IsOpenString, IsOpenComment, IsWithinLimit, IsOutcome}
 use Rattle.ob_scan.specs.Tokens.{IsToken, number, longest}
 use Rattle.ob_scan.proofs.OneToken.{one_token, one_gap, not_both}
 use Rattle.ob_scan.proofs.Shapes.{begins_paren, shape_of, word, sign, string, begins_word, begins_sign, begins_string, apart, is_quote, is_blank, digit_blank, digit_paren, quote_digit, quote_blank, quote_paren, paren_blank}
 use Rattle.ob_scan.proofs.Strings.{open_stands}
 use Rattle.ob_scan.proofs.Texts.{is_sign_byte}
 
--- nothing begins in front
+-- nothing begins at the start
 record IsEnd (bs : List ℕ) : Type 0 where
   no_gap : (n : ℕ) → IsGap n bs → ⊥
   no_token : (k : Kind) (n : ℕ) → IsToken k n bs → ⊥
 
--- pieces in a row from a place on
+-- pieces in sequence from a place on
 data Way (bytes : List ℕ) : ℕ → List Token → ℕ → Type 0 where
   here : {at : ℕ} → Way bytes at [] at
   gap_on : {at n to : ℕ} {ts : List Token} → IsGap n (drop at bytes) → Way bytes (at + n) ts to → Way bytes at ts to
@@ -127,7 +127,7 @@ stop_at [] ts at = Ok ts
 stop_at (b ∷ bs) ts at =
     cond (begins_digit (b ∷ bs)) (Err (faults.BadNumber at)) (cond (begins_quote (b ∷ bs)) (Err (faults.OpenString at)) (cond (begins_comment (b ∷ bs)) (Err (faults.OpenComment at)) (Err (faults.BadByte at))))
 
--- where the outcome is met
+-- if the outcome is met
 record IsStop (bytes : List ℕ) (o : Result (List Token) ScanFault) : Type 0 where
   before : List Token
   at : ℕ
@@ -161,7 +161,7 @@ stops_at_comment (b ∷ bs) ts at w =
     let quote : begins_quote (b ∷ bs) ≡ false = false_from_ne_true _ (λ e. apart is_quote (λ x. eqb x 40) quote_paren (b ∷ bs) e paren) in
     rw (digit, quote, w.opens) refl
 
-stop_of : (bytes : List ℕ) (o : Result (List Token) ScanFault) → IsShort bytes → IsOutcome bytes o → IsStop bytes o
+stop_of : (bytes : List ℕ) (o : Result (List Token) ScanFault) → IsWithinLimit bytes → IsOutcome bytes o → IsStop bytes o
 unfolding stop_at
 stop_of bytes (Ok ts) s h =
     let over : drop (length bytes) bytes ≡ [] = drop-length bytes in
@@ -204,7 +204,7 @@ spelled_once bytes ts us s t =
     (one_way (way_of s) (way_of t) ended ended).tokens
 
 -- an answer is the one that the text has
-pub only_outcome : (bytes : List ℕ) (r : Result (List Token) ScanFault) → Tells r (IsOutcome bytes) → (o : Result (List Token) ScanFault) → IsOutcome bytes o → Tells r (λ p. p ≡ o)
+pub only_outcome : (bytes : List ℕ) (r : Result (List Token) ScanFault) → HasOutcome r (IsOutcome bytes) → (o : Result (List Token) ScanFault) → IsOutcome bytes o → HasOutcome r (λ p. p ≡ o)
 only_outcome bytes (Ok ts) h o k = outcome_once bytes (Ok ts) o h k
 only_outcome bytes (Err (faults.BadByte at)) h o k = outcome_once bytes (Err (faults.BadByte at)) o h k
 only_outcome bytes (Err (faults.BadNumber at)) h o k = outcome_once bytes (Err (faults.BadNumber at)) o h k

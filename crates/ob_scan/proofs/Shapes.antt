@@ -9,7 +9,7 @@ use Rattle.ob_scan.specs.declared.kind.Kind.TheVariants as kinds
 use Rattle.ob_scan.specs.Comments.{begins_comment}
 use Rattle.ob_scan.specs.Kinds.{text_of}
 use Rattle.ob_scan.specs.Numbers.{first_passes}
-use Rattle.ob_scan.specs.Tokens.{is_name, is_no_quote, IsText, fixed, name, quoted, Stands}
+use Rattle.ob_scan.specs.Tokens.{is_name, is_no_quote, IsText, fixed, name, quoted, StartsWith}
 use Rattle.ob_scan.proofs.Texts.{is_sign, is_sign_byte, listed}
 
 pub data Shape (k : Kind) (text : List ℕ) : Type 0 where
@@ -36,17 +36,17 @@ sign_begins (b ∷ []) e = e
 sign_begins (b ∷ c ∷ []) e = e
 sign_begins (b ∷ c ∷ d ∷ text) e = absurd cc
 
--- what stands in front of the bytes, by their first one
-pub begins_word : {k : Kind} {text bs : List ℕ} → Stands k text bs → is_name text ≡ true → first_passes is_ascii_alphabetic bs ≡ true
+-- what is first of the bytes, by their first one
+pub begins_word : {k : Kind} {text bs : List ℕ} → StartsWith k text bs → is_name text ≡ true → first_passes is_ascii_alphabetic bs ≡ true
 begins_word {k} {text} {bs} s e = ap (first_passes is_ascii_alphabetic) s.front ∙ begins_front is_ascii_alphabetic text s.rest (word_begins text e)
 
-pub begins_sign : {k : Kind} {text bs : List ℕ} → Stands k text bs → is_sign text ≡ true → first_passes is_sign_byte bs ≡ true
+pub begins_sign : {k : Kind} {text bs : List ℕ} → StartsWith k text bs → is_sign text ≡ true → first_passes is_sign_byte bs ≡ true
 begins_sign {k} {text} {bs} s e = ap (first_passes is_sign_byte) s.front ∙ begins_front is_sign_byte text s.rest (sign_begins text e)
 
 abbrev pub is_quote : ℕ → Bool
 is_quote b = eqb b 34
 
-pub begins_string : {k : Kind} {text bs : List ℕ} (inside : List ℕ) → Stands k text bs → text ≡ 34 ∷ inside ++ 34 ∷ [] → first_passes is_quote bs ≡ true
+pub begins_string : {k : Kind} {text bs : List ℕ} (inside : List ℕ) → StartsWith k text bs → text ≡ 34 ∷ inside ++ 34 ∷ [] → first_passes is_quote bs ≡ true
 begins_string {k} {text} {bs} inside s e = ap (first_passes is_quote) (s.front ∙ ap (λ (t : List ℕ). t ++ s.rest) e)
 
 -- a comment begins with `(`

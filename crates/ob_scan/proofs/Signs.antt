@@ -1,4 +1,4 @@
--- The longest delimiter in front is a token.
+-- The longest delimiter at the start is a token.
 use Rattle.std.proofs.Common.{◌≡◌, ℕ, ◌≤◌, ◌<◌, true, false, List, [], ◌∷◌, ◌++◌, length, Option, Some, None, refl, sym, ap, ◌∙◌, arith}
 use Rattle.std.specs.Prelude.{option_map}
 use Rattle.std.specs.Char.{is_ascii_alphabetic}
@@ -8,14 +8,14 @@ use Rattle.ob_scan.specs.declared.kind.Kind.{Kind}
 use Rattle.ob_scan.specs.Comments.{begins_comment}
 use Rattle.ob_scan.specs.Kinds.{text_of}
 use Rattle.ob_scan.specs.Numbers.{first_passes, begins_digit}
-use Rattle.ob_scan.specs.Pieces.{delimiter_of, single_in, first_of}
+use Rattle.ob_scan.specs.Lexemes.{delimiter_of, single_in, first_of}
 use Rattle.ob_scan.specs.Spelling.{begins_quote}
 use Rattle.ob_scan.specs.Tables.{single_of, two_byte_delimiter}
-use Rattle.ob_scan.specs.Tokens.{fixed, Stands, IsToken, longest}
+use Rattle.ob_scan.specs.Tokens.{fixed, StartsWith, IsToken, longest}
 use Rattle.ob_scan.proofs.Shapes.{shape_of, word, sign, string, begins_word, begins_string, sign_letter}
 use Rattle.ob_scan.proofs.Texts.{is_sign, listed, single_of_is, pair_of_is}
 
--- where neither a letter nor a digit nor a quote nor a comment begins
+-- if neither a letter nor a digit nor a quote nor a comment begins
 pub record IsPlain (bs : List ℕ) : Type 0 where
   pub digit : begins_digit bs ≡ false
   pub letter : first_passes is_ascii_alphabetic bs ≡ false
@@ -37,8 +37,8 @@ sign_at j (x ∷ y ∷ []) rest b bs e f w =
     pair y rest refl (cc) (rw same (rw (sign_letter x e) at (listed j (x ∷ y ∷ []) f).0))
 sign_at j (x ∷ y ∷ z ∷ other) rest b bs e f w = absurd cc
 
--- only a delimiter stands there
-plain_sign : (b : ℕ) (bs : List ℕ) → IsPlain (b ∷ bs) → (j : Kind) (other : List ℕ) → Stands j other (b ∷ bs) → Sign j other b bs
+-- only a delimiter is there
+plain_sign : (b : ℕ) (bs : List ℕ) → IsPlain (b ∷ bs) → (j : Kind) (other : List ℕ) → StartsWith j other (b ∷ bs) → Sign j other b bs
 plain_sign b bs p j other s =
     elim (shape_of s.is_text) [
       | word w ↦ absurd (false≢true (sym p.letter ∙ begins_word s w))
@@ -103,7 +103,7 @@ no_sign : {j : Kind} {other : List ℕ} {b : ℕ} {bs : List ℕ} → single_of 
 no_sign e h (single l f) = absurd cc
 no_sign e h (pair c ds l w f) = h c ds _ w f
 
-pub delimiter_none : (bs : List ℕ) → 0 < length bs → IsPlain bs → delimiter_of bs ≡ None → (j : Kind) (other : List ℕ) → Stands j other bs → ⊥
+pub delimiter_none : (bs : List ℕ) → 0 < length bs → IsPlain bs → delimiter_of bs ≡ None → (j : Kind) (other : List ℕ) → StartsWith j other bs → ⊥
 delimiter_none [] h p e j other s = absurd (omega arith)
 delimiter_none (b ∷ []) h p e j other s = no_sign (single_none b e) (λ c ds k w f. absurd cc) (plain_sign b [] p j other s)
 delimiter_none (b ∷ c ∷ bs) h p e j other s = go (two_byte_delimiter b c) refl e

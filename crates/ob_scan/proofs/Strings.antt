@@ -7,8 +7,8 @@ use Rattle.std.proofs.lemmas.List.Folds.{list_all-append}
 use Rattle.ob_scan.specs.declared.kind.Kind.{Kind}
 use Rattle.ob_scan.specs.declared.kind.Kind.TheVariants as kinds
 use Rattle.ob_scan.specs.Numbers.{first_passes}
-use Rattle.ob_scan.specs.Pieces.{string_len}
-use Rattle.ob_scan.specs.Tokens.{is_no_quote, quoted, Stands, IsToken, longest}
+use Rattle.ob_scan.specs.Lexemes.{string_len}
+use Rattle.ob_scan.specs.Tokens.{is_no_quote, quoted, StartsWith, IsToken, longest}
 use Rattle.ob_scan.proofs.Runs.{run_stops, run_whole}
 use Rattle.ob_scan.proofs.Shapes.{begins_paren, shape_of, word, sign, string, begins_word, begins_sign, apart, letter_quote, quote_sign, quote_paren, is_quote}
 use Rattle.ob_scan.proofs.Texts.{is_sign_byte}
@@ -41,14 +41,14 @@ split (b ∷ t) h =
           split_on b t goes (split t (omega arith))
     ]
 
--- a string in front ends at the next quote
+-- a string at the start ends at the next quote
 string_ends : (b : ℕ) (t inside rest : List ℕ) → b ∷ t ≡ (34 ∷ inside ++ 34 ∷ []) ++ rest → list_all is_no_quote inside ≡ true → prefix_len is_no_quote t ≡ length inside
 string_ends b t inside rest e n =
     let whole : t ≡ inside ++ 34 ∷ rest = ap (drop 1) e ∙ append_assoc inside (34 ∷ []) rest in
     rw whole (run_stops is_no_quote inside 34 rest n refl)
 
--- only a string stands at a quote, and it is this long
-string_only : (bs : List ℕ) → first_passes is_quote bs ≡ true → (j : Kind) (other : List ℕ) → Stands j other bs → length other ≡ prefix_len is_no_quote (drop 1 bs) + 2
+-- only a string is at a quote, and it is this long
+string_only : (bs : List ℕ) → first_passes is_quote bs ≡ true → (j : Kind) (other : List ℕ) → StartsWith j other bs → length other ≡ prefix_len is_no_quote (drop 1 bs) + 2
 string_only [] e j other s = absurd cc
 string_only (b ∷ t) e j other s =
     elim (shape_of s.is_text) [
@@ -93,8 +93,8 @@ string_open (b ∷ t) e f =
       | inr ge ↦ run_whole is_no_quote t (ltb-false _ _ ge)
     ]
 
--- where no other quote follows, nothing stands there
-pub open_stands : (bs : List ℕ) → first_passes is_quote bs ≡ true → list_all is_no_quote (drop 1 bs) ≡ true → (j : Kind) (other : List ℕ) → Stands j other bs → ⊥
+-- if no other quote follows, nothing is there
+pub open_stands : (bs : List ℕ) → first_passes is_quote bs ≡ true → list_all is_no_quote (drop 1 bs) ≡ true → (j : Kind) (other : List ℕ) → StartsWith j other bs → ⊥
 open_stands [] e f j other s = absurd cc
 open_stands (b ∷ t) e f j other s =
     elim (shape_of s.is_text) [

@@ -50,7 +50,7 @@ listed k text e = let P : Option (List ℕ) → Type 0 = Listed k in subst P e (
 same_kind : (k j : Kind) → Some k ≡ Some j → k ≡ j
 same_kind k j e = cc
 
--- one test of a table, and the ones behind it
+-- one test of a table, and the ones after it
 pick : {text t : List ℕ} {j : Kind} {o : Option Kind} (k : Kind) → text_of k ≡ Some t → (o ≡ Some j → text_of j ≡ Some text) → cond (bytes_eq text t) (Some k) o ≡ Some j → text_of j ≡ Some text
 pick {text} {t} {j} {o} k is next e =
     elim (cases_Bool (bytes_eq text t)) [

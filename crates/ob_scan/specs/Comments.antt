@@ -1,22 +1,22 @@
--- Comments: `(*`, any bytes and comments, and `*)` (Oberon-07 report, section 3). The marks are read from left to right and
--- don't overlap, so `(*)` is not closed.
+-- Comments: `(*`, any bytes and comments, and `*)` (Oberon-07 report, section 3). The brackets are read from left to right and do not
+-- overlap, so `(*)` is not closed.
 use Rattle.std.specs.Prelude.{◌≡◌, ℕ, List, [], ◌∷◌, ◌++◌, codes, Bool, false, ◌==◌, ◌&&◌, ◌||◌}
 
--- these two bytes stand in front
+-- the bytes begin with these two bytes
 abbrev pub begins_with : ℕ → ℕ → List ℕ → Bool
 begins_with x y [] = false
 begins_with x y (b ∷ []) = false
 begins_with x y (b ∷ c ∷ bs) = (b == x) && (c == y)
 
--- `(*` stands in front
+-- the bytes begin with `(*`
 abbrev pub begins_comment : List ℕ → Bool
 begins_comment bs = begins_with 40 42 bs
 
--- `*)` stands in front
+-- the bytes begin with `*)`
 abbrev pub ends_comment : List ℕ → Bool
 ends_comment bs = begins_with 42 41 bs
 
--- behind a `(*` the bytes go on to its `*)`, and then there is this rest
+-- after a `(*`, these bytes go on to its `*)`, and `rest` follows
 pub data Closes : List ℕ → List ℕ → Type 0 where
   closed : {bs rest : List ℕ} → bs ≡ codes "*)" ++ rest → Closes bs rest
   nested : {bs inner after rest : List ℕ} → bs ≡ codes "(*" ++ inner → Closes inner after → Closes after rest → Closes bs rest

@@ -1,4 +1,4 @@
--- What the tokens of a kind read, where all of them read the same (Oberon-07 report, section 3).
+-- The text of the kinds of tokens that have one text (Oberon-07 report, section 3).
 use Rattle.std.specs.Prelude.{ℕ, List, Option, Some, None, codes}
 use Rattle.ob_scan.specs.declared.kind.Kind.{Kind}
 use Rattle.ob_scan.specs.declared.kind.Kind.TheVariants as kinds

@@ -1,8 +1,9 @@
 pub mod Comments
 pub mod Faults
 pub mod Kinds
+pub mod LineLookup
 pub mod Numbers
-pub mod Pieces
+pub mod Lexemes
 pub mod Position
 pub mod Spelling
 pub mod Tables

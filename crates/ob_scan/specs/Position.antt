@@ -1,13 +1,13 @@
--- Lines and columns, from 0. A line ends at LF, at CR LF, or at a CR alone, and the bytes of its end belong to it.
+-- Lines and columns, from 0. A line ends with LF, CR LF, or a CR alone, and the bytes of its line end belong to it.
 use Rattle.std.specs.Prelude.{◌≡◌, ℕ, ◌+◌, ◌-◌, ◌≤◌, ◌<◌, List, Bool, true, false, ◌==◌, ◌&&◌, ◌||◌, not, ◌⊎◌, length, min, slice_index, count_by}
 use Rattle.std.specs.List.{range_with_len, filter}
 use Rattle.std.specs.List.Sorted.{IsNonDecreasing}
 
--- the byte at this place is the last of a line's end: an LF, or a CR that no LF follows
+-- the byte at this offset is the last one of a line end: an LF, or a CR that no LF follows
 abbrev pub ends_line : List ℕ → ℕ → Bool
 ends_line bytes at = (slice_index bytes at == 10) || ((slice_index bytes at == 13) && not (slice_index bytes (at + 1) == 10))
 
--- the offset's line is the number of line ends before it, and its column how far it stands from the line's first offset
+-- the line of the offset is the number of line ends before it, and its column its distance from the first offset of the line
 pub record IsPosition (bytes : List ℕ) (offset line column : ℕ) : Type 0 where
   pub line_is : line ≡ count_by (ends_line bytes) (range_with_len 0 offset)
   pub first : ℕ
@@ -15,15 +15,15 @@ pub record IsPosition (bytes : List ℕ) (offset line column : ℕ) : Type 0 whe
   pub begins : (first ≡ 0) ⊎ ((last : ℕ) × (last + 1 ≡ first) × (ends_line bytes last ≡ true))
   pub whole : (at : ℕ) → first ≤ at → at < offset → ends_line bytes at ≡ false
 
--- a line begins at the text's start, and behind each line end
+-- a line begins at the start of the text, and after each line end
 abbrev pub begins_line : List ℕ → ℕ → Bool
 begins_line bytes offset = (offset == 0) || ends_line bytes (offset - 1)
 
--- where the lines begin, of the offsets that 32 bits hold
+-- the offsets at which lines begin, of those that 32 bits hold
 abbrev pub line_starts : List ℕ → List ℕ
 line_starts bytes = filter (begins_line bytes) (range_with_len 0 (min (length bytes + 1) 4294967296))
 
--- what every table of lines keeps: a first line that begins at 0, none that begins before the one above it, and no more than 32 bits number
+-- a table of line starts: it has one entry at least, the first is 0, the entries are sorted, and 32 bits number them
 pub record IsLineTable (starts : List ℕ) : Type 0 where
   pub some : 0 < length starts
   pub first : slice_index starts 0 ≡ 0

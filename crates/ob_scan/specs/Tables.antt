@@ -1,10 +1,10 @@
--- The table of reserved words and delimiters, looked up by the text.
+-- The table of reserved words and delimiters, by their texts.
 use Rattle.std.specs.Prelude.{ℕ, List, Option, Some, None, length, codes, ◌==◌, ◌&&◌, if◌then◌else◌}
 use Rattle.std.specs.Str.{bytes_eq}
 use Rattle.ob_scan.specs.declared.kind.Kind.{Kind}
 use Rattle.ob_scan.specs.declared.kind.Kind.TheVariants as kinds
 
--- the reserved words of two, three, four, five and more letters
+-- the reserved word of two, three, four, five or more letters that the text is
 abbrev pub word_of_two : List ℕ → Option Kind
 word_of_two text =
     if bytes_eq text (codes "BY") then Some kinds.By
@@ -58,7 +58,7 @@ long_word_of text =
     else if bytes_eq text (codes "RETURN") then Some kinds.Return
     else None
 
--- the reserved word of this text
+-- the reserved word that the text is
 abbrev pub word_of : List ℕ → Option Kind
 word_of text =
     if length text == 2 then word_of_two text

@@ -1,27 +1,28 @@
-//! Comments, which may hold comments (Oberon-07 report, section 3).
+//! Nested comments (Oberon-07 report, section 3).
 ghost use Rattle.std.specs.Prelude.{◌≡◌, ◌≤◌, length};
-ghost use Rattle.ob_scan.specs.Pieces.{IsCommentLen, mark_at};
+ghost use Rattle.ob_scan.specs.Lexemes.{IsCommentLen, bracket_at};
 
-/// What two bytes are within a comment.
+/// What two bytes are inside a comment: its opening bracket `(*`, its closing bracket `*)`, or neither.
 #[derive(Clone, Copy)]
-pub(crate) enum Mark {
+pub(crate) enum CommentBracket {
     Opens,
     Closes,
     Neither,
 }
 
-fn mark_in(rest: &[u8]) -> Option<Mark>
-    ensures { result ≡ mark_at rest.now }
+/// What the first two bytes are, or `None` if fewer are left.
+fn read_bracket(rest: &[u8]) -> Option<CommentBracket>
+    ensures { result ≡ bracket_at rest.now }
 {
     match rest {
-        [b'(', b'*', ..] => Some(Mark::Opens),
-        [b'*', b')', ..] => Some(Mark::Closes),
-        [_, _, ..] => Some(Mark::Neither),
+        [b'(', b'*', ..] => Some(CommentBracket::Opens),
+        [b'*', b')', ..] => Some(CommentBracket::Closes),
+        [_, _, ..] => Some(CommentBracket::Neither),
         _ => None,
     }
 }
 
-/// The length of the comment that begins the bytes, or none where it has no end. The bytes begin with its mark.
+/// The length of the comment that the bytes begin with, or `None` if it is not closed. The first two bytes are its `(*`.
 pub(crate) fn comment_len(bytes: &[u8]) -> Option<usize>
     requires { 2 ≤ length bytes.now }
     ensures { IsCommentLen bytes.now result }
@@ -29,16 +30,16 @@ pub(crate) fn comment_len(bytes: &[u8]) -> Option<usize>
     let mut open: usize = 1;
     let mut at = 2;
     'inside: while open > 0 {
-        match mark_in(&bytes[at..])? {
-            Mark::Opens => {
+        match read_bracket(&bytes[at..])? {
+            CommentBracket::Opens => {
                 open += 1;
                 at += 2;
             }
-            Mark::Closes => {
+            CommentBracket::Closes => {
                 open -= 1;
                 at += 2;
             }
-            Mark::Neither => at += 1,
+            CommentBracket::Neither => at += 1,
         }
     }
     Some(at)

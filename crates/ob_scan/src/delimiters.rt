@@ -1,10 +1,11 @@
 //! The delimiters (Oberon-07 report, section 3).
 ghost use Rattle.std.specs.Prelude.{◌≡◌};
-ghost use Rattle.ob_scan.specs.Pieces.{delimiter_of, single_in};
+ghost use Rattle.ob_scan.specs.Lexemes.{delimiter_of, single_in};
 ghost use Rattle.ob_scan.specs.Tables.{two_byte_delimiter, single_of};
 
 use crate::Kind;
 
+/// The delimiter of these two bytes, if they are one.
 #[inline(always)]
 fn two_byte_delimiter(first: u8, second: u8) -> Option<Kind>
     ensures { result ≡ two_byte_delimiter first second }
@@ -18,6 +19,7 @@ fn two_byte_delimiter(first: u8, second: u8) -> Option<Kind>
     }
 }
 
+/// The delimiter of this byte, if it is one.
 #[inline(always)]
 fn single_of(byte: u8) -> Option<Kind>
     ensures { result ≡ single_of byte }
@@ -49,6 +51,7 @@ fn single_of(byte: u8) -> Option<Kind>
     }
 }
 
+/// The delimiter of this byte and its length, if it is one.
 #[inline(always)]
 fn single(byte: u8) -> Option<(Kind, usize)>
     ensures { result ≡ single_in byte }
@@ -56,7 +59,7 @@ fn single(byte: u8) -> Option<(Kind, usize)>
     single_of(byte).map(|kind| (kind, 1))
 }
 
-/// The delimiter in front and its length, two bytes before one.
+/// The delimiter that the bytes begin with, and its length. A delimiter of two bytes wins over one of one byte.
 #[inline(always)]
 pub(crate) fn delimiter(rest: &[u8]) -> Option<(Kind, usize)>
     ensures { result ≡ delimiter_of rest.now }

@@ -10,7 +10,7 @@ pub enum Kind {
     Integer,
     /// A real number, as `1.5E-3`.
     Real,
-    /// A string, in quotes or as a character's number, as `"ab"` or `22X`.
+    /// A string, in quotes or by the number of its character, as `"ab"` or `22X`.
     Text,
     /// `ARRAY`
     Array,

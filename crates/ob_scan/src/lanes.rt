@@ -1,12 +1,12 @@
-//! A test of sixteen bytes at once, which answers how many of them stand before the first line end.
+//! A SIMD test of sixteen bytes for line ends.
 ghost use Rattle.std.specs.Prelude.{◌≡◌, ◌+◌, ◌≤◌, length, take, drop};
 ghost use Rattle.std.specs.List.{prefix_len};
-ghost use Rattle.ob_scan.specs.Pieces.{ends_no_line};
+ghost use Rattle.ob_scan.specs.Lexemes.{ends_no_line};
 
 use std::simd::prelude::*;
-use texts::lanes::before_first;
+use texts::lanes::lanes_before_bit;
 
-/// How many of the sixteen bytes from a place on stand before the first LF or CR.
+/// The number of bytes before the first LF or CR, of the sixteen from `at` on.
 #[inline(always)]
 pub(crate) fn no_line_ends_from(bytes: &[u8], at: usize) -> usize
     requires { at + 16 ≤ length bytes.now }
@@ -14,5 +14,5 @@ pub(crate) fn no_line_ends_from(bytes: &[u8], at: usize) -> usize
 {
     let lanes = u8x16::from_slice(&bytes[at..]);
     let ends = lanes.simd_eq(u8x16::splat(b'\n')) | lanes.simd_eq(u8x16::splat(b'\r'));
-    before_first(ends.to_bitmask())
+    lanes_before_bit(ends.to_bitmask())
 }

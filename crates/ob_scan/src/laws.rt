@@ -13,7 +13,7 @@ pub fn one_spelling()
     ensures { (bytes : List ℕ) (ts us : List Token) → Spells bytes ts → Spells bytes us → ts ≡ us }
 {}
 
-/// A text has an outcome: tokens, or a fault at an offset, for a reason.
+/// Every text has an outcome: tokens, or an error at an offset, with a reason.
 pub fn some_outcome()
     ensures { (bytes : List ℕ) → (o : Result (List Token) ScanFault) × IsOutcome bytes o }
 {}
@@ -23,7 +23,7 @@ pub fn one_outcome()
     ensures { (bytes : List ℕ) (o p : Result (List Token) ScanFault) → IsOutcome bytes o → IsOutcome bytes p → o ≡ p }
 {}
 
-/// The tokens that a text spells stand in it one behind the other, and none is empty.
+/// The tokens that a text spells are in bounds, in order and disjoint, and none is empty.
 pub fn tokens_in_text()
     ensures { (bytes : List ℕ) (ts : List Token) → Spells bytes ts → AreInText bytes ts }
 {}
@@ -35,7 +35,7 @@ pub fn one_position()
         (line ≡ row) × (column ≡ place) }
 {}
 
-/// The text of each identifier that a text spells is a name.
-pub fn names_are_names()
+/// The bytes of each identifier that a text spells are a name: a letter, followed by letters and digits.
+pub fn identifiers_are_names()
     ensures { (bytes : List ℕ) (ts : List Token) → Spells bytes ts → All (λ t. t.kind ≡ Ident → is_name (bytes_of bytes t) ≡ true) ts }
 {}

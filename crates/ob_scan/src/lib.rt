@@ -1,6 +1,8 @@
-//! From the bytes of an Oberon-07 module to its tokens and their texts, and from offsets to lines and columns.
-//! Stands on `texts`, with `thiserror` for its faults.
-//! Its contract: the tokens spell the bytes, or at the fault's offset nothing begins, for the named reason.
+//! The scanner: from the bytes of an Oberon-07 module to its tokens (longest match; Oberon-07 report, section 3), and from offsets to
+//! lines and columns.
+//! Depends on `texts` for the SIMD tests of letters and line ends, and on `thiserror` for the messages of its errors.
+//! Main call: `scan`. The tokens spell the bytes, or the error names the first offset at which no blank, comment or token begins, and
+//! why.
 #![tactic(auto)]
 
 mod comment;
@@ -9,11 +11,12 @@ mod fault;
 mod kind;
 mod lanes;
 pub mod laws;
+mod lexeme;
 mod line_ends;
+mod line_search;
 mod line_table;
 mod name;
 mod number;
-mod piece;
 mod place;
 mod scanner;
 mod token;

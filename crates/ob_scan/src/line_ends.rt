@@ -1,4 +1,4 @@
-//! Lines and columns.
+//! Lines and columns, computed from the bytes.
 ghost use Rattle.std.specs.Prelude.{◌≡◌, ◌≤◌, ◌<◌, ℕ, false, length, IfOk};
 ghost use Rattle.ob_scan.specs.Position.{IsPosition, ends_line, line_starts};
 
@@ -7,6 +7,7 @@ use crate::{Lines, Position};
 use std::alloc::{AllocError, Global};
 use texts::lanes::LANES;
 
+/// Whether the byte at `at` is the last one of a line end.
 fn ends_line(bytes: &[u8], at: usize) -> bool
     requires { at < length bytes.now }
     ensures { result ≡ ends_line bytes.now at }
@@ -18,10 +19,11 @@ fn ends_line(bytes: &[u8], at: usize) -> bool
     }
 }
 
-/// The line and the column of an offset, which may be that of the text's end. A line ends at LF, at CR LF, or at a CR alone, and
-/// the bytes of its end belong to it.
+/// The line and the column of an offset, which may be the length of the text. A line ends with LF, CR LF, or a CR alone, and the bytes of
+/// its line end belong to it. Takes time linear in the offset; `Lines` answers many offsets.
 pub fn position(bytes: &[u8], offset: u32) -> Position
     requires { offset ≤ length bytes.now }
+    // The line is the number of line ends before the offset, the column its distance from the start of that line.
     ensures { IsPosition bytes.now offset result.line result.column }
 {
     let mut line = 0;
@@ -38,12 +40,12 @@ pub fn position(bytes: &[u8], offset: u32) -> Position
     }
 }
 
-/// The first place from this one on, and not behind the end, that has to be looked at: no line ends before it. Places of which
-/// sixteen have no line end are passed at once.
-fn next_end(bytes: &[u8], from: usize, end: usize) -> usize
+/// The smallest offset from `from` on, up to `end`, that has to be tested for a line end: no line ends before it. Blocks of sixteen bytes
+/// without LF and CR are skipped at once.
+fn find_line_end(bytes: &[u8], from: usize, end: usize) -> usize
     requires ordered { from ≤ end }
     requires within { end ≤ length bytes.now }
-    ensures behind { from ≤ result }
+    ensures lower { from ≤ result }
     ensures before { result ≤ end }
     ensures passed { (k : ℕ) → from ≤ k → k < result → ends_line bytes.now k ≡ false }
 {
@@ -58,18 +60,19 @@ fn next_end(bytes: &[u8], from: usize, end: usize) -> usize
     at
 }
 
-/// Where the lines of a text begin. A text of more than 4 GiB has those that begin within the first 4 GiB.
+/// The table of the line starts of a text. Of a text of more than 4 GiB it has those within the first 4 GiB. Fails if an allocation does.
 pub fn lines(alloc: Global, bytes: &[u8]) -> Result<Lines, AllocError>
+    // Exactly the offsets at which lines begin, of those that 32 bits hold.
     ensures { IfOk result (λ l. l ≡ line_starts bytes.now) }
 {
     let end = bytes.len().min(u32::MAX as usize);
     let mut starts = vec![in alloc; 0]?;
-    let mut last = next_end(bytes, 0, end);
+    let mut last = find_line_end(bytes, 0, end);
     'ends: while last < end {
         if ends_line(bytes, last) {
             starts.push(last as u32 + 1)?;
         }
-        last = next_end(bytes, last + 1, end);
+        last = find_line_end(bytes, last + 1, end);
     }
     Ok(Lines::of(starts))
 }

@@ -1,8 +1,9 @@
-//! Where the lines of a text begin.
+//! The offsets of the line starts of a text.
 use crate::Position;
+use crate::line_search::line_by_hint;
 use std::marker::Model;
 
-/// Where the lines of a text begin, made once, so that a place costs a search among the lines. It has four bytes for each line.
+/// The offsets of the line starts of a text, sorted. A position is found by binary search. The table takes four bytes for each line.
 #[derive(Drop)]
 pub struct Lines {
     starts: Vec<u32>,
@@ -23,6 +24,7 @@ impl Lines {
     ghost use Rattle.std.specs.Prelude.{◌≡◌, ◌≤◌, ℕ, List, length, leb};
     ghost use Rattle.ob_scan.specs.Position.{IsLineTable, IsPosition, line_starts};
 
+    /// The table with these line starts.
     pub(crate) fn of(starts: Vec<u32>) -> Lines
         requires { IsLineTable starts.items }
         ensures { result ≡ starts.items }
@@ -30,16 +32,19 @@ impl Lines {
         Lines { starts }
     }
 
-    /// The offsets of the lines' first bytes, in order, of which the first is 0.
+    /// The offsets of the first bytes of the lines, sorted. The first one is 0.
     pub fn starts(&self) -> &[u32]
+        // The offsets of the table.
         ensures offsets { result.now ≡ self.now }
+        // There is one at least, the first is 0, and they are sorted.
         ensures table { IsLineTable self.now }
     {
         self.starts.as_slice()
     }
 
-    /// The line and the column of an offset in the text that these are the lines of. It may be the offset of the text's end.
+    /// The line and the column of an offset in the text of this table. The offset may be the length of the text.
     pub fn position(&self, offset: u32) -> Position
+        // The position is the one that `position` computes from the bytes.
         ensures { (bytes : List ℕ) → self.now ≡ line_starts bytes → offset ≤ length bytes → IsPosition bytes offset result.line result.column }
     {
         let starts = self.starts.as_slice();
@@ -48,6 +53,19 @@ impl Lines {
                 ensures { result ≡ leb start.now offset }
             { *start <= offset },
         ) - 1;
+        Position {
+            line: line as u32,
+            column: offset - starts[line],
+        }
+    }
+
+    /// The line and the column of an offset in the source with these lines. Tries line `hint` first, and stores the line there.
+    pub fn lookup_position(&self, hint: &mut u32, offset: u32) -> Position
+        ensures { (bytes : List ℕ) → self.now ≡ line_starts bytes → offset ≤ length bytes → IsPosition bytes offset result.line result.column }
+    {
+        let starts = self.starts();
+        let line = line_by_hint(starts, *hint as usize, offset);
+        *hint = line as u32;
         Position {
             line: line as u32,
             column: offset - starts[line],

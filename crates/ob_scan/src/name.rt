@@ -2,13 +2,13 @@
 ghost use Rattle.std.specs.Prelude.{◌≡◌, ◌≤◌, ◌==◌, length, unwrap_or, IfSome};
 ghost use Rattle.std.specs.List.{position};
 ghost use Rattle.ob_scan.specs.declared.kind.Kind.TheVariants.{Ident};
-ghost use Rattle.ob_scan.specs.Pieces.{has_second_capital, string_len};
+ghost use Rattle.ob_scan.specs.Lexemes.{has_second_capital, string_len};
 ghost use Rattle.ob_scan.specs.Tables.{word_of};
 
 use crate::Kind;
 use crate::words::word_of;
 
-/// Whether the second letter is a capital, as that of each reserved word is, and of few other names.
+/// Whether the second letter is a capital, as in each reserved word and in few other names.
 fn has_second_capital(name: &[u8]) -> bool
     ensures { result ≡ has_second_capital name.now }
 {
@@ -18,8 +18,7 @@ fn has_second_capital(name: &[u8]) -> bool
     }
 }
 
-/// A reserved word's kind, or that of identifiers. Most names are told from reserved words by their second letter, with no look
-/// at the table.
+/// The kind of a reserved word, or `Ident`. The second letter excludes most identifiers without a search in the table.
 pub(crate) fn name_kind(name: &[u8]) -> Kind
     ensures { result ≡ unwrap_or (word_of name.now) Ident }
 {
@@ -30,15 +29,18 @@ pub(crate) fn name_kind(name: &[u8]) -> Kind
     }
 }
 
+/// The index of the first quote.
 fn quote_in(bytes: &[u8]) -> Option<usize>
     ensures { result ≡ position (λ b. b == 34) bytes.now }
 {
     bytes.iter().position(|b| *b == b'"')
 }
 
-/// The length of the string in front, whose first quote is read, or none where it has no end.
+/// The length of the string that the bytes begin with, or `None` if it has no end. The first byte is its opening quote, which is not
+/// tested.
 pub(crate) fn string_len(rest: &[u8]) -> Option<usize>
     requires { 1 ≤ length rest.now }
+    // The index of the second quote, plus one.
     ensures value { result ≡ string_len rest.now }
     ensures within { IfSome result (λ n. n ≤ length rest.now) }
 {

@@ -1,9 +1,10 @@
 //! Tokens that begin with a digit (Oberon-07 report, section 3).
 ghost use Rattle.std.specs.Prelude.{◌≡◌, ◌≤◌, ◌<◌, length, true, IfSome};
-ghost use Rattle.ob_scan.specs.Numbers.{begins_digit, decimal_of, digits, fraction_of, hex_digits, is_next, number_token};
+ghost use Rattle.ob_scan.specs.Numbers.{begins_digit, decimal_of, digits, fraction_of, hex_digits, begins_byte, number_token};
 
 use crate::Kind;
 
+/// The number of hexadecimal digits that the bytes begin with.
 fn hex_digits(rest: &[u8]) -> usize
     ensures value { result ≡ hex_digits rest.now }
     ensures within { result ≤ length rest.now }
@@ -13,6 +14,7 @@ fn hex_digits(rest: &[u8]) -> usize
         .count()
 }
 
+/// The number of digits that the bytes begin with.
 fn digits(rest: &[u8]) -> usize
     ensures value { result ≡ digits rest.now }
     ensures within { result ≤ length rest.now }
@@ -20,8 +22,9 @@ fn digits(rest: &[u8]) -> usize
     rest.iter().take_while(|b| b.is_ascii_digit()).count()
 }
 
-fn is_next(rest: &[u8], byte: u8) -> bool
-    ensures value { result ≡ is_next byte rest.now }
+/// Whether the bytes begin with this byte.
+fn begins_byte(rest: &[u8], byte: u8) -> bool
+    ensures value { result ≡ begins_byte byte rest.now }
     ensures some { result ≡ true → 0 < length rest.now }
 {
     match rest {
@@ -30,7 +33,8 @@ fn is_next(rest: &[u8], byte: u8) -> bool
     }
 }
 
-/// A real number, of which n bytes stand before the place of its scale factor.
+/// The token of a real number whose digits and point are the first n bytes, with the scale factor that follows, if there is one. `None`
+/// if an `E` has no digits.
 fn fraction(bytes: &[u8], n: usize) -> Option<(Kind, usize)>
     requires { n ≤ length bytes.now }
     ensures value { result ≡ fraction_of n bytes.now }
@@ -52,27 +56,28 @@ fn fraction(bytes: &[u8], n: usize) -> Option<(Kind, usize)>
     }
 }
 
-/// A number without a letter, of which n digits stand in front.
+/// The token of a number without a letter, whose first n bytes are digits: an integer, or a real number if exactly one point follows.
 fn decimal(bytes: &[u8], n: usize) -> Option<(Kind, usize)>
     requires { n ≤ length bytes.now }
     ensures value { result ≡ decimal_of n bytes.now }
     ensures least { IfSome result (λ x. n ≤ x.1) }
     ensures within { IfSome result (λ x. x.1 ≤ length bytes.now) }
 {
-    if !is_next(&bytes[n..], b'.') {
+    if !begins_byte(&bytes[n..], b'.') {
         return Some((Kind::Integer, n));
     }
-    if is_next(&bytes[n + 1..], b'.') {
+    if begins_byte(&bytes[n + 1..], b'.') {
         return Some((Kind::Integer, n));
     }
     fraction(bytes, n + 1 + digits(&bytes[n + 1..]))
 }
 
-/// The kind and the length of the token in front, or none where the digits are no number. A digit stands in front.
+/// The kind and the length of the token that the bytes begin with, or `None` if the digits form no number. The first byte is a digit.
 #[tactic(auto, using(crate::proofs::Numbers::hex_digits_some))]
 pub(crate) fn number(bytes: &[u8]) -> Option<(Kind, usize)>
     requires { begins_digit bytes.now ≡ true }
     ensures value { result ≡ number_token bytes.now }
+    // It is not empty.
     ensures some { IfSome result (λ x. 0 < x.1) }
     ensures within { IfSome result (λ x. x.1 ≤ length bytes.now) }
 {

@@ -1,10 +1,10 @@
-//! Places by line and column.
+//! Positions by line and column.
 
-/// A place in a text by line and column, both from 0; columns count bytes.
+/// A position in a text by line and column, both from 0. Columns count bytes.
 #[derive(Clone, Copy, PartialEq, Eq, Debug)]
 pub struct Position {
-    /// How many lines end before it.
+    /// The number of line ends before it.
     pub line: u32,
-    /// How many bytes of its line stand before it.
+    /// The number of bytes between the start of its line and it.
     pub column: u32,
 }

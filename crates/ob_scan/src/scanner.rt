@@ -1,34 +1,34 @@
-//! From bytes to tokens.
+//! The main loop of the scanner.
 ghost use Rattle.std.specs.Prelude.{◌≡◌, ◌≤◌, [], length, List, Result};
 ghost use Rattle.ob_scan.specs.declared.fault.ScanFault.{ScanFault};
 ghost use Rattle.ob_scan.specs.declared.token.Token.{Token};
-ghost use Rattle.ob_scan.specs.Faults.{Tells};
+ghost use Rattle.ob_scan.specs.Faults.{HasOutcome};
 ghost use Rattle.ob_scan.specs.Spelling.{IsOutcome};
 
-use crate::piece::{Piece, begins_blank, next_piece};
+use crate::lexeme::{Lexeme, begins_blank, next_lexeme};
 use crate::{ScanFault, Token, Tokens};
 use std::alloc::Global;
 
+/// The largest length of a module in bytes.
 const MAX_BYTES: usize = 16_777_216;
 
-/// How many tokens a list has room for at first, at most.
-const ROOM: usize = 4096;
+/// The largest initial capacity of the list of tokens.
+const MAX_INITIAL: usize = 4096;
 
-/// A list with room for the tokens that so many bytes mostly have, up to those of a module of usual size, so that it need not
-/// grow token by token. Where memory is refused there is no room, and the tokens ask for it one by one.
-fn with_room(alloc: Global, bytes: usize) -> Vec<Token>
+/// An empty list with capacity for the usual number of tokens of a text of this many bytes, one for four bytes, up to 4,096, so that it
+/// seldom grows. If the allocation fails the list has no capacity, and `push` allocates.
+fn token_buffer(alloc: Global, bytes: usize) -> Vec<Token>
     ensures { result.items ≡ [] }
 {
-    match Vec::with_capacity(alloc, (bytes / 4).min(ROOM)) {
+    match Vec::with_capacity(alloc, (bytes / 4).min(MAX_INITIAL)) {
         Ok(tokens) => tokens,
         Err(_) => Vec::new(alloc),
     }
 }
 
-/// The list of these tokens. Where its room is twice its length or more, which it hardly is where it grew token by token, it is cut
-/// to its length: who keeps the list keeps no room for tokens that a text of blanks and comments doesn't have. Where memory is
-/// refused the room stays.
-fn kept(tokens: Vec<Token>) -> Tokens
+/// The list, shrunk to its length if its capacity is at least twice that. Such a list comes from a text that is mostly blanks and
+/// comments; one that grew by `push` is seldom so empty. If the allocation of the smaller list fails, the larger one is returned.
+fn shrink_tokens(tokens: Vec<Token>) -> Tokens
     ensures { result ≡ tokens.items }
 {
     let mut list = tokens;
@@ -38,22 +38,23 @@ fn kept(tokens: Vec<Token>) -> Tokens
     Tokens::of(list)
 }
 
+/// The tokens of a text whose length was checked.
 fn tokens_in(alloc: Global, bytes: &[u8]) -> Result<Tokens, ScanFault>
     requires { length bytes.now ≤ 16777216 }
-    ensures { Tells result (IsOutcome bytes.now) }
+    ensures { HasOutcome result (IsOutcome bytes.now) }
 {
-    let mut tokens = with_room(alloc, bytes.len());
+    let mut tokens = token_buffer(alloc, bytes.len());
     let mut at = 0;
-    'pieces: while at < bytes.len() {
+    'lexemes: while at < bytes.len() {
         let rest = &bytes[at..];
-        // A third of most texts is blanks: they are passed with one look, as `next_piece` would.
+        // A third of most texts are blanks: they are skipped here with one test, as `next_lexeme` would.
         if begins_blank(rest) {
             at += 1;
             continue;
         }
-        match next_piece(rest) {
-            Piece::Gap(n) => at += n,
-            Piece::Token(kind, n) => {
+        match next_lexeme(rest) {
+            Lexeme::Gap(n) => at += n,
+            Lexeme::Token(kind, n) => {
                 tokens.push(Token {
                     kind,
                     start: at as u32,
@@ -61,19 +62,19 @@ fn tokens_in(alloc: Global, bytes: &[u8]) -> Result<Tokens, ScanFault>
                 })?;
                 at += n;
             }
-            Piece::Nothing(reason) => return Err(reason.at(at as u32)),
+            Lexeme::Nothing(reason) => return Err(reason.at(at as u32)),
         }
     }
-    Ok(kept(tokens))
+    Ok(shrink_tokens(tokens))
 }
 
-/// The tokens of the bytes of a module, or the first fault; Memory where a growth was refused.
-/// TooLong is tested first, and of the other faults the one that stands first in the file is answered.
+/// The tokens of a module, or its first error: TooLong for more than 16,777,216 bytes, checked first; else the scan error with the
+/// smallest offset; Memory if an allocation failed.
 pub fn scan(alloc: Global, bytes: &[u8]) -> Result<Tokens, ScanFault>
-    // They are the tokens that spell the bytes, or it is a fault that the bytes have.
-    ensures exact { Tells result (IsOutcome bytes.now) }
-    // The tokens of the bytes, or their fault, are answered unless memory runs out.
-    ensures only { (o : Result (List Token) ScanFault) → IsOutcome bytes.now o → Tells result (λ p. p ≡ o) }
+    // The tokens spell the bytes, or the error is one that the bytes have.
+    ensures exact { HasOutcome result (IsOutcome bytes.now) }
+    // An outcome that the bytes have is returned, unless an allocation fails.
+    ensures only { (o : Result (List Token) ScanFault) → IsOutcome bytes.now o → HasOutcome result (λ p. p ≡ o) }
 {
     if bytes.len() > MAX_BYTES {
         return Err(ScanFault::TooLong);

@@ -1,21 +1,21 @@
-//! Tokens, and the list of them (Oberon-07 report, section 3).
+//! Tokens, and lists of them (Oberon-07 report, section 3).
 ghost use Rattle.std.specs.Prelude.{◌≡◌, ◌<◌, ◌==◌, Some, length, slice_get};
 
 use crate::Kind;
 use std::marker::Model;
 
-/// A token and where it stands: from the offset of its first byte to the offset behind its last.
+/// A token and its byte range: from the offset of its first byte to the offset after its last byte.
 #[derive(Clone, Copy, PartialEq, Eq, Debug)]
 pub struct Token {
-    /// What it is.
+    /// Its kind.
     pub kind: Kind,
     /// The offset of its first byte.
     pub start: u32,
-    /// The offset of the byte behind it.
+    /// The offset after its last byte.
     pub end: u32,
 }
 
-/// The tokens of a text in order, numbered from 0.
+/// The tokens of a text in order. A token is identified by its index, from 0.
 #[derive(Drop)]
 pub struct Tokens {
     items: Vec<Token>,
@@ -31,20 +31,21 @@ impl Model for Tokens {
 }
 
 impl Tokens {
+    /// The list of these tokens.
     pub(crate) fn of(items: Vec<Token>) -> Tokens
         ensures { result ≡ items.items }
     {
         Tokens { items }
     }
 
-    /// How many tokens there are.
+    /// The number of tokens.
     pub fn len(&self) -> usize
         ensures { result ≡ length self.now }
     {
         self.items.len()
     }
 
-    /// Whether there is none.
+    /// Whether there is no token.
     pub fn is_empty(&self) -> bool
         ensures { result ≡ (length self.now == 0) }
     {
@@ -58,7 +59,7 @@ impl Tokens {
         self.items.as_slice()
     }
 
-    /// The token of this number.
+    /// The token with this index.
     pub fn get(&self, number: usize) -> Token
         requires { number < length self.now }
         ensures { slice_get self.now number ≡ Some result }

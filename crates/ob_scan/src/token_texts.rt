@@ -1,4 +1,4 @@
-//! The tokens of a file as texts.
+//! The bytes of tokens, by their indices.
 ghost use Rattle.std.specs.Prelude.{◌≡◌, IfOk};
 ghost use Rattle.std.specs.Str.{IsUtf8};
 ghost use Rattle.std.specs.String.{string_bytes};
@@ -8,7 +8,7 @@ ghost use Rattle.ob_scan.specs.Texts.{text_at, token_at};
 use crate::Token;
 use std::alloc::{AllocError, Global};
 
-/// The bytes of a file, and its tokens, by whose numbers it is asked.
+/// The bytes of a file and its tokens, for lookups by the index of a token.
 #[derive(Clone, Copy)]
 pub struct TokenTexts<'a> {
     pub bytes: &'a [u8],
@@ -16,9 +16,11 @@ pub struct TokenTexts<'a> {
 }
 
 impl<'a> TokenTexts<'a> {
-    /// The bytes of a token; there are none beyond the last.
+    /// The bytes of a token; empty if no token has this index.
     pub fn of(&self, number: u32) -> &'a [u8]
+        // The tokens are those of the bytes, or others that are in bounds and disjoint.
         requires { AreInText self.now.bytes.now self.now.tokens.now }
+        // Exactly its bytes.
         ensures { result.now ≡ text_at self.now.bytes.now self.now.tokens.now number }
     {
         match self.tokens.get(number as usize) {
@@ -27,7 +29,7 @@ impl<'a> TokenTexts<'a> {
         }
     }
 
-    /// The offset at which a token begins; 0 beyond the last.
+    /// The offset of the first byte of a token; 0 if no token has this index.
     pub fn start(&self, number: u32) -> u32
         ensures { result ≡ (token_at self.now.tokens.now number).start }
     {
@@ -37,7 +39,7 @@ impl<'a> TokenTexts<'a> {
         }
     }
 
-    /// The offset behind a token; 0 beyond the last.
+    /// The offset after the last byte of a token; 0 if no token has this index.
     pub fn end(&self, number: u32) -> u32
         ensures { result ≡ (token_at self.now.tokens.now number).end }
     {
@@ -47,9 +49,11 @@ impl<'a> TokenTexts<'a> {
         }
     }
 
-    /// The text of a token; where its bytes aren't UTF-8 nothing is promised of it. AllocError is want of memory.
+    /// The bytes of a token as a string. Nothing is promised of it if they are not UTF-8. Fails if an allocation does.
     pub fn string(&self, alloc: Global, number: u32) -> Result<String, AllocError>
+        // The tokens are those of the bytes, or others that are in bounds and disjoint.
         requires { AreInText self.now.bytes.now self.now.tokens.now }
+        // Its bytes, if they are UTF-8, as those of identifiers are.
         ensures { IfOk result (λ s. IsUtf8 (text_at self.now.bytes.now self.now.tokens.now number) → string_bytes s ≡ text_at self.now.bytes.now self.now.tokens.now number) }
     {
         String::from_utf8_lossy(alloc, self.of(number))

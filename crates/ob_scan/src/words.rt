@@ -5,12 +5,14 @@ ghost use Rattle.std.specs.Str.{bytes_eq};
 
 use crate::Kind;
 
+/// Whether the text is this word.
 fn is(text: &[u8], word: &[u8]) -> bool
     ensures { result ≡ bytes_eq text.now word.now }
 {
     text == word
 }
 
+/// The reserved word of two letters that the text is, if it is one.
 fn word_of_two(text: &[u8]) -> Option<Kind>
     ensures { result ≡ word_of_two text.now }
 {
@@ -27,6 +29,7 @@ fn word_of_two(text: &[u8]) -> Option<Kind>
     }
 }
 
+/// The reserved word of three letters that the text is, if it is one.
 fn word_of_three(text: &[u8]) -> Option<Kind>
     ensures { result ≡ word_of_three text.now }
 {
@@ -41,6 +44,7 @@ fn word_of_three(text: &[u8]) -> Option<Kind>
     }
 }
 
+/// The reserved word of four letters that the text is, if it is one.
 fn word_of_four(text: &[u8]) -> Option<Kind>
     ensures { result ≡ word_of_four text.now }
 {
@@ -54,6 +58,7 @@ fn word_of_four(text: &[u8]) -> Option<Kind>
     }
 }
 
+/// The reserved word of five letters that the text is, if it is one.
 fn word_of_five(text: &[u8]) -> Option<Kind>
     ensures { result ≡ word_of_five text.now }
 {
@@ -81,6 +86,7 @@ fn word_of_five(text: &[u8]) -> Option<Kind>
     None
 }
 
+/// The reserved word of more than five letters that the text is, if it is one.
 fn long_word_of(text: &[u8]) -> Option<Kind>
     ensures { result ≡ long_word_of text.now }
 {
@@ -108,7 +114,7 @@ fn long_word_of(text: &[u8]) -> Option<Kind>
     None
 }
 
-/// The reserved word of this text, if it is one.
+/// The reserved word that the text is, if it is one. The length selects a table, so that few words are compared.
 pub(crate) fn word_of(text: &[u8]) -> Option<Kind>
     ensures { result ≡ word_of text.now }
 {

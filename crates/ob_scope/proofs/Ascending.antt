@@ -1,6 +1,6 @@
 -- Lists whose numbers ascend.
 use Rattle.std.proofs.Common.{◌≡◌, ℕ, zero, suc, ◌<◌, ◌≤◌, List, [], ◌∷◌, Option, Some, None, slice_get, refl, subst, arith, filter_map}
-use Rattle.ob_rows.specs.Order.{AscendBy}
+use Rattle.module_table.specs.Order.{IsIncreasingBy}
 
 -- the numbers of a list ascend, from this one on
 abbrev pub Ascends : {X : Type 0} → (X → ℕ) → ℕ → List X → Type 0
@@ -30,11 +30,11 @@ ascending f low (z ∷ zs) a zero (suc j) x y h p q =
     subst (λ (w : _). f w < f y) s (omega arith)
 ascending f low (z ∷ zs) a (suc i) (suc j) x y h p q = ascending f (suc (f z)) zs a.1 i j x y (omega arith) p q
 
-pub ascends_by : {X : Type 0} (n : X → ℕ) (low : ℕ) (xs : List X) → AscendBy n xs → ((x : X) → slice_get xs 0 ≡ Some x → low ≤ n x) → Ascends n low xs
+pub ascends_by : {X : Type 0} (n : X → ℕ) (low : ℕ) (xs : List X) → IsIncreasingBy n xs → ((x : X) → slice_get xs 0 ≡ Some x → low ≤ n x) → Ascends n low xs
 ascends_by n low [] a h = tt
 ascends_by n low (x ∷ xs) a h = (h x refl, ascends_by n (suc (n x)) xs (λ i j y z l p q. a (suc i) (suc j) y z (omega arith) p q) (λ y e. (let l : n x < n y = a 0 1 x y (omega arith) refl e in omega arith)))
 
--- one member more of those picked
+-- one more element that is selected
 picked_one : {X Y : Type 0} (f : X → ℕ) (g : Y → ℕ) (h : X → Option Y) → ((x : X) (y : Y) → h x ≡ Some y → g y ≡ f x) →
     (low : ℕ) (x : X) (o : Option Y) (xs : List X) → low ≤ f x → h x ≡ o → Ascends g (suc (f x)) (filter_map h xs) → Ascends g low (filter_map h (x ∷ xs))
 picked_one f g h same low x None xs l e rest = rw e (lower g low (suc (f x)) (filter_map h xs) (omega arith) rest)

@@ -6,22 +6,22 @@ use Rattle.std.proofs.lemmas.List.{length-map, take_all}
 use Rattle.std.proofs.lemmas.Option.{slice_get_within}
 use Rattle.ob_scan.specs.declared.token.Token.{Token}
 use Rattle.ob_scan.specs.Texts.{text_at, token_at}
-use Rattle.ob_rows.specs.declared.rows.Import.{Import}
-use Rattle.ob_rows.specs.declared.rows.Used.{Used}
-use Rattle.ob_rows.specs.Parts.{Rows}
+use Rattle.module_table.specs.declared.rows.Import.{Import}
+use Rattle.module_table.specs.declared.rows.Used.{Used}
+use Rattle.module_table.specs.Parts.{Rows}
 use Rattle.ob_scope.specs.declared.meaning.Resolution.{Resolution}
 use Rattle.ob_scope.specs.declared.members.Member.{Member}
 use Rattle.ob_scope.specs.declared.module_scopes.Alias.{Alias}
 use Rattle.ob_scope.specs.Members.{members_of}
-use Rattle.ob_scope.specs.Scope.{IsFirstTwice, NoneTwice}
+use Rattle.ob_scope.specs.Scope.{IsFirstDuplicate, HasNoDuplicates}
 use Rattle.ob_scope.specs.Counted.{Counts, HasUses, IsQualifiedBy}
 use Rattle.ob_scope.specs.Identified.{AreNames}
-use Rattle.ob_rows.specs.Order.{AreRowsInOrder, AscendBy}
+use Rattle.module_table.specs.Order.{AreRowsSorted, IsIncreasingBy}
 use Rattle.ob_scope.specs.Kept.{alias_of, meaning_of, AreValidScopes}
-use Rattle.ob_scope.specs.Places.{AreFirstTwice}
+use Rattle.ob_scope.specs.Locations.{AreFirstDuplicates}
 use Rattle.ob_scope.specs.Found.{AreAliasesOf, AreCounted, AreMeant, AreTexts, IsAliasOf, IsCountOf, MeansBefore}
 use Rattle.ob_scope.specs.Weights.{uses_of_all}
-use Rattle.ob_scope.specs.Scoped.{AliasUses, AreAliases, AreScopes, IsAlias, IsTwiceAt, Meaning, MeansBy, ModuleScopes}
+use Rattle.ob_scope.specs.Scoped.{AliasUses, AreAliases, AreScopes, IsAlias, IsDuplicateAt, Meaning, MeansBy, ModuleScopes}
 use Rattle.ob_scope.proofs.Counting.{counts-none}
 use Rattle.ob_scope.proofs.Elements.{contains_of, contains_slice, map_ascend, of_contains, of_slice, slice_contains, slice_there, some_one}
 use Rattle.ob_scope.proofs.Finding.{get_push}
@@ -55,7 +55,7 @@ module _ (name : ℕ → List ℕ) (r : Rows) where
 
   -- ---- the aliases
 
-  -- the uses that an alias qualifies are counted for its member, and there are none where it has none
+  -- the uses that an alias qualifies are counted for its member, and there are none without a member
   uses_by : (counts : List ℕ) (alias n : ℕ) → AreAllCounted counts → IsCountOf members counts alias n → HasUses name r alias n
   uses_by counts alias n c is = by (place_of_number members alias)
     where
@@ -87,7 +87,7 @@ module _ (name : ℕ → List ℕ) (r : Rows) where
   }
 
   -- the aliases have the numbers of their items
-  ascend_aliases : (aliases : List AliasUses) → AscendBy (λ (m : Import). m.alias) r.imports → AreAliases name r aliases → AscendBy (λ (a : AliasUses). a.alias) aliases
+  ascend_aliases : (aliases : List AliasUses) → IsIncreasingBy (λ (m : Import). m.alias) r.imports → AreAliases name r aliases → IsIncreasingBy (λ (a : AliasUses). a.alias) aliases
   ascend_aliases aliases up are i j x y below p q =
       let long : length aliases ≡ length r.imports = are.as_many in
       let v = slice_there r.imports i (let s = slice_get_within aliases i x p in omega (arith, s)) in
@@ -99,24 +99,24 @@ module _ (name : ℕ → List ℕ) (r : Rows) where
 
   means_by : (used declared : ℕ) → MeansBefore name r.blocks members r.uses (length r.uses) used declared → MeansBy name r used declared
   means_by used declared m = record {
-    use_there = m.use_there;
-    is_use = contains_slice r.uses m.place m.use_there m.there;
+    use_row = m.use_row;
+    is_use = contains_slice r.uses m.place m.use_row m.there;
     of_use = m.of_use;
-    declared_there = m.declared_there;
+    named_declaration = m.named_declaration;
     means = m.means;
     of_declared = m.of_declared;
   }
 
   before_by : (used declared : ℕ) → MeansBy name r used declared → MeansBefore name r.blocks members r.uses (length r.uses) used declared
   before_by used declared m =
-      let p = slice_contains r.uses m.use_there m.is_use in
+      let p = slice_contains r.uses m.use_row m.is_use in
       record {
         place = p.0;
-        below = slice_get_within r.uses p.0 m.use_there p.1;
-        use_there = m.use_there;
+        below = slice_get_within r.uses p.0 m.use_row p.1;
+        use_row = m.use_row;
         there = p.1;
         of_use = m.of_use;
-        declared_there = m.declared_there;
+        named_declaration = m.named_declaration;
         means = m.means;
         of_declared = m.of_declared;
       }
@@ -133,9 +133,9 @@ module _ (name : ℕ → List ℕ) (r : Rows) where
       let p = a.all used declared (before_by used declared h) in
       contains_of meaning_of rows p.0 (record { used = used; declared = declared }) p.1
 
--- the scopes of rows
-pub are_scopes : (bytes : List ℕ) (ts : List Token) (r : Rows) (counts : List ℕ) (text : List ℕ) (rows : List Resolution) (aliases : List Alias) → AreRowsInOrder r → AreNames (text_at bytes ts) r
-    → NoneTwice (text_at bytes ts) (members_of r) → AreAllMeant (text_at bytes ts) r rows → AreAllCounted (text_at bytes ts) r counts
+-- the scopes of the entries
+pub are_scopes : (bytes : List ℕ) (ts : List Token) (r : Rows) (counts : List ℕ) (text : List ℕ) (rows : List Resolution) (aliases : List Alias) → AreRowsSorted r → AreNames (text_at bytes ts) r
+    → HasNoDuplicates (text_at bytes ts) (members_of r) → AreAllMeant (text_at bytes ts) r rows → AreAllCounted (text_at bytes ts) r counts
     → AreAliasesOf (text_at bytes ts) (members_of r) counts r.imports (length r.imports) aliases → (IsUtf8 (text_at bytes ts 1) → text ≡ text_at bytes ts 1)
     → AreScopes bytes ts r (record { name = text; meanings = map meaning_of rows; aliases = map alias_of aliases })
 are_scopes bytes ts r counts text rows aliases ordered named once meant c are is =
@@ -152,7 +152,7 @@ are_scopes bytes ts r counts text rows aliases ordered named once meant c are is
       aliases_ordered = ascend_aliases name r (map alias_of aliases) ordered.imports aliased;
     }
 
--- and keep what all scopes keep
+-- these scopes satisfy the invariant
 pub are_kept : (bytes : List ℕ) (ts : List Token) (r : Rows) (s : ModuleScopes) → length r.uses ≤ 16777216 → AreScopes bytes ts r s → AreValidScopes s
 are_kept bytes ts r s few a = record {
   meanings_ascend = a.ordered;
@@ -160,26 +160,26 @@ are_kept bytes ts r s few a = record {
   few = (let h : uses_of_all s.aliases ≤ length r.uses = uses_within (text_at bytes ts) r s.aliases a.once a.aliases_ordered a.aliased in omega (arith, h, few));
 }
 
--- the same by the list of what the rows declare
-pub are_scopes_by : (bytes : List ℕ) (ts : List Token) (r : Rows) (ms : List Member) (counts : List ℕ) (text : List ℕ) (rows : List Resolution) (aliases : List Alias) → ms ≡ members_of r → AreRowsInOrder r → AreNames (text_at bytes ts) r
-    → NoneTwice (text_at bytes ts) ms → AreMeant (text_at bytes ts) r.blocks ms r.uses (length r.uses) rows → AreCounted (text_at bytes ts) r.blocks ms r.uses (length r.uses) counts
+-- the scopes, from the list of the members
+pub are_scopes_by : (bytes : List ℕ) (ts : List Token) (r : Rows) (ms : List Member) (counts : List ℕ) (text : List ℕ) (rows : List Resolution) (aliases : List Alias) → ms ≡ members_of r → AreRowsSorted r → AreNames (text_at bytes ts) r
+    → HasNoDuplicates (text_at bytes ts) ms → AreMeant (text_at bytes ts) r.blocks ms r.uses (length r.uses) rows → AreCounted (text_at bytes ts) r.blocks ms r.uses (length r.uses) counts
     → AreAliasesOf (text_at bytes ts) ms counts r.imports (length r.imports) aliases → (IsUtf8 (text_at bytes ts 1) → text ≡ text_at bytes ts 1)
     → AreScopes bytes ts r (record { name = text; meanings = map meaning_of rows; aliases = map alias_of aliases })
 are_scopes_by bytes ts r ms counts text rows aliases e ordered named once meant c are is =
     let name = text_at bytes ts in
     are_scopes bytes ts r counts text rows aliases ordered named
-    (subst (NoneTwice name) e once)
+    (subst (HasNoDuplicates name) e once)
     (subst (λ (xs : List Member). AreMeant name r.blocks xs r.uses (length r.uses) rows) e meant)
     (subst (λ (xs : List Member). AreCounted name r.blocks xs r.uses (length r.uses) counts) e c)
     (subst (λ (xs : List Member). AreAliasesOf name xs counts r.imports (length r.imports) aliases) e are)
     is
 
 -- two of one name
-pub is_twice : (bytes : List ℕ) (ts : List Token) (ms : List Member) (r : Rows) (f s first second : ℕ) (text : List ℕ) → ms ≡ members_of r → (h : AreFirstTwice (text_at bytes ts) ms f s) → AreNames (text_at bytes ts) r
+pub is_twice : (bytes : List ℕ) (ts : List Token) (ms : List Member) (r : Rows) (f s first second : ℕ) (text : List ℕ) → ms ≡ members_of r → (h : AreFirstDuplicates (text_at bytes ts) ms f s) → AreNames (text_at bytes ts) r
     → (IsUtf8 (text_at bytes ts h.first.number) → text ≡ text_at bytes ts h.first.number) → first ≡ (token_at ts h.first.number).start → second ≡ (token_at ts h.second.number).start
-    → IsTwiceAt bytes ts r h.first h.second text first second
+    → IsDuplicateAt bytes ts r h.first h.second text first second
 is_twice bytes ts ms r f s first second text e h named is a b = record {
-  is_first = subst (λ (xs : List Member). IsFirstTwice (text_at bytes ts) xs h.first h.second) e h.twice;
+  is_first = subst (λ (xs : List Member). IsFirstDuplicate (text_at bytes ts) xs h.first h.second) e h.twice;
   named = is ((are_texts (text_at bytes ts) r named).declared h.first (subst (λ (xs : List Member). Contains xs h.first) e (contains_slice ms f h.first h.at_first)));
   first_at = a;
   second_at = b;

@@ -7,7 +7,7 @@ pub counts-none : {X : Type 0} (P : X → Type 0) (xs : List X) → ((x : X) →
 counts-none P [] no_one = none
 counts-none P (x ∷ xs) no_one = other (no_one x) (counts-none P xs no_one)
 
--- two properties that hold of the same
+-- two equivalent properties
 pub counts-same : {X : Type 0} (P Q : X → Type 0) (xs : List X) (n : ℕ) → ((x : X) → P x → Q x) → ((x : X) → Q x → P x) → Counts P xs n → Counts Q xs n
 counts-same P Q [] n to from none = none
 counts-same P Q (x ∷ xs) n to from (one_more p c) = one_more (to x p) (counts-same P Q xs _ to from c)
@@ -29,11 +29,11 @@ counts-within P (x ∷ xs) n (other p c) = let h = counts-within P xs n c in ome
 
 -- the counts of two properties that nothing has both of add up
 pub counts-either : {X : Type 0} (P Q : X → Type 0) (xs : List X) (n m : ℕ) → ((x : X) → P x → Q x → ⊥) → Counts P xs n → Counts Q xs m → Counts (λ x. P x ⊎ Q x) xs (n + m)
-counts-either P Q [] n m apart none none = none
-counts-either P Q (x ∷ xs) n m apart (one_more p c) (one_more q d) = absurd (apart x p q)
-counts-either P Q (x ∷ xs) n m apart (one_more {n = k} p c) (other q d) =
-    subst (λ (s : ℕ). Counts (λ x. P x ⊎ Q x) (x ∷ xs) s) (omega arith) (one_more (inl p) (counts-either P Q xs k m apart c d))
-counts-either P Q (x ∷ xs) n m apart (other p c) (one_more {n = k} q d) =
-    subst (λ (s : ℕ). Counts (λ x. P x ⊎ Q x) (x ∷ xs) s) (omega arith) (one_more (inr q) (counts-either P Q xs n k apart c d))
-counts-either P Q (x ∷ xs) n m apart (other p c) (other q d) =
-    other (λ h. elim h [ inl a ↦ p a | inr b ↦ q b ]) (counts-either P Q xs n m apart c d)
+counts-either P Q [] n m distinct none none = none
+counts-either P Q (x ∷ xs) n m distinct (one_more p c) (one_more q d) = absurd (distinct x p q)
+counts-either P Q (x ∷ xs) n m distinct (one_more {n = k} p c) (other q d) =
+    subst (λ (s : ℕ). Counts (λ x. P x ⊎ Q x) (x ∷ xs) s) (omega arith) (one_more (inl p) (counts-either P Q xs k m distinct c d))
+counts-either P Q (x ∷ xs) n m distinct (other p c) (one_more {n = k} q d) =
+    subst (λ (s : ℕ). Counts (λ x. P x ⊎ Q x) (x ∷ xs) s) (omega arith) (one_more (inr q) (counts-either P Q xs n k distinct c d))
+counts-either P Q (x ∷ xs) n m distinct (other p c) (other q d) =
+    other (λ h. elim h [ inl a ↦ p a | inr b ↦ q b ]) (counts-either P Q xs n m distinct c d)

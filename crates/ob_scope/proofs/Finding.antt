@@ -6,22 +6,22 @@ use Rattle.std.specs.Option.{is_some}
 use Rattle.std.proofs.lemmas.List.{get_or-set_same, get_or-set_other, length-set, take_more}
 use Rattle.std.proofs.lemmas.Option.{slice_get_within, get_or_from_slice_get}
 use Rattle.ob_scope.specs.declared.meaning.Resolution.{Resolution}
-use Rattle.ob_rows.specs.declared.rows.Block.{Block}
-use Rattle.ob_rows.specs.declared.rows.Used.{Used}
-use Rattle.ob_rows.specs.declared.rows.Sort.{Sort}
-use Rattle.ob_rows.specs.declared.rows.Sort.TheVariants as sorts
+use Rattle.module_table.specs.declared.rows.Block.{Block}
+use Rattle.module_table.specs.declared.rows.Used.{Used}
+use Rattle.module_table.specs.declared.rows.DeclKind.{DeclKind}
+use Rattle.module_table.specs.declared.rows.DeclKind.TheVariants as decl_kinds
 use Rattle.ob_scope.specs.declared.members.Member.{Member}
-use Rattle.ob_scope.specs.Scope.{ResolvesTo, NoneTwice}
+use Rattle.ob_scope.specs.Scope.{ResolvesTo, HasNoDuplicates}
 use Rattle.ob_scope.specs.Counted.{Counts, IsQualifiedBy, none, one_more, other}
-use Rattle.ob_rows.specs.Order.{AscendBy}
-use Rattle.ob_scope.specs.Looked.{MeansNothing}
+use Rattle.module_table.specs.Order.{IsIncreasingBy}
+use Rattle.ob_scope.specs.Lookups.{MeansNothing}
 use Rattle.ob_scope.specs.Found.{counted_for, is_import, AreCounted, AreMeant, MeansBefore}
 use Rattle.ob_scope.proofs.Elements.{some_one}
 use Rattle.ob_scope.proofs.Meanings.{means_once}
 use Rattle.ob_scope.proofs.Named.{one_of_number}
 
 module _ {X : Type 0} where
-  -- an element behind others
+  -- an element of a longer list
   pub get_left : (xs ys : List X) (i : ℕ) (x : X) → slice_get xs i ≡ Some x → slice_get (xs ++ ys) i ≡ Some x
   get_left [] ys i x e = absurd (let f : None ≡ Some x = e in cc)
   get_left (y ∷ xs) ys zero x e = e
@@ -48,32 +48,32 @@ module _ {X : Type 0} where
   counts_same P (y ∷ xs) x n p (one_more q c) = one_more q (counts_same P xs x _ p c)
   counts_same P (y ∷ xs) x n p (other q c) = other q (counts_same P xs x n p c)
 
-abbrev counted : Bool → Sort → ℕ
+abbrev counted : Bool → DeclKind → ℕ
 counted q s = if q && is_import s then 1 else 0
 
--- a use counts 1 for an import that it has a name behind a dot of, and else 0
-abbrev CountsOne : Bool → Sort → Type 0
-CountsOne q s = ((q ≡ true) × (s ≡ sorts.Import) × (counted q s ≡ 1)) ⊎ (((q ≡ true) → s ≡ sorts.Import → ⊥) × (counted q s ≡ 0))
+-- a qualified use counts 1 for an import, any other use 0
+abbrev CountsOne : Bool → DeclKind → Type 0
+CountsOne q s = ((q ≡ true) × (s ≡ decl_kinds.Import) × (counted q s ≡ 1)) ⊎ (((q ≡ true) → s ≡ decl_kinds.Import → ⊥) × (counted q s ≡ 0))
 
-counts_one : (q : Bool) (s : Sort) → CountsOne q s
+counts_one : (q : Bool) (s : DeclKind) → CountsOne q s
 counts_one false s = inr ((λ e f. false≢true e), refl)
-counts_one true sorts.Import = inl (refl, refl, refl)
-counts_one true sorts.Constant = inr ((λ e f. absurd (let g : sorts.Constant ≡ sorts.Import = f in cc)), refl)
-counts_one true sorts.Type = inr ((λ e f. absurd (let g : sorts.Type ≡ sorts.Import = f in cc)), refl)
-counts_one true sorts.Variable = inr ((λ e f. absurd (let g : sorts.Variable ≡ sorts.Import = f in cc)), refl)
-counts_one true sorts.Procedure = inr ((λ e f. absurd (let g : sorts.Procedure ≡ sorts.Import = f in cc)), refl)
-counts_one true sorts.Parameter = inr ((λ e f. absurd (let g : sorts.Parameter ≡ sorts.Import = f in cc)), refl)
-counts_one true sorts.Field = inr ((λ e f. absurd (let g : sorts.Field ≡ sorts.Import = f in cc)), refl)
+counts_one true decl_kinds.Import = inl (refl, refl, refl)
+counts_one true decl_kinds.Constant = inr ((λ e f. absurd (let g : decl_kinds.Constant ≡ decl_kinds.Import = f in cc)), refl)
+counts_one true decl_kinds.Type = inr ((λ e f. absurd (let g : decl_kinds.Type ≡ decl_kinds.Import = f in cc)), refl)
+counts_one true decl_kinds.Variable = inr ((λ e f. absurd (let g : decl_kinds.Variable ≡ decl_kinds.Import = f in cc)), refl)
+counts_one true decl_kinds.Procedure = inr ((λ e f. absurd (let g : decl_kinds.Procedure ≡ decl_kinds.Import = f in cc)), refl)
+counts_one true decl_kinds.Parameter = inr ((λ e f. absurd (let g : decl_kinds.Parameter ≡ decl_kinds.Import = f in cc)), refl)
+counts_one true decl_kinds.Field = inr ((λ e f. absurd (let g : decl_kinds.Field ≡ decl_kinds.Import = f in cc)), refl)
 
 module _ (name : ℕ → List ℕ) (blocks : List Block) (members : List Member) (uses : List Used) where
   weaker : (k used declared : ℕ) → MeansBefore name blocks members uses k used declared → MeansBefore name blocks members uses (k + 1) used declared
   weaker k used declared m = record {
     place = m.place;
     below = (let l : m.place < k = m.below in omega arith);
-    use_there = m.use_there;
+    use_row = m.use_row;
     there = m.there;
     of_use = m.of_use;
-    declared_there = m.declared_there;
+    named_declaration = m.named_declaration;
     means = m.means;
     of_declared = m.of_declared;
   }
@@ -82,12 +82,12 @@ module _ (name : ℕ → List ℕ) (blocks : List Block) (members : List Member)
   before_or_last : (k used declared : ℕ) (u : Used) → slice_get uses k ≡ Some u → (m : MeansBefore name blocks members uses (k + 1) used declared) →
       MeansBefore name blocks members uses k used declared ⊎ ((u.number ≡ used) × ((d : Member) × ResolvesTo name blocks members u d × (d.number ≡ declared)))
   before_or_last k used declared u at m = ⊎_elim
-      (λ (old : m.place < k). inl (record { place = m.place; below = old; use_there = m.use_there; there = m.there; of_use = m.of_use; declared_there = m.declared_there; means = m.means; of_declared = m.of_declared }))
+      (λ (old : m.place < k). inl (record { place = m.place; below = old; use_row = m.use_row; there = m.there; of_use = m.of_use; named_declaration = m.named_declaration; means = m.means; of_declared = m.of_declared }))
       (λ (now : k ≤ m.place).
       let l : m.place < k + 1 = m.below in
       let e : m.place ≡ k = omega arith in
-      let same : m.use_there ≡ u = some_one m.use_there u (sym m.there ∙ ap (slice_get uses) e ∙ at) in
-      inr (sym (ap (λ (x : Used). x.number) same) ∙ m.of_use, (m.declared_there, subst (λ (x : Used). ResolvesTo name blocks members x m.declared_there) same m.means, m.of_declared)))
+      let same : m.use_row ≡ u = some_one m.use_row u (sym m.there ∙ ap (slice_get uses) e ∙ at) in
+      inr (sym (ap (λ (x : Used). x.number) same) ∙ m.of_use, (m.named_declaration, subst (λ (x : Used). ResolvesTo name blocks members x m.named_declaration) same m.means, m.of_declared)))
       (cases_lt m.place k)
 
   pub meant_none : AreMeant name blocks members uses 0 []
@@ -108,11 +108,11 @@ module _ (name : ℕ → List ℕ) (blocks : List Block) (members : List Member)
   }
 
   -- a use before the last has a smaller number
-  before_last : (k used declared : ℕ) (u : Used) → AscendBy (λ (x : Used). x.number) uses → slice_get uses k ≡ Some u → MeansBefore name blocks members uses k used declared → used < u.number
+  before_last : (k used declared : ℕ) (u : Used) → IsIncreasingBy (λ (x : Used). x.number) uses → slice_get uses k ≡ Some u → MeansBefore name blocks members uses k used declared → used < u.number
   before_last k used declared u up at m =
-      subst (λ (n : ℕ). n < u.number) m.of_use (up m.place k m.use_there u m.below m.there at)
+      subst (λ (n : ℕ). n < u.number) m.of_use (up m.place k m.use_row u m.below m.there at)
 
-  pub meant_more : (k : ℕ) (rows : List Resolution) (u : Used) (m : Member) → AscendBy (λ (x : Used). x.number) uses → NoneTwice name members → AreMeant name blocks members uses k rows → slice_get uses k ≡ Some u
+  pub meant_more : (k : ℕ) (rows : List Resolution) (u : Used) (m : Member) → IsIncreasingBy (λ (x : Used). x.number) uses → HasNoDuplicates name members → AreMeant name blocks members uses k rows → slice_get uses k ≡ Some u
       → ResolvesTo name blocks members u m → AreMeant name blocks members uses (k + 1) (rows ++ record { used = u.number; declared = m.number } ∷ [])
   meant_more k rows u m up once a at means =
       let new : Resolution = record { used = u.number; declared = m.number } in
@@ -120,7 +120,7 @@ module _ (name : ℕ → List ℕ) (blocks : List Block) (members : List Member)
         sound = λ j row e. elim (get_push rows new row j e) [
           | inl h ↦ weaker k row.used row.declared (a.sound j row h)
           | inr h ↦ subst (λ (x : Resolution). MeansBefore name blocks members uses (k + 1) x.used x.declared) h.1
-              (record { place = k; below = omega arith; use_there = u; there = at; of_use = refl; declared_there = m; means = means; of_declared = refl })
+              (record { place = k; below = omega arith; use_row = u; there = at; of_use = refl; named_declaration = m; means = means; of_declared = refl })
         ];
         all = λ used declared h. elim (before_or_last k used declared u at h) [
           | inl old ↦ (let p = a.all used declared old in (p.0, get_left rows (new ∷ []) p.0 (record { used = used; declared = declared }) p.1))
@@ -150,13 +150,13 @@ module _ (name : ℕ → List ℕ) (blocks : List Block) (members : List Member)
   uses_more k u at =
       take_more uses k u (slice_get_within uses k _ at) ∙ ap (λ (x : Used). take k uses ++ x ∷ []) (get_or_from_slice_get uses k u u at)
 
-  -- what qualifies a use is what it means, and an import with a dot behind the use
-  qualified_row : (i j : ℕ) (m n : Member) (u : Used) → AscendBy (λ (x : Member). x.number) members → NoneTwice name members → slice_get members i ≡ Some m → slice_get members j ≡ Some n
-      → ResolvesTo name blocks members u m → IsQualifiedBy name blocks members n.number u → (j ≡ i) × (m.sort ≡ sorts.Import)
+  -- a use is qualified by a member exactly if it means that member, the member is an import, and the use has a dot
+  qualified_row : (i j : ℕ) (m n : Member) (u : Used) → IsIncreasingBy (λ (x : Member). x.number) members → HasNoDuplicates name members → slice_get members i ≡ Some m → slice_get members j ≡ Some n
+      → ResolvesTo name blocks members u m → IsQualifiedBy name blocks members n.number u → (j ≡ i) × (m.decl_kind ≡ decl_kinds.Import)
   qualified_row i j m n u up once p q means by =
       let same : m ≡ by.declared = means_once name blocks members u m by.declared once means by.means in
       let number : m.number ≡ n.number = ap (λ (x : Member). x.number) same ∙ by.is_alias in
-      (one_of_number name members j i n m up q p (sym number), ap (λ (x : Member). x.sort) same ∙ by.of_import)
+      (one_of_number name members j i n m up q p (sym number), ap (λ (x : Member). x.decl_kind) same ∙ by.of_import)
 
   pub counted_none : (counts : List ℕ) → length counts ≡ length members → ((i : ℕ) → slice_index counts i ≡ 0) → AreCounted name blocks members uses 0 counts
   counted_none counts l z = record { as_many = l; small = λ i. rw (z i) (omega arith); each = λ i m e. rw (z i) none }
@@ -169,8 +169,8 @@ module _ (name : ℕ → List ℕ) (blocks : List Block) (members : List Member)
   }
 
   -- how often the member that a use means is counted
-  this_row : (k i : ℕ) (counts : List ℕ) (u : Used) (m n : Member) → AscendBy (λ (x : Member). x.number) members → NoneTwice name members → n ≡ m → AreCounted name blocks members uses k counts → slice_get members i ≡ Some m
-      → ResolvesTo name blocks members u m → CountsOne (is_some u.member) m.sort
+  this_row : (k i : ℕ) (counts : List ℕ) (u : Used) (m n : Member) → IsIncreasingBy (λ (x : Member). x.number) members → HasNoDuplicates name members → n ≡ m → AreCounted name blocks members uses k counts → slice_get members i ≡ Some m
+      → ResolvesTo name blocks members u m → CountsOne (is_some u.member) m.decl_kind
       → Counts (IsQualifiedBy name blocks members n.number) (take k uses ++ u ∷ []) (slice_index counts i + counted_for m u)
   this_row k i counts u m n up once is c there means (inl h) =
       let here : slice_get members i ≡ Some n = there ∙ ap Some (sym is) in
@@ -187,7 +187,7 @@ module _ (name : ℕ → List ℕ) (blocks : List Block) (members : List Member)
       (λ q. h.0 q.qualified (qualified_row i i m n u up once there here means q).1)
       (c.each i n here))
 
-  pub counted_more : (k i : ℕ) (counts : List ℕ) (u : Used) (m : Member) → AscendBy (λ (x : Member). x.number) members → NoneTwice name members → AreCounted name blocks members uses k counts → slice_get uses k ≡ Some u
+  pub counted_more : (k i : ℕ) (counts : List ℕ) (u : Used) (m : Member) → IsIncreasingBy (λ (x : Member). x.number) members → HasNoDuplicates name members → AreCounted name blocks members uses k counts → slice_get uses k ≡ Some u
       → slice_get members i ≡ Some m → ResolvesTo name blocks members u m
       → AreCounted name blocks members uses (k + 1) (slice_set counts i (slice_index counts i + counted_for m u))
   counted_more k i counts u m up once c at there means =
@@ -196,21 +196,21 @@ module _ (name : ℕ → List ℕ) (blocks : List Block) (members : List Member)
       let within : i < length members = slice_get_within members i m there in
       let inside : i < length counts = (let l : length counts ≡ length members = c.as_many in omega arith) in
       let same : slice_index new i ≡ slice_index counts i + more = get_or-set_same counts i (slice_index counts i + more) 0 inside in
-      let apart : (j : ℕ) → (j ≡ i → ⊥) → slice_index new j ≡ slice_index counts j = λ j ne. get_or-set_other counts i j (slice_index counts i + more) 0 ne in
-      let one = counts_one (is_some u.member) m.sort in
+      let distinct : (j : ℕ) → (j ≡ i → ⊥) → slice_index new j ≡ slice_index counts j = λ j ne. get_or-set_other counts i j (slice_index counts i + more) 0 ne in
+      let one = counts_one (is_some u.member) m.decl_kind in
       let small_more : more ≤ 1 = elim one [ inl h ↦ omega (arith, h.2) | inr h ↦ omega (arith, h.1) ] in
       record {
         as_many = length-set counts i (slice_index counts i + more) ∙ c.as_many;
         small = λ j. ⊎_elim
             (λ (e : j ≡ i). rw e (rw same (let s : slice_index counts i ≤ k = c.small i in omega arith)))
-            (λ (ne : j ≡ i → ⊥). rw (apart j ne) (let s : slice_index counts j ≤ k = c.small j in omega arith))
+            (λ (ne : j ≡ i → ⊥). rw (distinct j ne) (let s : slice_index counts j ≤ k = c.small j in omega arith))
             (cases_eq j i);
         each = λ j n e. ⊎_elim
             (λ (q : j ≡ i).
             let is : n ≡ m = some_one n m (sym e ∙ ap (slice_get members) q ∙ there) in
             rw (uses_more k u at) (rw q (rw same (this_row k i counts u m n up once is c there means one))))
             (λ (ne : j ≡ i → ⊥).
-            rw (uses_more k u at) (rw (apart j ne)
+            rw (uses_more k u at) (rw (distinct j ne)
             (counts_same _ (take k uses) u _ (λ q. ne (qualified_row i j m n u up once there e means q).0) (c.each j n e))))
             (cases_eq j i);
       }

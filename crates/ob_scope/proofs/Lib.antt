@@ -7,13 +7,13 @@ pub mod Keyed
 pub mod Named
 pub mod Placing
 pub mod Resolving
-pub mod Resolved
+pub mod Resolutions
 pub mod Seeing
 pub mod Finding
 pub mod Weighing
 pub mod Assembling
 pub mod Names
-pub mod Crossed
+pub mod ImportUses
 pub mod Opening
 pub mod Sighting
 pub mod Numberings
@@ -21,6 +21,6 @@ pub mod SightSteps
 pub mod OneScopes
 pub mod Forwards
 pub mod Aparts
-pub mod OnWay
+pub mod OnWalk
 pub mod Together
 pub mod Twice

@@ -2,14 +2,14 @@
 use Rattle.std.proofs.Common.{◌≡◌, ℕ, ◌<◌, ◌⊎◌, inl, inr, List, sym, ap, ◌∙◌, arith, Some, slice_get, Contains, subst}
 use Rattle.std.proofs.lemmas.Bool.{cases_lt}
 use Rattle.std.proofs.lemmas.Option.{slice_get-get_or}
-use Rattle.ob_rows.specs.declared.rows.Block.{Block as BlockRow}
-use Rattle.ob_rows.specs.declared.rows.Used.{Used}
+use Rattle.module_table.specs.declared.rows.Block.{Block as BlockRow}
+use Rattle.module_table.specs.declared.rows.Used.{Used}
 use Rattle.ob_scope.specs.declared.members.Member.{Member}
 use Rattle.ob_scope.specs.declared.members.Scope.TheVariants.{Block}
-use Rattle.ob_scope.specs.Scope.{ResolvesTo, by_scope, as_target, AreTwice, IsFirstTwice, NoneTwice}
-use Rattle.ob_rows.proofs.Around.{around-both}
+use Rattle.ob_scope.specs.Scope.{ResolvesTo, by_scope, as_target, AreDuplicates, IsFirstDuplicate, HasNoDuplicates}
+use Rattle.module_table.proofs.Around.{around-both}
 
--- a member has a place in its list
+-- a member has an index in its list
 pub record IsAt {X : Type 0} (xs : List X) (x : X) : Type 0 where
   pub place : ℕ
   pub there : slice_get xs place ≡ Some x
@@ -17,7 +17,7 @@ pub record IsAt {X : Type 0} (xs : List X) (x : X) : Type 0 where
 pub at_from_contains : {X : Type 0} (xs : List X) (x : X) → Contains xs x → IsAt xs x
 at_from_contains xs x c = record { place = c.0; there = slice_get-get_or xs c.0 x c.1 ∙ ap Some c.2 }
 
--- of two places one is before the other, or they are one
+-- two indexes are ordered or equal
 pub order : (i j : ℕ) → (i < j) ⊎ ((i ≡ j) ⊎ (j < i))
 order i j = elim (cases_lt i j) [
   | inl h ↦ inl h
@@ -33,11 +33,11 @@ same_at xs i j x y e p q =
     let s : Some x ≡ Some y = sym p ∙ r in
     cc
 
-twice_back : (name : ℕ → List ℕ) (d e : Member) → AreTwice name d e → AreTwice name e d
+twice_back : (name : ℕ → List ℕ) (d e : Member) → AreDuplicates name d e → AreDuplicates name e d
 twice_back name d e t = (sym t.0, sym t.1)
 
--- where nothing is declared twice, members of one name and place are one
-pub member_once : (name : ℕ → List ℕ) (ds : List Member) (d e : Member) → NoneTwice name ds → Contains ds d → Contains ds e → AreTwice name d e → d ≡ e
+-- without duplicates, members of one name and scope are equal
+pub member_once : (name : ℕ → List ℕ) (ds : List Member) (d e : Member) → HasNoDuplicates name ds → Contains ds d → Contains ds e → AreDuplicates name d e → d ≡ e
 member_once name ds d e none c k t = go (at_from_contains ds d c) (at_from_contains ds e k)
   where
     go : IsAt ds d → IsAt ds e → d ≡ e
@@ -51,8 +51,8 @@ pub means-member : (name : ℕ → List ℕ) (blocks : List BlockRow) (ds : List
 means-member name blocks ds u d (by_scope r) = r.seen.declared
 means-member name blocks ds u d (as_target t n l) = l.declared
 
--- a use means one name in one place
-means-twice : (name : ℕ → List ℕ) (blocks : List BlockRow) (ds : List Member) (u : Used) (d e : Member) → ResolvesTo name blocks ds u d → ResolvesTo name blocks ds u e → AreTwice name d e
+-- the declarations that a use means have one name and one scope
+means-twice : (name : ℕ → List ℕ) (blocks : List BlockRow) (ds : List Member) (u : Used) (d e : Member) → ResolvesTo name blocks ds u d → ResolvesTo name blocks ds u e → AreDuplicates name d e
 means-twice name blocks ds u d e (by_scope r) (by_scope q) =
     let same : r.block ≡ q.block = around-both blocks r.block q.block (q.innermost r.block d r.seen) (r.innermost q.block e q.seen) in
     (r.seen.placed ∙ ap (λ (b : ℕ). Block b) same ∙ sym q.seen.placed, r.seen.named ∙ sym q.seen.named)
@@ -60,7 +60,7 @@ means-twice name blocks ds u d e (by_scope r) (as_target t n l) = absurd (n r.bl
 means-twice name blocks ds u d e (as_target t n l) (by_scope q) = absurd (n q.block e q.seen)
 means-twice name blocks ds u d e (as_target t n l) (as_target s m k) = (l.placed ∙ sym k.placed, l.named ∙ sym k.named)
 
-pub means_once : (name : ℕ → List ℕ) (blocks : List BlockRow) (ds : List Member) (u : Used) (d e : Member) → NoneTwice name ds → ResolvesTo name blocks ds u d → ResolvesTo name blocks ds u e → d ≡ e
+pub means_once : (name : ℕ → List ℕ) (blocks : List BlockRow) (ds : List Member) (u : Used) (d e : Member) → HasNoDuplicates name ds → ResolvesTo name blocks ds u d → ResolvesTo name blocks ds u e → d ≡ e
 means_once name blocks ds u d e none m n =
     member_once name ds d e none (means-member name blocks ds u d m) (means-member name blocks ds u e n) (means-twice name blocks ds u d e m n)
 
@@ -68,12 +68,12 @@ means_once name blocks ds u d e none m n =
 pub means_as : (name : ℕ → List ℕ) (blocks : List BlockRow) (ds : List Member) (u : Used) (d e : Member) → d ≡ e → ResolvesTo name blocks ds u d → ResolvesTo name blocks ds u e
 means_as name blocks ds u d e same m = subst (λ (x : Member). ResolvesTo name blocks ds u x) same m
 
--- where nothing is declared twice, there is no first such pair
-pub no_first : (name : ℕ → List ℕ) (ds : List Member) (d e : Member) → NoneTwice name ds → IsFirstTwice name ds d e → ⊥
+-- without duplicates there are no first duplicates
+pub no_first : (name : ℕ → List ℕ) (ds : List Member) (d e : Member) → HasNoDuplicates name ds → IsFirstDuplicate name ds d e → ⊥
 no_first name ds d e none f = none f.first f.second d e f.order f.at_first f.at_second f.twice
 
 -- two first pairs are one
-pub first_once : (name : ℕ → List ℕ) (ds : List Member) (d e f g : Member) → IsFirstTwice name ds d e → IsFirstTwice name ds f g → (d ≡ f) × (e ≡ g)
+pub first_once : (name : ℕ → List ℕ) (ds : List Member) (d e f g : Member) → IsFirstDuplicate name ds d e → IsFirstDuplicate name ds f g → (d ≡ f) × (e ≡ g)
 first_once name ds d e f g p q = elim (order p.second q.second) [
   | inl h ↦ absurd (q.none_before p.first p.second d e p.order h p.at_first p.at_second p.twice)
   | inr (inl h) ↦ (first h, last h)
@@ -83,8 +83,8 @@ first_once name ds d e f g p q = elim (order p.second q.second) [
     last : p.second ≡ q.second → e ≡ g
     last h = same_at ds p.second q.second e g h p.at_second q.at_second
 
-    -- both first ones have the name and the place of the second
-    both : p.second ≡ q.second → AreTwice name d f
+    -- both first members have the name and scope of the second
+    both : p.second ≡ q.second → AreDuplicates name d f
     both h =
         (p.twice.0 ∙ ap (λ (x : Member). x.place) (last h) ∙ sym q.twice.0, p.twice.1 ∙ ap (λ (x : Member). name x.number) (last h) ∙ sym q.twice.1)
 

@@ -1,11 +1,11 @@
--- The places of members by their tokens, and answers that are found or not.
+-- The indexes of members by their tokens, and results that are present or not.
 use Rattle.std.proofs.Common.{◌≡◌, ℕ, ◌<◌, ◌≤◌, List, Some, None, Option, arith, ⊎_elim}
 use Rattle.std.specs.Prelude.{slice_get, IfSome, IfNone}
 use Rattle.std.proofs.lemmas.Bool.{cases_lt}
 use Rattle.ob_scope.specs.declared.members.Member.{Member}
 
 module _ (name : ℕ → List ℕ) (members : List Member) where
-  -- the number of a token is that of a row
+  -- the token number is the key of an entry
   pub one_of_number : (i j : ℕ) (m n : Member) → ((i j : ℕ) (m n : Member) → i < j → slice_get members i ≡ Some m → slice_get members j ≡ Some n → m.number < n.number)
       → slice_get members i ≡ Some m → slice_get members j ≡ Some n → m.number ≡ n.number → i ≡ j
   one_of_number i j m n a p q e =

@@ -14,8 +14,8 @@ use Rattle.ob_scan.specs.Spelling.{Spells}
 use Rattle.ob_scan.specs.Tokens.{is_name}
 use Rattle.ob_scan.proofs.NameTokens.{spelled_names}
 use Rattle.ob_scan.specs.Texts.{no_token, text_at, token_at}
-use Rattle.ob_rows.specs.Parts.{Rows}
-use Rattle.ob_rows.specs.Trees.{AreTreeRows}
+use Rattle.module_table.specs.Parts.{Rows}
+use Rattle.module_table.specs.Trees.{AreTreeRows}
 use Rattle.ob_scope.specs.Found.{AreTexts}
 use Rattle.ob_scope.specs.Identified.{AreNames, IsIdentifier}
 use Rattle.ob_scope.specs.Members.{members_of}
@@ -58,6 +58,6 @@ named_by bytes ts r spells all =
     let named = spelled_names bytes ts spells in
     record {
       own = ident_named bytes ts 1 named (kind_at ts 1 all.own);
-      members = λ m h. (let d = declares r.declarers r.declared m h in ident_named bytes ts m.number named (kind_at ts m.number (subst (IsIdentifier ts) d.number (all.declared d.row d.among))));
+      members = λ m h. (let d = declares r.decl_groups r.declared m h in ident_named bytes ts m.number named (kind_at ts m.number (subst (IsIdentifier ts) d.number (all.declared d.row d.among))));
       imports = λ i h. ident_named bytes ts i.imported named (kind_at ts i.imported (all.imported i h));
     }

@@ -10,7 +10,7 @@ use Rattle.std.proofs.lemmas.Slice.Eq.{bytes_eq-Decides}
 use Rattle.std.proofs.Math.Seq.{get_or-append_seam}
 use Rattle.ob_scope.specs.declared.members.Member.{Member}
 use Rattle.text_hash.specs.declared.name.Name.{Name}
-use Rattle.ob_scope.specs.Sights.{name_number, AreNumbered}
+use Rattle.ob_scope.specs.Visibility.{name_number, AreInterned}
 use Rattle.ob_scope.proofs.Elements.{some_one}
 use Rattle.ob_scope.proofs.Keyed.{front_get, get_front}
 
@@ -60,10 +60,10 @@ abbrev pub is_text : List ℕ → Name → Bool
 is_text text y = bytes_eq text y.bytes.now
 
 module _ (name : ℕ → List ℕ) (members : List Member) where
-  -- the names stay, where those that are numbered keep their numbers
-  more : (i n : ℕ) (m : Member) (names later : List Name) (numbers : List ℕ) → AreNumbered name (take i members) names numbers → slice_get members i ≡ Some m → length (take i members) ≡ i → length names ≤ length later
+  -- interning a further name keeps the numbers of the earlier names
+  more : (i n : ℕ) (m : Member) (names later : List Name) (numbers : List ℕ) → AreInterned name (take i members) names numbers → slice_get members i ≡ Some m → length (take i members) ≡ i → length names ≤ length later
       → ((text : List ℕ) → name_number names text < length names → name_number later text ≡ name_number names text) → n ≡ name_number later (name m.number) → n < length later
-      → AreNumbered name (take (i + 1) members) later (numbers ++ n ∷ [])
+      → AreInterned name (take (i + 1) members) later (numbers ++ n ∷ [])
   more i n m names later numbers a at long grown kept is within = record {
     as_many = (
         let old : length numbers ≡ length (take i members) = a.as_many in
@@ -73,9 +73,9 @@ module _ (name : ℕ → List ℕ) (members : List Member) where
         omega arith);
     each = λ k x e. ⊎_elim
         (λ (less : k < i). (
-        let front = front_there k x less e in
-        let old = a.each k x front in
-        let bound = a.within k x front in
+        let prefix = front_there k x less e in
+        let old = a.each k x prefix in
+        let bound = a.within k x prefix in
         rw (get_or_append_left numbers (n ∷ []) 0 k (inside k less)) (old ∙ sym (kept (name x.number) (rw (← old) bound)))))
         (λ (past : i ≤ k). (
         let last = last_there k x past e in
@@ -108,8 +108,8 @@ module _ (name : ℕ → List ℕ) (members : List Member) where
           let same : k ≡ i = omega arith in
           (same, some_one m x (sym at ∙ ap (slice_get members) (sym same) ∙ u.1))
 
-  pub numbered_more : (i n : ℕ) (m : Member) (k : Name) (names later : List Name) (numbers : List ℕ) → AreNumbered name (take i members) names numbers → slice_get members i ≡ Some m → k.bytes.now ≡ name m.number
-      → n ≡ name_number names k.bytes.now → later ≡ (if list_any (is_text k.bytes.now) names then names else names ++ k ∷ []) → AreNumbered name (take (i + 1) members) later (numbers ++ n ∷ [])
+  pub numbered_more : (i n : ℕ) (m : Member) (k : Name) (names later : List Name) (numbers : List ℕ) → AreInterned name (take i members) names numbers → slice_get members i ≡ Some m → k.bytes.now ≡ name m.number
+      → n ≡ name_number names k.bytes.now → later ≡ (if list_any (is_text k.bytes.now) names then names else names ++ k ∷ []) → AreInterned name (take (i + 1) members) later (numbers ++ n ∷ [])
   numbered_more i n m k names later numbers a at text is keys = elim (cases_Bool (list_any (is_text k.bytes.now) names)) [
     | inl old ↦ (
         let same : later ≡ names = keys ∙ ap (λ (b : Bool). if b then names else names ++ k ∷ []) old in
@@ -128,7 +128,7 @@ module _ (name : ℕ → List ℕ) (members : List Member) where
       long : length (take i members) ≡ i
       long = let here = slice_get_within members i m at in length-take-le i members (omega arith)
 
-pub numbered_none : (name : ℕ → List ℕ) → AreNumbered name [] [] []
+pub numbered_none : (name : ℕ → List ℕ) → AreInterned name [] [] []
 numbered_none name = record {
   as_many = refl;
   each = λ k m e. absurd (let f : None ≡ Some m = e in cc);
@@ -136,7 +136,7 @@ numbered_none name = record {
 }
 
 -- there are as many numbers as members
-pub numbers_long : (name : ℕ → List ℕ) (members : List Member) (i : ℕ) (names : List Name) (numbers : List ℕ) → i ≤ length members → AreNumbered name (take i members) names numbers → length numbers ≡ i
+pub numbers_long : (name : ℕ → List ℕ) (members : List Member) (i : ℕ) (names : List Name) (numbers : List ℕ) → i ≤ length members → AreInterned name (take i members) names numbers → length numbers ≡ i
 numbers_long name members i names numbers le a = a.as_many ∙ length-take-le i members le
 
 pub last_number : (numbers later : List ℕ) (i n : ℕ) → length numbers ≡ i → later ≡ numbers ++ n ∷ [] → slice_index later i ≡ n
@@ -144,7 +144,7 @@ last_number numbers later i n long is = rw is (subst (λ (x : ℕ). get_or (numb
 
 -- the last number is one of a name
 pub last_within : (name : ℕ → List ℕ) (members : List Member) (i n : ℕ) (m : Member) (names : List Name) (numbers later : List ℕ) → length numbers ≡ i → later ≡ numbers ++ n ∷ [] → slice_get members i ≡ Some m
-    → AreNumbered name (take (i + 1) members) names later → n < length names
+    → AreInterned name (take (i + 1) members) names later → n < length names
 last_within name members i n m names numbers later long is at a =
     let within : slice_index later i < length names = a.within i m (get_front name members (i + 1) i m (omega arith) at) in
     let last = last_number numbers later i n long is in

@@ -3,15 +3,15 @@ use Rattle.std.proofs.Common.{◌≡◌, ℕ, zero, suc, ◌<◌, ◌⊎◌, inl
 use Rattle.std.proofs.lemmas.Option.{slice_get_within}
 use Rattle.ob_scan.specs.declared.token.Token.{Token}
 use Rattle.ob_scan.specs.Texts.{text_at}
-use Rattle.ob_rows.specs.Order.{AscendBy}
-use Rattle.ob_rows.specs.Parts.{Rows}
+use Rattle.module_table.specs.Order.{IsIncreasingBy}
+use Rattle.module_table.specs.Parts.{Rows}
 use Rattle.ob_scope.specs.Counted.{IsQualifiedBy}
 use Rattle.ob_scope.specs.Members.{members_of}
 use Rattle.ob_scope.specs.Scoped.{AliasUses, AreScopes, Meaning, ModuleScopes}
 use Rattle.ob_scope.proofs.Counting.{counts-once}
 use Rattle.ob_scope.proofs.Elements.{contains_slice, slice_contains, slice_there}
 
--- ---- two lists with the same elements at the same places are one
+-- ---- two lists with equal elements at equal indexes are equal
 
 pub each_same : {X : Type 0} (xs ys : List X) → length xs ≡ length ys → ((k : ℕ) (x y : X) → slice_get xs k ≡ Some x → slice_get ys k ≡ Some y → x ≡ y) → xs ≡ ys
 each_same [] [] long same = refl
@@ -20,14 +20,14 @@ each_same (x ∷ xs) [] long same = absurd (omega arith)
 each_same {X} (x ∷ xs) (y ∷ ys) long same =
     ap₂ (λ (z : X) (zs : List X). z ∷ zs) (same zero x y refl refl) (each_same xs ys (omega arith) (λ k a b p q. same (suc k) a b p q))
 
--- ---- so are two whose numbers ascend, with the same members
+-- ---- two strictly increasing lists with equal elements are equal
 
 module _ {X : Type 0} (n : X → ℕ) where
-  ascend_rest : (x : X) (xs : List X) → AscendBy n (x ∷ xs) → AscendBy n xs
+  ascend_rest : (x : X) (xs : List X) → IsIncreasingBy n (x ∷ xs) → IsIncreasingBy n xs
   ascend_rest x xs a i j y z l p q = a (suc i) (suc j) y z (omega arith) p q
 
   -- a member is the first one, or a later one of a greater number
-  first_or_later : (x z : X) (xs : List X) → AscendBy n (x ∷ xs) → Contains (x ∷ xs) z → (x ≡ z) ⊎ ((n x < n z) × Contains xs z)
+  first_or_later : (x z : X) (xs : List X) → IsIncreasingBy n (x ∷ xs) → Contains (x ∷ xs) z → (x ≡ z) ⊎ ((n x < n z) × Contains xs z)
   first_or_later x z xs a has = at (slice_contains (x ∷ xs) z has)
     where
       at : (k : ℕ) × (slice_get (x ∷ xs) k ≡ Some z) → (x ≡ z) ⊎ ((n x < n z) × Contains xs z)
@@ -43,8 +43,8 @@ module _ {X : Type 0} (n : X → ℕ) where
   no_member : (x : X) → Contains [] x → ⊥
   no_member x has = let at = slice_contains [] x has in let e = at.1 in cc
 
-  -- what the one list has behind its first member the other has behind its own
-  behind : (x y z : X) (xs ys : List X) → AscendBy n (x ∷ xs) → AscendBy n (y ∷ ys) → x ≡ y → Contains xs z → Contains (y ∷ ys) z → Contains ys z
+  -- the elements after the first one of one list are those after the first one of the other
+  behind : (x y z : X) (xs ys : List X) → IsIncreasingBy n (x ∷ xs) → IsIncreasingBy n (y ∷ ys) → x ≡ y → Contains xs z → Contains (y ∷ ys) z → Contains ys z
   behind x y z xs ys a b same here there = elim (first_or_later y z ys b there) [
     | inl e ↦ (let at = slice_contains xs z here in
         let above : n x < n z = a zero (suc at.0) x z (omega arith) refl at.1 in
@@ -53,7 +53,7 @@ module _ {X : Type 0} (n : X → ℕ) where
     | inr h ↦ h.1
   ]
 
-  same_first : (x y : X) (xs ys : List X) → AscendBy n (x ∷ xs) → AscendBy n (y ∷ ys) → Contains (y ∷ ys) x → Contains (x ∷ xs) y → x ≡ y
+  same_first : (x y : X) (xs ys : List X) → IsIncreasingBy n (x ∷ xs) → IsIncreasingBy n (y ∷ ys) → Contains (y ∷ ys) x → Contains (x ∷ xs) y → x ≡ y
   same_first x y xs ys a b p q = go (first_or_later y x ys b p) (first_or_later x y xs a q)
     where
       go : (y ≡ x) ⊎ ((n y < n x) × Contains ys x) → (x ≡ y) ⊎ ((n x < n y) × Contains xs y) → x ≡ y
@@ -61,7 +61,7 @@ module _ {X : Type 0} (n : X → ℕ) where
       go (inr g) (inl e) = e
       go (inr g) (inr h) = let above = g.0 in let below = h.0 in absurd (omega arith)
 
-  pub same_members : (xs ys : List X) → AscendBy n xs → AscendBy n ys → ((z : X) → Contains xs z → Contains ys z) → ((z : X) → Contains ys z → Contains xs z) → xs ≡ ys
+  pub same_members : (xs ys : List X) → IsIncreasingBy n xs → IsIncreasingBy n ys → ((z : X) → Contains xs z → Contains ys z) → ((z : X) → Contains ys z → Contains xs z) → xs ≡ ys
   same_members [] [] a b to from = refl
   same_members [] (y ∷ ys) a b to from = absurd (no_member y (from y (first_is y ys)))
   same_members (x ∷ xs) [] a b to from = absurd (no_member x (to x (first_is x xs)))

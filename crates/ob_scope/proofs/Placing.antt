@@ -6,35 +6,35 @@ use Rattle.std.proofs.lemmas.List.{take_more}
 use Rattle.std.proofs.lemmas.List.Elements.{filter_map-append}
 use Rattle.std.proofs.lemmas.Option.{get_or_from_slice_get}
 use Rattle.std.proofs.lemmas.Bool.{cases_Bool, cases_eq, eq-eqb, eqb-true}
-use Rattle.ob_rows.specs.declared.rows.Declarer.{Declarer}
-use Rattle.ob_rows.specs.declared.rows.Declared.{Declared}
+use Rattle.module_table.specs.declared.rows.DeclGroup.{DeclGroup}
+use Rattle.module_table.specs.declared.rows.Declared.{Declared}
 use Rattle.ob_scope.specs.declared.members.Member.{Member}
-use Rattle.ob_rows.specs.Order.{AscendBy, HasNoneBy, IsPlaceBy}
+use Rattle.module_table.specs.Order.{IsIncreasingBy, HasNoneBy, IsIndexBy}
 use Rattle.ob_scope.specs.Found.{IsCountOf}
-use Rattle.ob_scope.specs.Members.{declarer_at, member_by, members_by}
+use Rattle.ob_scope.specs.Members.{decl_group_at, declared_member, declared_members}
 use Rattle.ob_scope.proofs.Ascending.{ascending, ascends_by, picked}
 use Rattle.ob_scope.proofs.Elements.{some_one}
 use Rattle.ob_scope.proofs.Named.{one_of_number}
 
--- a list that ascends behind its first element
-ascend_tail : {X : Type 0} (n : X → ℕ) (x : X) (xs : List X) → AscendBy n (x ∷ xs) → AscendBy n xs
+-- a strictly increasing list without its first element
+ascend_tail : {X : Type 0} (n : X → ℕ) (x : X) (xs : List X) → IsIncreasingBy n (x ∷ xs) → IsIncreasingBy n xs
 ascend_tail n x xs up i j y z l p q = up (suc i) (suc j) y z (omega arith) p q
 
--- the construct at this place is the one that is found
-pub declarer_found : (ds : List Declarer) (i k : ℕ) (d : Declarer) → AscendBy (λ (x : Declarer). x.first) ds → slice_get ds i ≡ Some d → d.first ≡ k → declarer_at ds k ≡ Some d
+-- the declaration group with this index is the one that is found
+pub declarer_found : (ds : List DeclGroup) (i k : ℕ) (d : DeclGroup) → IsIncreasingBy (λ (x : DeclGroup). x.first) ds → slice_get ds i ≡ Some d → d.first ≡ k → decl_group_at ds k ≡ Some d
 declarer_found [] i k d up there is = absurd (let e : None ≡ Some d = there in cc)
 declarer_found (x ∷ ds) zero k d up there is =
     let same : x ≡ d = some_one x d there in
-    let e : x.first ≡ k = ap (λ (y : Declarer). y.first) same ∙ is in
+    let e : x.first ≡ k = ap (λ (y : DeclGroup). y.first) same ∙ is in
     rw (eq-eqb x.first k e) (ap Some same)
 declarer_found (x ∷ ds) (suc i) k d up there is =
     let l : x.first < d.first = up 0 (suc i) x d (omega arith) refl there in
     elim (cases_Bool (x.first == k)) [
       | inl t ↦ absurd (let e : x.first ≡ k = eqb-true x.first k t in omega (arith, e, is, l))
-      | inr f ↦ rw f (declarer_found ds i k d (ascend_tail (λ (y : Declarer). y.first) x ds up) there is)
+      | inr f ↦ rw f (declarer_found ds i k d (ascend_tail (λ (y : DeclGroup). y.first) x ds up) there is)
     ]
 
-pub declarer_none : (ds : List Declarer) (k : ℕ) → HasNoneBy (λ (x : Declarer). x.first) ds k → declarer_at ds k ≡ None
+pub declarer_none : (ds : List DeclGroup) (k : ℕ) → HasNoneBy (λ (x : DeclGroup). x.first) ds k → decl_group_at ds k ≡ None
 declarer_none [] k none = refl
 declarer_none (x ∷ ds) k none = elim (cases_Bool (x.first == k)) [
   | inl t ↦ absurd (none 0 x refl (eqb-true x.first k t))
@@ -42,18 +42,18 @@ declarer_none (x ∷ ds) k none = elim (cases_Bool (x.first == k)) [
 ]
 
 -- a member has the number of what declares it
-member_number : (d : Declared) (o : Option Declarer) (m : Member) → member_by d o ≡ Some m → m.number ≡ d.number
+member_number : (d : Declared) (o : Option DeclGroup) (m : Member) → declared_member d o ≡ Some m → m.number ≡ d.number
 member_number d None m e = absurd (let f : None ≡ Some m = e in cc)
 member_number d (Some by) m e = ap (λ (x : Member). x.number) (sym (some_one _ m e))
 
--- what is declared stands in the order of its tokens
-pub members_ascend : (by : List Declarer) (ds : List Declared) → AscendBy (λ (d : Declared). d.number) ds → AscendBy (λ (m : Member). m.number) (members_by by ds)
+-- the members are in token order
+pub members_ascend : (by : List DeclGroup) (ds : List Declared) → IsIncreasingBy (λ (d : Declared). d.number) ds → IsIncreasingBy (λ (m : Member). m.number) (declared_members by ds)
 members_ascend by ds up =
-    ascending (λ (m : Member). m.number) 0 (members_by by ds)
-    (picked (λ (d : Declared). d.number) (λ (m : Member). m.number) (λ d. member_by d (declarer_at by d.declared_by)) (λ d m e. member_number d (declarer_at by d.declared_by) m e) 0 ds
+    ascending (λ (m : Member). m.number) 0 (declared_members by ds)
+    (picked (λ (d : Declared). d.number) (λ (m : Member). m.number) (λ d. declared_member d (decl_group_at by d.declared_by)) (λ d m e. member_number d (decl_group_at by d.declared_by) m e) 0 ds
     (ascends_by (λ (d : Declared). d.number) 0 ds up (λ x e. omega arith)))
 
--- the place of a token among members, if it is there
+-- the index of a token among the members, if it is one
 pub data Place_of (members : List Member) (number : ℕ) : Type 0 where
   At : (i : ℕ) (m : Member) → slice_get members i ≡ Some m → m.number ≡ number → Place_of members number
   Nowhere : ((i : ℕ) (m : Member) → slice_get members i ≡ Some m → m.number ≡ number → ⊥) → Place_of members number
@@ -70,18 +70,18 @@ place_of_number (x ∷ ms) k = elim (cases_eq x.number k) [ inl e ↦ At 0 x ref
     behind ne (At i m e f) = At (suc i) m e f
     behind ne (Nowhere none) = Nowhere (not_there ne none)
 
--- ---- what is read at a place
+-- ---- the entry with a found index
 
-pub declarer_read : (ds : List Declarer) (at k : ℕ) (d : Declarer) → AscendBy (λ (x : Declarer). x.first) ds → IsPlaceBy (λ (x : Declarer). x.first) ds k at → Some (get_or ds at d) ≡ declarer_at ds k
+pub declarer_read : (ds : List DeclGroup) (at k : ℕ) (d : DeclGroup) → IsIncreasingBy (λ (x : DeclGroup). x.first) ds → IsIndexBy (λ (x : DeclGroup). x.first) ds k at → Some (get_or ds at d) ≡ decl_group_at ds k
 declarer_read ds at k d up f = ap Some (get_or_from_slice_get ds at f.element d f.there) ∙ sym (declarer_found ds at k f.element up f.there f.has)
 
 -- one identifier more
-pub members_more : (by : List Declarer) (ds : List Declared) (i : ℕ) (d : Declared) (o : Option Member) → i < length ds → o ≡ member_by (get_or ds i d) (declarer_at by (get_or ds i d).declared_by) →
-    members_by by (take (i + 1) ds) ≡ members_by by (take i ds) ++ option_to_list o
+pub members_more : (by : List DeclGroup) (ds : List Declared) (i : ℕ) (d : Declared) (o : Option Member) → i < length ds → o ≡ declared_member (get_or ds i d) (decl_group_at by (get_or ds i d).declared_by) →
+    declared_members by (take (i + 1) ds) ≡ declared_members by (take i ds) ++ option_to_list o
 members_more by ds i d o l is =
-    let told : Declared → Option Member = λ (x : Declared). member_by x (declarer_at by x.declared_by) in
+    let told : Declared → Option Member = λ (x : Declared). declared_member x (decl_group_at by x.declared_by) in
     let x = get_or ds i d in
-    ap (filter_map told) (take_more ds i d l) ∙ filter_map-append told (take i ds) (x ∷ []) ∙ ap (λ (ms : List Member). members_by by (take i ds) ++ ms) (last told x o is)
+    ap (filter_map told) (take_more ds i d l) ∙ filter_map-append told (take i ds) (x ∷ []) ∙ ap (λ (ms : List Member). declared_members by (take i ds) ++ ms) (last told x o is)
   where
     last : (told : Declared → Option Member) (x : Declared) (o : Option Member) → o ≡ told x → filter_map told (x ∷ []) ≡ option_to_list o
     last told x None e = rw (← e) refl
@@ -89,7 +89,7 @@ members_more by ds i d o l is =
 
 -- ---- how often a member is counted
 
-pub count_found : (members : List Member) (counts : List ℕ) (alias at : ℕ) → AscendBy (λ (m : Member). m.number) members → IsPlaceBy (λ (m : Member). m.number) members alias at → IsCountOf members counts alias (slice_index counts at)
+pub count_found : (members : List Member) (counts : List ℕ) (alias at : ℕ) → IsIncreasingBy (λ (m : Member). m.number) members → IsIndexBy (λ (m : Member). m.number) members alias at → IsCountOf members counts alias (slice_index counts at)
 count_found members counts alias at up f = record {
   declared = λ i m there is. ap (slice_index counts) (one_of_number (λ n. []) members at i f.element m up f.there there (f.has ∙ sym is));
   undeclared = λ none. absurd (none at f.element f.there f.has);

@@ -1,13 +1,13 @@
 -- Two uses of one number in one block.
 use Rattle.std.proofs.Common.{◌≡◌, ℕ, List, sym, ap, ◌∙◌}
-use Rattle.ob_rows.specs.declared.rows.Block.{Block}
-use Rattle.ob_rows.specs.declared.rows.Used.{Used}
+use Rattle.module_table.specs.declared.rows.Block.{Block}
+use Rattle.module_table.specs.declared.rows.Used.{Used}
 use Rattle.ob_scope.specs.declared.members.Member.{Member}
-use Rattle.ob_scope.specs.Scope.{IsSeen, Resolves, ResolvesToNothing}
+use Rattle.ob_scope.specs.Scope.{IsVisible, Resolves, ResolvesToNothing}
 
 module _ (name : ℕ → List ℕ) (blocks : List Block) (ds : List Member) where
-  -- two uses of one number in one block see the same
-  seen-as : (v w : Used) → v.block ≡ w.block → v.number ≡ w.number → (b : ℕ) (d : Member) → IsSeen name blocks ds w b d → IsSeen name blocks ds v b d
+  -- the declarations visible at two uses with equal numbers in one block are equal
+  seen-as : (v w : Used) → v.block ≡ w.block → v.number ≡ w.number → (b : ℕ) (d : Member) → IsVisible name blocks ds w b d → IsVisible name blocks ds v b d
   seen-as v w block number b d t = record {
     declared = t.declared;
     placed = t.placed;

@@ -1,14 +1,14 @@
--- The type that stands behind a use, by its place.
+-- The type declared after a use, by its index.
 use Rattle.std.proofs.Common.{ℕ, List}
-use Rattle.ob_rows.specs.declared.rows.Block.{Block}
-use Rattle.ob_rows.specs.declared.rows.Used.{Used}
+use Rattle.module_table.specs.declared.rows.Block.{Block}
+use Rattle.module_table.specs.declared.rows.Used.{Used}
 use Rattle.ob_scope.specs.declared.members.Member.{Member}
 use Rattle.ob_scope.specs.Scope.{IsLaterType}
-use Rattle.ob_scope.specs.Looked.{IsTypeAfter}
+use Rattle.ob_scope.specs.Lookups.{IsTypeAfter}
 use Rattle.ob_scope.proofs.Elements.{contains_slice, slice_contains}
 
 module _ (name : ℕ → List ℕ) (blocks : List Block) (members : List Member) where
-  -- a type that stands behind a use
+  -- a type declared after a use
   pub later_from_place : (u : Used) (i : ℕ) (h : IsTypeAfter name members u.block u.number i) → IsLaterType name members u h.member
   later_from_place u i h = record {
     declared = contains_slice members i h.member h.here.there;

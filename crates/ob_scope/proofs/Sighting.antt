@@ -1,4 +1,4 @@
--- What is seen, from member to member and from block to block.
+-- Visible members, from member to member and from block to block.
 use Rattle.std.proofs.Common.{◌≡◌, ℕ, ◌+◌, ◌-◌, ◌<◌, ◌≤◌, ◌⊎◌, inl, inr, List, length, get_or, Option, Some, None, refl, sym, ap, ◌∙◌, subst, arith, ⊎_elim}
 use Rattle.std.specs.Prelude.{slice_get, slice_index, slice_index_or, slice_set, Contains}
 use Rattle.std.specs.Str.{bytes_eq}
@@ -6,22 +6,22 @@ use Rattle.std.proofs.lemmas.Bool.{cases_lt, cases_eq}
 use Rattle.std.proofs.lemmas.List.{get_or-set_same, get_or-set_other}
 use Rattle.std.proofs.lemmas.List.Sums.{passes_at_first}
 use Rattle.std.proofs.lemmas.Slice.Eq.{bytes_eq-Decides}
-use Rattle.ob_rows.specs.declared.rows.Block.{Block}
-use Rattle.ob_rows.specs.Order.{AscendBy}
+use Rattle.module_table.specs.declared.rows.Block.{Block}
+use Rattle.module_table.specs.Order.{IsIncreasingBy}
 use Rattle.ob_scope.specs.declared.members.Member.{Member}
 use Rattle.text_hash.specs.declared.name.Name.{Name}
 use Rattle.ob_scope.specs.declared.members.Scope.{Scope}
-use Rattle.ob_scope.specs.declared.members.Scope.TheVariants as places
-use Rattle.ob_scope.specs.Looked.{use_in, IsResolved}
-use Rattle.ob_rows.specs.Blocks.{IsAround, itself}
-use Rattle.ob_scope.specs.Scope.{IsSeen, ResolvesToNothing}
-use Rattle.ob_scope.specs.Sighted.{IsFrontBefore}
-use Rattle.ob_scope.specs.Sights.{name_number, AreNumbered, AreSeen, IsIn, IsInnermost, IsLimit, IsNamedAt, IsOpen, IsOpenScope, IsSeenAt, IsStart}
+use Rattle.ob_scope.specs.declared.members.Scope.TheVariants as locations
+use Rattle.ob_scope.specs.Lookups.{use_in, IsResolved}
+use Rattle.module_table.specs.Blocks.{Encloses, itself}
+use Rattle.ob_scope.specs.Scope.{IsVisible, ResolvesToNothing}
+use Rattle.ob_scope.specs.BindingStates.{IsPrefixBefore}
+use Rattle.ob_scope.specs.Visibility.{name_number, AreInterned, AreVisible, IsIn, IsInnermost, IsLimit, IsNamedAt, IsOpen, IsOpenScope, IsVisibleAt, IsStart}
 use Rattle.ob_scope.proofs.Elements.{contains_slice, slice_contains, slice_there, some_one}
 use Rattle.ob_scope.proofs.Opening.{around_open, open_around}
 
 module _ (blocks : List Block) (members : List Member) (numbers : List ℕ) where
-  block_one : (b c : ℕ) → places.Block b ≡ places.Block c → b ≡ c
+  block_one : (b c : ℕ) → locations.Block b ≡ locations.Block c → b ≡ c
   block_one b c e = cc
 
   -- the block of a member is one
@@ -37,15 +37,15 @@ module _ (blocks : List Block) (members : List Member) (numbers : List ℕ) wher
   named_later j n k p = record { below = (let l : k < j = p.below in omega arith); number = p.number; block = p.block; inside = p.inside }
 
   -- another block is entered
-  module _ (old new : List ℕ) (since fresh j : ℕ) (latest earlier : List (Option ℕ)) (kept : (b : ℕ) → Contains new b → Contains old b ⊎ (since ≤ b)) (later : since ≤ fresh)
-      (s : AreSeen blocks members numbers old since j latest earlier) where
+  module _ (old new : List ℕ) (since watermark j : ℕ) (latest earlier : List (Option ℕ)) (kept : (b : ℕ) → Contains new b → Contains old b ⊎ (since ≤ b)) (later : since ≤ watermark)
+      (s : AreVisible blocks members numbers old since j latest earlier) where
     was_open : (k b : ℕ) → k < j → IsIn members k b → Contains new b → Contains old b
     was_open k b below p has = elim (kept b has) [
       | inl was ↦ was
-      | inr opened ↦ absurd (let l : b < since = s.begun k b below p in omega arith)
+      | inr scope_stack ↦ absurd (let l : b < since = s.begun k b below p in omega arith)
     ]
 
-    pub seen_enter : AreSeen blocks members numbers new fresh j latest earlier
+    pub seen_enter : AreVisible blocks members numbers new watermark j latest earlier
     seen_enter = record {
       begun = λ k b below p. (let l : b < since = s.begun k b below p in omega arith);
       ordered = λ k i b c before below p q has. s.ordered k i b c before below p q (was_open k b (omega arith) p has);
@@ -57,9 +57,9 @@ module _ (blocks : List Block) (members : List Member) (numbers : List ℕ) wher
       older = s.older;
     }
 
-  module _ (stack : List ℕ) (fresh j : ℕ) (latest earlier : List (Option ℕ)) (s : AreSeen blocks members numbers stack fresh j latest earlier) where
+  module _ (stack : List ℕ) (watermark j : ℕ) (latest earlier : List (Option ℕ)) (s : AreVisible blocks members numbers stack watermark j latest earlier) where
     -- a member that is declared in no block
-    pub seen_field : ((b : ℕ) → IsIn members j b → ⊥) → AreSeen blocks members numbers stack fresh (j + 1) latest earlier
+    pub seen_field : ((b : ℕ) → IsIn members j b → ⊥) → AreVisible blocks members numbers stack watermark (j + 1) latest earlier
     seen_field none = record {
       begun = λ k b below p. s.begun k b (before k b below p) p;
       ordered = λ k i b c l below p q has. s.ordered k i b c l (before i c below q) p q has;
@@ -81,7 +81,7 @@ module _ (blocks : List Block) (members : List Member) (numbers : List ℕ) wher
         ]
 
     -- one start is another
-    pub seen_start : (n : ℕ) (at : Option ℕ) → n < length latest → IsStart members numbers stack j n at → AreSeen blocks members numbers stack fresh j (slice_set latest n at) earlier
+    pub seen_start : (n : ℕ) (at : Option ℕ) → n < length latest → IsStart members numbers stack j n at → AreVisible blocks members numbers stack watermark j (slice_set latest n at) earlier
     seen_start n at within start = record {
       begun = s.begun;
       ordered = s.ordered;
@@ -93,7 +93,7 @@ module _ (blocks : List Block) (members : List Member) (numbers : List ℕ) wher
       older = s.older;
     }
 
-    -- a start whose block has ended gives way to the one before it
+    -- a head of candidates whose block has ended is replaced by the candidate before it
     pub start_back : (n i : ℕ) → IsStart members numbers stack j n (Some i) → ((b : ℕ) → IsIn members i b → Contains stack b → ⊥) → IsStart members numbers stack j n (slice_index_or earlier i None)
     start_back n i start ended =
         let here = start.some i refl in
@@ -116,7 +116,7 @@ module _ (blocks : List Block) (members : List Member) (numbers : List ℕ) wher
         }
 
     -- a member that is declared in the innermost block
-    module _ (ascend : AscendBy (λ (b : Block). b.first) blocks) (opened : IsOpen blocks stack fresh) (block : ℕ) (last : IsInnermost stack block) (here : IsIn members j block)
+    module _ (ascending_starts : IsIncreasingBy (λ (b : Block). b.first) blocks) (scope_stack : IsOpen blocks stack watermark) (block : ℕ) (last : IsInnermost stack block) (here : IsIn members j block)
         (within : slice_index numbers j < length latest) (inside : j < length earlier) where
       first : ℕ
       first = slice_index numbers j
@@ -124,17 +124,17 @@ module _ (blocks : List Block) (members : List Member) (numbers : List ℕ) wher
       here_open : Contains stack block
       here_open = contains_slice stack (length stack - 1) block last
 
-      pub seen_bind : AreSeen blocks members numbers stack fresh (j + 1) (slice_set latest (slice_index numbers j) (Some j)) (slice_set earlier j (slice_index_or latest (slice_index numbers j) None))
+      pub seen_bind : AreVisible blocks members numbers stack watermark (j + 1) (slice_set latest (slice_index numbers j) (Some j)) (slice_set earlier j (slice_index_or latest (slice_index numbers j) None))
       seen_bind = record {
         begun = λ k b below p. ⊎_elim
             (λ (less : k < j). s.begun k b less p)
-            (λ (past : j ≤ k). (let same : b ≡ block = one_in j b block (in_at k j b (omega arith) p) here in subst (λ (x : ℕ). x < fresh) (sym same) (opened.begun block here_open)))
+            (λ (past : j ≤ k). (let same : b ≡ block = one_in j b block (in_at k j b (omega arith) p) here in subst (λ (x : ℕ). x < watermark) (sym same) (scope_stack.begun block here_open)))
             (cases_lt k j);
         ordered = λ k i b c before below p q has. ⊎_elim
             (λ (less : i < j). s.ordered k i b c before less p q has)
             (λ (past : j ≤ i). (
             let same : c ≡ block = one_in j c block (in_at i j c (omega arith) q) here in
-            subst (λ (x : ℕ). IsAround blocks b x) (sym same) (open_around blocks stack opened.chain b block last has)))
+            subst (λ (x : ℕ). Encloses blocks b x) (sym same) (open_around blocks stack scope_stack.chain b block last has)))
             (cases_lt i j);
         starts = λ m. ⊎_elim (λ (e : m ≡ slice_index numbers j). start_here m e) (λ (ne : m ≡ slice_index numbers j → ⊥). start_there m ne) (cases_eq m (slice_index numbers j));
         behind = λ k i b c before below same p q around. ⊎_elim
@@ -172,11 +172,11 @@ module _ (blocks : List Block) (members : List Member) (numbers : List ℕ) wher
             some = λ x e. named_later j m x ((s.starts m).some x e);
           })
 
-          behind_here : (k i b c : ℕ) → k < i → i ≡ j → slice_index numbers k ≡ slice_index numbers i → IsIn members k b → IsIn members i c → IsAround blocks b c
+          behind_here : (k i b c : ℕ) → k < i → i ≡ j → slice_index numbers k ≡ slice_index numbers i → IsIn members k b → IsIn members i c → Encloses blocks b c
               → IsLimit (slice_index_or (slice_set earlier j (slice_index_or latest (slice_index numbers j) None)) i None) k
           behind_here k i b c before at same p q around =
               let innermost : c ≡ block = one_in j c block (in_at i j c at q) here in
-              let shown = around_open blocks stack opened.chain ascend b block last (subst (λ (x : ℕ). IsAround blocks b x) innermost around) in
+              let shown = around_open blocks stack scope_stack.chain ascending_starts b block last (subst (λ (x : ℕ). Encloses blocks b x) innermost around) in
               rw at (rw (get_or-set_same earlier j (slice_index_or latest (slice_index numbers j) None) None inside)
               ((s.starts (slice_index numbers j)).limit k (record { named = record { below = omega arith; number = same ∙ ap (slice_index numbers) at; block = b; inside = p }; is_open = shown })))
 
@@ -185,9 +185,9 @@ module _ (blocks : List Block) (members : List Member) (numbers : List ℕ) wher
               (sym (get_or-set_same earlier j (slice_index_or latest (slice_index numbers j) None) None inside) ∙ ap (λ (x : ℕ). slice_index_or (slice_set earlier j (slice_index_or latest (slice_index numbers j) None)) x None) (sym is) ∙ e))
 
 -- nothing is declared yet
-pub seen_none : (blocks : List Block) (members : List Member) (numbers stack : List ℕ) (fresh : ℕ) (latest earlier : List (Option ℕ)) → ((n : ℕ) → slice_index_or latest n None ≡ None) → ((i : ℕ) → slice_index_or earlier i None ≡ None)
-    → AreSeen blocks members numbers stack fresh 0 latest earlier
-seen_none blocks members numbers stack fresh latest earlier no_latest no_earlier = record {
+pub seen_none : (blocks : List Block) (members : List Member) (numbers stack : List ℕ) (watermark : ℕ) (latest earlier : List (Option ℕ)) → ((n : ℕ) → slice_index_or latest n None ≡ None) → ((i : ℕ) → slice_index_or earlier i None ≡ None)
+    → AreVisible blocks members numbers stack watermark 0 latest earlier
+seen_none blocks members numbers stack watermark latest earlier no_latest no_earlier = record {
   begun = λ k b below p. absurd (omega arith);
   ordered = λ k i b c before below p q has. absurd (omega arith);
   starts = λ n. record { limit = λ k seen. absurd (let l : k < 0 = seen.named.below in omega arith); some = λ x e. absurd (let f : None ≡ Some x = sym (no_latest n) ∙ e in cc) };
@@ -207,19 +207,19 @@ same_text names a b e within =
 
 -- ---- what a use resolves to
 
-module _ (name : ℕ → List ℕ) (blocks : List Block) (members : List Member) (names : List Name) (numbers : List ℕ) (numbered : AreNumbered name members names numbers)
-    (stack : List ℕ) (fresh j : ℕ) (latest earlier : List (Option ℕ)) (s : AreSeen blocks members numbers stack fresh j latest earlier)
-    (ascend : AscendBy (λ (b : Block). b.first) blocks) (opened : IsOpen blocks stack fresh) (block token : ℕ) (last : IsInnermost stack block) (front : IsFrontBefore members j token) where
-  -- what the use sees is seen here
-  seen_here : (b : ℕ) (e : Member) → IsSeen name blocks members (use_in block token) b e → (k : ℕ) × (slice_get members k ≡ Some e) × IsSeenAt members numbers stack j (name_number names (name token)) k
+module _ (name : ℕ → List ℕ) (blocks : List Block) (members : List Member) (names : List Name) (numbers : List ℕ) (numbered : AreInterned name members names numbers)
+    (stack : List ℕ) (watermark j : ℕ) (latest earlier : List (Option ℕ)) (s : AreVisible blocks members numbers stack watermark j latest earlier)
+    (ascending_starts : IsIncreasingBy (λ (b : Block). b.first) blocks) (scope_stack : IsOpen blocks stack watermark) (block token : ℕ) (last : IsInnermost stack block) (prefix : IsPrefixBefore members j token) where
+  -- a declaration visible at the use is visible in the open blocks
+  seen_here : (b : ℕ) (e : Member) → IsVisible name blocks members (use_in block token) b e → (k : ℕ) × (slice_get members k ≡ Some e) × IsVisibleAt members numbers stack j (name_number names (name token)) k
   seen_here b e t =
       let p = slice_contains members e t.declared in
-      let below : p.0 < j = ⊎_elim (λ (less : p.0 < j). less) (λ (past : j ≤ p.0). absurd (let l : token ≤ e.number = front.behind p.0 e past p.1 in let k : e.number < token = t.before in omega arith)) (cases_lt p.0 j) in (
+      let below : p.0 < j = ⊎_elim (λ (less : p.0 < j). less) (λ (past : j ≤ p.0). absurd (let l : token ≤ e.number = prefix.behind p.0 e past p.1 in let k : e.number < token = t.before in omega arith)) (cases_lt p.0 j) in (
         p.0,
         p.1,
         record {
           named = record { below = below; number = numbered.each p.0 e p.1 ∙ ap (name_number names) t.named; block = b; inside = record { member = e; there = p.1; placed = t.placed } };
-          is_open = around_open blocks stack opened.chain ascend b block last t.around;
+          is_open = around_open blocks stack scope_stack.chain ascending_starts b block last t.around;
         },
       )
 
@@ -260,8 +260,8 @@ module _ (name : ℕ → List ℕ) (blocks : List Block) (members : List Member)
             declared = contains_slice members i d at;
             placed = here.inside.placed;
             named = same_text names (name d.number) (name token) (sym (numbered.each i d at) ∙ here.number) (rw (← numbered.each i d at) (numbered.within i d at));
-            before = front.before i d here.below at;
-            around = open_around blocks stack opened.chain c block last shown;
+            before = prefix.before i d here.below at;
+            around = open_around blocks stack scope_stack.chain c block last shown;
           };
           innermost = λ b e t. (
               let other = seen_here b e t in

@@ -7,8 +7,8 @@ use Rattle.std.proofs.lemmas.Option.{slice_get_within}
 use Rattle.std.proofs.lemmas.Slice.Eq.{bytes_eq-Decides}
 use Rattle.ob_scope.specs.declared.members.Member.{Member}
 use Rattle.ob_scope.specs.declared.members.Scope.{Scope}
-use Rattle.ob_scope.specs.declared.members.Scope.TheVariants as places
-use Rattle.ob_scope.specs.Scope.{AreTwice, IsFirstTwice, NoneTwice}
+use Rattle.ob_scope.specs.declared.members.Scope.TheVariants as locations
+use Rattle.ob_scope.specs.Scope.{AreDuplicates, IsFirstDuplicate, HasNoDuplicates}
 use Rattle.ob_scope.proofs.Elements.{slice_there, some_one}
 use Rattle.std.proofs.Common.{sym, ◌∙◌, subst}
 
@@ -19,28 +19,28 @@ same_name xs ys = elim (cases_Bool (bytes_eq xs ys)) [
 ]
 
 same_place : (p q : Scope) → (p ≡ q) ⊎ (p ≡ q → ⊥)
-same_place (places.Block b) (places.Block c) = elim (cases_eq b c) [ inl e ↦ inl (ap places.Block e) | inr ne ↦ inr (λ e. ne (let f : places.Block b ≡ places.Block c = e in cc)) ]
-same_place (places.Block b) (places.Record r) = inr (λ e. absurd cc)
-same_place (places.Record r) (places.Block b) = inr (λ e. absurd cc)
-same_place (places.Record r) (places.Record s) = elim (cases_eq r s) [ inl e ↦ inl (ap places.Record e) | inr ne ↦ inr (λ e. ne (let f : places.Record r ≡ places.Record s = e in cc)) ]
+same_place (locations.Block b) (locations.Block c) = elim (cases_eq b c) [ inl e ↦ inl (ap locations.Block e) | inr ne ↦ inr (λ e. ne (let f : locations.Block b ≡ locations.Block c = e in cc)) ]
+same_place (locations.Block b) (locations.Record r) = inr (λ e. absurd cc)
+same_place (locations.Record r) (locations.Block b) = inr (λ e. absurd cc)
+same_place (locations.Record r) (locations.Record s) = elim (cases_eq r s) [ inl e ↦ inl (ap locations.Record e) | inr ne ↦ inr (λ e. ne (let f : locations.Record r ≡ locations.Record s = e in cc)) ]
 
 module _ (name : ℕ → List ℕ) (ds : List Member) where
-  are_twice : (d e : Member) → AreTwice name d e ⊎ (AreTwice name d e → ⊥)
+  are_twice : (d e : Member) → AreDuplicates name d e ⊎ (AreDuplicates name d e → ⊥)
   are_twice d e = elim (same_place d.place e.place) [
     | inl p ↦ elim (same_name (name d.number) (name e.number)) [ inl n ↦ inl (p, n) | inr other ↦ inr (λ t. other t.1) ]
     | inr other ↦ inr (λ t. other t.0)
   ]
 
-  -- no two of the members before this place
+  -- no duplicates among the members before this index
   NoneBefore : ℕ → Type 0
-  NoneBefore n = (i j : ℕ) (f g : Member) → i < j → j < n → slice_get ds i ≡ Some f → slice_get ds j ≡ Some g → AreTwice name f g → ⊥
+  NoneBefore n = (i j : ℕ) (f g : Member) → i < j → j < n → slice_get ds i ≡ Some f → slice_get ds j ≡ Some g → AreDuplicates name f g → ⊥
 
   Pair : Type 0
-  Pair = (d e : Member) × IsFirstTwice name ds d e
+  Pair = (d e : Member) × IsFirstDuplicate name ds d e
 
-  -- a member beside those before this place
+  -- a member without duplicates before this index
   Alone : Member → ℕ → Type 0
-  Alone e k = (i : ℕ) (f : Member) → i < k → slice_get ds i ≡ Some f → AreTwice name f e → ⊥
+  Alone e k = (i : ℕ) (f : Member) → i < k → slice_get ds i ≡ Some f → AreDuplicates name f e → ⊥
 
   beside : (n : ℕ) (e : Member) → slice_get ds n ≡ Some e → NoneBefore n → (k : ℕ) → k ≤ n → Alone e k ⊎ Pair
   unfolding NoneBefore Pair Alone
@@ -54,7 +54,7 @@ module _ (name : ℕ → List ℕ) (ds : List Member) where
           | inl twice ↦ inr (d.0, e, record { first = k; second = n; order = omega arith; at_first = d.1; at_second = at; twice = twice; none_before = λ i j f g l m. none i j f g l m })
           | inr other ↦ inl (λ i f l there t. ⊎_elim
               (λ (less : i < k). alone i f less there t)
-              (λ (past : k ≤ i). (let same : i ≡ k = omega arith in let eq : d.0 ≡ f = some_one d.0 f (sym d.1 ∙ ap (slice_get ds) (sym same) ∙ there) in other (subst (λ (x : Member). AreTwice name x e) (sym eq) t)))
+              (λ (past : k ≤ i). (let same : i ≡ k = omega arith in let eq : d.0 ≡ f = some_one d.0 f (sym d.1 ∙ ap (slice_get ds) (sym same) ∙ there) in other (subst (λ (x : Member). AreDuplicates name x e) (sym eq) t)))
               (cases_lt i k))
         ])
   ]
@@ -70,12 +70,12 @@ module _ (name : ℕ → List ℕ) (ds : List Member) where
           | inr pair ↦ inr pair
           | inl alone ↦ inl (λ i j f g l m at_f at_g t. ⊎_elim
               (λ (less : j < n). none i j f g l less at_f at_g t)
-              (λ (past : n ≤ j). (let same : j ≡ n = omega arith in let eq : e.0 ≡ g = some_one e.0 g (sym e.1 ∙ ap (slice_get ds) (sym same) ∙ at_g) in alone i f (omega arith) at_f (subst (λ (x : Member). AreTwice name f x) (sym eq) t)))
+              (λ (past : n ≤ j). (let same : j ≡ n = omega arith in let eq : e.0 ≡ g = some_one e.0 g (sym e.1 ∙ ap (slice_get ds) (sym same) ∙ at_g) in alone i f (omega arith) at_f (subst (λ (x : Member). AreDuplicates name f x) (sym eq) t)))
               (cases_lt j n))
         ])
   ]
 
-  pub none_or_first : NoneTwice name ds ⊎ ((d e : Member) × IsFirstTwice name ds d e)
+  pub none_or_first : HasNoDuplicates name ds ⊎ ((d e : Member) × IsFirstDuplicate name ds d e)
   unfolding NoneBefore Pair
   none_or_first = elim (until (length ds) (omega arith)) [
     | inl none ↦ inl (λ i j f g l at_f at_g. none i j f g l (slice_get_within ds j g at_g) at_f at_g)

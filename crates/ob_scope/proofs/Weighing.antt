@@ -6,16 +6,16 @@ use Rattle.std.proofs.lemmas.Slice.Eq.{bytes_eq-Decides}
 use Rattle.std.proofs.lemmas.Option.{slice_get_within}
 use Rattle.ob_scan.specs.declared.token.Token.{Token}
 use Rattle.ob_scan.specs.Texts.{text_at}
-use Rattle.ob_rows.specs.declared.rows.Import.{Import}
-use Rattle.ob_rows.specs.declared.rows.Used.{Used}
-use Rattle.ob_rows.specs.Parts.{Rows}
+use Rattle.module_table.specs.declared.rows.Import.{Import}
+use Rattle.module_table.specs.declared.rows.Used.{Used}
+use Rattle.module_table.specs.Parts.{Rows}
 use Rattle.ob_scope.specs.declared.members.Member.{Member}
-use Rattle.ob_rows.specs.Order.{AscendBy}
+use Rattle.module_table.specs.Order.{IsIncreasingBy}
 use Rattle.ob_scope.specs.Members.{members_of}
-use Rattle.ob_scope.specs.Scope.{NoneTwice}
+use Rattle.ob_scope.specs.Scope.{HasNoDuplicates}
 use Rattle.ob_scope.specs.Counted.{Counts, IsQualifiedBy, Crosses, HasWeight}
 use Rattle.ob_scope.specs.Scoped.{AliasUses, IsAlias, AreAliases, ModuleScopes, AreScopes}
-use Rattle.ob_scope.specs.Weights.{uses_across, uses_for, uses_of_all}
+use Rattle.ob_scope.specs.Weights.{uses_of_import, uses_for, uses_of_all}
 use Rattle.ob_scope.proofs.Ascending.{Ascends, ascends_by}
 use Rattle.ob_scope.proofs.Counting.{counts-none, counts-same, counts-within, counts-either}
 use Rattle.ob_scope.proofs.Elements.{slice_there}
@@ -49,7 +49,7 @@ any-above P f low k (x ∷ xs) a is (inr h) =
     let l : low ≤ f x = a.0 in
     omega arith
 
--- where each alias counts uses of its own, their sum counts those of any
+-- if each alias counts uses of its own, the sum is the count of the uses that any alias qualifies
 counts-total : (P : Import → Used → Type 0) (f : AliasUses → ℕ) (uses : List Used) → ((m n : Import) (u : Used) → P m u → P n u → m.alias ≡ n.alias) →
     (low : ℕ) (ms : List Import) (rows : List AliasUses) → Ascends (λ (m : Import). m.alias) low ms → length rows ≡ length ms →
     ((i : ℕ) (m : Import) (a : AliasUses) → slice_get ms i ≡ Some m → slice_get rows i ≡ Some a → Counts (P m) uses (f a)) →
@@ -65,12 +65,12 @@ counts-total P f uses one low (m ∷ ms) (a ∷ rows) up as_many each =
 
 -- ---- a use with a dot is of one alias
 
-one_alias : (name : ℕ → List ℕ) (r : Rows) (a b : ℕ) (u : Used) → NoneTwice name (members_of r) → IsQualifiedBy name r.blocks (members_of r) a u → IsQualifiedBy name r.blocks (members_of r) b u → a ≡ b
+one_alias : (name : ℕ → List ℕ) (r : Rows) (a b : ℕ) (u : Used) → HasNoDuplicates name (members_of r) → IsQualifiedBy name r.blocks (members_of r) a u → IsQualifiedBy name r.blocks (members_of r) b u → a ≡ b
 one_alias name r a b u once p q =
     let same : p.declared ≡ q.declared = means_once name r.blocks (members_of r) u p.declared q.declared once p.means q.means in
     sym p.is_alias ∙ ap (λ (d : Member). d.number) same ∙ q.is_alias
 
--- the uses of an alias that stands for the module, else none
+-- the uses of an alias if it denotes the module, otherwise none
 abbrev Of : (ℕ → List ℕ) → Rows → List ℕ → Import → Used → Type 0
 Of name r imported m u = (name m.imported ≡ imported) × IsQualifiedBy name r.blocks (members_of r) m.alias u
 
@@ -90,7 +90,7 @@ any_crosses name r imported u h =
     record { item = c.0; is_item = c.1; of = c.2.0; qualified = c.2.1 }
 
 -- the items have the numbers of their aliases
-items_ascend : (name : ℕ → List ℕ) (r : Rows) (aliases : List AliasUses) → AscendBy (λ (a : AliasUses). a.alias) aliases → AreAliases name r aliases → Ascends (λ (m : Import). m.alias) 0 r.imports
+items_ascend : (name : ℕ → List ℕ) (r : Rows) (aliases : List AliasUses) → IsIncreasingBy (λ (a : AliasUses). a.alias) aliases → AreAliases name r aliases → Ascends (λ (m : Import). m.alias) 0 r.imports
 items_ascend name r aliases up are =
     ascends_by (λ (m : Import). m.alias) 0 r.imports
     (λ i j x y below p q.
@@ -102,17 +102,17 @@ items_ascend name r aliases up are =
     (λ x e. omega arith)
 
 -- the weight of a module is the sum of the uses of its aliases
-weight_sum : (name : ℕ → List ℕ) (r : Rows) (aliases : List AliasUses) (imported : List ℕ) → NoneTwice name (members_of r) → Ascends (λ (m : Import). m.alias) 0 r.imports →
-    AreAliases name r aliases → HasWeight name r imported (uses_across aliases imported)
+weight_sum : (name : ℕ → List ℕ) (r : Rows) (aliases : List AliasUses) (imported : List ℕ) → HasNoDuplicates name (members_of r) → Ascends (λ (m : Import). m.alias) 0 r.imports →
+    AreAliases name r aliases → HasWeight name r imported (uses_of_import aliases imported)
 weight_sum name r aliases imported once up are =
     let sum : Counts (λ u. IsAny (λ m. Of name r imported m u) r.imports) r.uses (sum_by (uses_for imported) aliases) =
     counts-total (Of name r imported) (uses_for imported) r.uses (λ m n u p q. one_alias name r m.alias n.alias u once p.1 q.1)
     0 r.imports aliases up are.as_many (λ i m a e g. of_one name r imported m a (are.each i m a e g)) in
-    counts-same (λ u. IsAny (λ m. Of name r imported m u) r.imports) (Crosses name r imported) r.uses (uses_across aliases imported) (any_crosses name r imported) (crosses_any name r imported)
+    counts-same (λ u. IsAny (λ m. Of name r imported m u) r.imports) (Crosses name r imported) r.uses (uses_of_import aliases imported) (any_crosses name r imported) (crosses_any name r imported)
     sum
 
 -- the aliases have no more uses than there are
-pub uses_within : (name : ℕ → List ℕ) (r : Rows) (aliases : List AliasUses) → NoneTwice name (members_of r) → AscendBy (λ (a : AliasUses). a.alias) aliases →
+pub uses_within : (name : ℕ → List ℕ) (r : Rows) (aliases : List AliasUses) → HasNoDuplicates name (members_of r) → IsIncreasingBy (λ (a : AliasUses). a.alias) aliases →
     AreAliases name r aliases → uses_of_all aliases ≤ length r.uses
 uses_within name r aliases once up are =
     let sum = counts-total (λ m u. IsQualifiedBy name r.blocks (members_of r) m.alias u) (λ a. a.uses) r.uses (λ m n u p q. one_alias name r m.alias n.alias u once p q)
@@ -120,17 +120,17 @@ uses_within name r aliases once up are =
     counts-within _ r.uses _ sum
 
 pub weight_of_aliases : (bytes : List ℕ) (ts : List Token) (r : Rows) (s : ModuleScopes) (imported : List ℕ) →
-    AreScopes bytes ts r s → HasWeight (text_at bytes ts) r imported (uses_across s.aliases imported)
+    AreScopes bytes ts r s → HasWeight (text_at bytes ts) r imported (uses_of_import s.aliases imported)
 weight_of_aliases bytes ts r s imported a = weight_sum (text_at bytes ts) r s.aliases imported a.once (items_ascend (text_at bytes ts) r s.aliases a.aliases_ordered a.aliased) a.aliased
 
 pub weight_le : (bytes : List ℕ) (ts : List Token) (r : Rows) (s : ModuleScopes) → AreScopes bytes ts r s → uses_of_all s.aliases ≤ length r.uses
 weight_le bytes ts r s a = uses_within (text_at bytes ts) r s.aliases a.once a.aliases_ordered a.aliased
 
--- the uses of a module's aliases are some of those of all aliases
-pub across_within : (rows : List AliasUses) (imported : List ℕ) → uses_across rows imported ≤ uses_of_all rows
+-- the uses of a module's aliases are at most those of all aliases
+pub across_within : (rows : List AliasUses) (imported : List ℕ) → uses_of_import rows imported ≤ uses_of_all rows
 across_within [] imported = omega arith
 across_within (a ∷ rows) imported =
-    let h : uses_across rows imported ≤ uses_of_all rows = across_within rows imported in
+    let h : uses_of_import rows imported ≤ uses_of_all rows = across_within rows imported in
     let g : uses_for imported a ≤ a.uses = go (bytes_eq a.imported imported) in
     rw (sum_by-cons (uses_for imported) a rows, sum_by-cons (λ (x : AliasUses). x.uses) a rows) (omega arith)
   where

@@ -1,8 +1,8 @@
--- The types that blocks declare, by the block and the number of the name.
+-- The types declared in blocks, indexed by the block and the number of their name.
 use Rattle.std.specs.Prelude.{◌≡◌, ℕ, ◌<◌, nat_eq, List, Bool, ◌&&◌, Some, slice_get, slice_index}
 use Rattle.std.specs.Option.{IsSome}
 use Rattle.indexmap.specs.IndexMap.{get, IndexMap}
-use Rattle.ob_rows.specs.declared.rows.Sort.TheVariants as sorts
+use Rattle.module_table.specs.declared.rows.DeclKind.TheVariants as decl_kinds
 use Rattle.ob_scope.specs.declared.members.Member.{Member}
 use Rattle.ob_scope.specs.declared.members.Scope.TheVariants.{Block}
 
@@ -10,18 +10,19 @@ use Rattle.ob_scope.specs.declared.members.Scope.TheVariants.{Block}
 abbrev pub TypeKey : Type 0
 TypeKey = ℕ × ℕ
 
-abbrev pub same_type : TypeKey → TypeKey → Bool
-same_type a b = nat_eq a.0 b.0 && nat_eq a.1 b.1
+-- equality of keys
+abbrev pub type_key_eq : TypeKey → TypeKey → Bool
+type_key_eq a b = nat_eq a.0 b.0 && nat_eq a.1 b.1
 
--- the member at this place is a type of this name in this block
+-- the member with index k is a type with this key
 pub record IsTypeAt (members : List Member) (numbers : List ℕ) (key : TypeKey) (k : ℕ) : Type 0 where
   pub member : Member
   pub there : slice_get members k ≡ Some member
   pub placed : member.place ≡ Block key.0
   pub number : slice_index numbers k ≡ key.1
-  pub a_type : member.sort ≡ sorts.Type
+  pub a_type : member.decl_kind ≡ decl_kinds.Type
 
--- the types of the first members, so many, by their places
+-- exactly the types among the first `count` members, by their indexes
 pub record AreTypes {S : Type 0} (members : List Member) (numbers : List ℕ) (count : ℕ) (types : IndexMap TypeKey ℕ S) : Type 0 where
-  pub sound : (key : TypeKey) (k : ℕ) → get same_type types key ≡ Some k → IsTypeAt members numbers key k
-  pub all : (key : TypeKey) (k : ℕ) → k < count → IsTypeAt members numbers key k → IsSome (get same_type types key)
+  pub sound : (key : TypeKey) (k : ℕ) → get type_key_eq types key ≡ Some k → IsTypeAt members numbers key k
+  pub all : (key : TypeKey) (k : ℕ) → k < count → IsTypeAt members numbers key k → IsSome (get type_key_eq types key)

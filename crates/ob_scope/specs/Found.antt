@@ -1,63 +1,64 @@
--- What is known once the uses are looked up, from first to last.
+-- What holds after the first k uses have been resolved.
 use Rattle.std.specs.Prelude.{◌≡◌, ℕ, ◌<◌, ◌≤◌, List, length, take, slice_get, slice_index, Some, Bool, true, false, ◌&&◌, if◌then◌else◌, Contains}
 use Rattle.std.specs.Option.{is_some}
 use Rattle.std.specs.Str.{IsUtf8}
 use Rattle.std.specs.String.{string_bytes}
-use Rattle.ob_rows.specs.declared.rows.Block.{Block}
-use Rattle.ob_rows.specs.declared.rows.Import.{Import}
-use Rattle.ob_rows.specs.declared.rows.Used.{Used}
-use Rattle.ob_rows.specs.declared.rows.Sort.{Sort}
-use Rattle.ob_rows.specs.declared.rows.Sort.TheVariants as sorts
+use Rattle.module_table.specs.declared.rows.Block.{Block}
+use Rattle.module_table.specs.declared.rows.Import.{Import}
+use Rattle.module_table.specs.declared.rows.Used.{Used}
+use Rattle.module_table.specs.declared.rows.DeclKind.{DeclKind}
+use Rattle.module_table.specs.declared.rows.DeclKind.TheVariants as decl_kinds
 use Rattle.ob_scope.specs.declared.meaning.Resolution.{Resolution}
 use Rattle.ob_scope.specs.declared.members.Member.{Member}
 use Rattle.ob_scope.specs.declared.module_scopes.Alias.{Alias}
 use Rattle.ob_scope.specs.Scope.{ResolvesTo}
 use Rattle.ob_scope.specs.Counted.{Counts, IsQualifiedBy}
-use Rattle.ob_rows.specs.Order.{AscendBy}
+use Rattle.module_table.specs.Order.{IsIncreasingBy}
 
--- one of the first k uses means this declaration, by their tokens
+-- one of the first k uses has the token `used` and means the declaration with the token `declared`
 pub record MeansBefore (name : ℕ → List ℕ) (blocks : List Block) (members : List Member) (uses : List Used) (k used declared : ℕ) : Type 0 where
   pub place : ℕ
   pub below : place < k
-  pub use_there : Used
-  pub there : slice_get uses place ≡ Some use_there
-  pub of_use : use_there.number ≡ used
-  pub declared_there : Member
-  pub means : ResolvesTo name blocks members use_there declared_there
-  pub of_declared : declared_there.number ≡ declared
+  pub use_row : Used
+  pub there : slice_get uses place ≡ Some use_row
+  pub of_use : use_row.number ≡ used
+  pub named_declaration : Member
+  pub means : ResolvesTo name blocks members use_row named_declaration
+  pub of_declared : named_declaration.number ≡ declared
 
--- the rows are what the first k uses mean, in order
+-- exactly the meanings of the first k uses, in order
 pub record AreMeant (name : ℕ → List ℕ) (blocks : List Block) (members : List Member) (uses : List Used) (k : ℕ) (rows : List Resolution) : Type 0 where
   pub sound : (i : ℕ) (row : Resolution) → slice_get rows i ≡ Some row → MeansBefore name blocks members uses k row.used row.declared
   pub all : (used declared : ℕ) → MeansBefore name blocks members uses k used declared → (i : ℕ) × (slice_get rows i ≡ Some (record { used = used; declared = declared }))
-  pub ordered : AscendBy (λ (m : Resolution). m.used) rows
+  pub ordered : IsIncreasingBy (λ (m : Resolution). m.used) rows
 
--- per member, how many of the first k uses it qualifies
+-- for each member the number of the first k uses that it qualifies
 pub record AreCounted (name : ℕ → List ℕ) (blocks : List Block) (members : List Member) (uses : List Used) (k : ℕ) (counts : List ℕ) : Type 0 where
   pub as_many : length counts ≡ length members
   pub small : (i : ℕ) → slice_index counts i ≤ k
   pub each : (i : ℕ) (m : Member) → slice_get members i ≡ Some m → Counts (IsQualifiedBy name blocks members m.number) (take k uses) (slice_index counts i)
 
-abbrev pub is_import : Sort → Bool
-is_import sorts.Import = true
-is_import sorts.Constant = false
-is_import sorts.Type = false
-is_import sorts.Variable = false
-is_import sorts.Procedure = false
-is_import sorts.Parameter = false
-is_import sorts.Field = false
+-- whether a declaration is an import
+abbrev pub is_import : DeclKind → Bool
+is_import decl_kinds.Import = true
+is_import decl_kinds.Constant = false
+is_import decl_kinds.Type = false
+is_import decl_kinds.Variable = false
+is_import decl_kinds.Procedure = false
+is_import decl_kinds.Parameter = false
+is_import decl_kinds.Field = false
 
--- what a use counts for the member that it means
+-- the contribution of a use to the count of the member that it means
 abbrev pub counted_for : Member → Used → ℕ
-counted_for m u = if is_some u.member && is_import m.sort then 1 else 0
+counted_for m u = if is_some u.member && is_import m.decl_kind then 1 else 0
 
--- the texts that are told of a module are texts of characters
+-- the names that are read from the source are valid UTF-8
 pub record AreTexts (name : ℕ → List ℕ) (members : List Member) (imports : List Import) : Type 0 where
   pub first : IsUtf8 (name 1)
   pub declared : (d : Member) → Contains members d → IsUtf8 (name d.number)
   pub imported : (i : Import) → Contains imports i → IsUtf8 (name i.imported)
 
--- how many uses an alias qualifies, by how many each member does
+-- the number of uses that an alias qualifies, read from the counts of all members; 0 if no member is declared by that token
 pub record IsCountOf (members : List Member) (counts : List ℕ) (alias n : ℕ) : Type 0 where
   pub declared : (i : ℕ) (m : Member) → slice_get members i ≡ Some m → m.number ≡ alias → n ≡ slice_index counts i
   pub undeclared : ((i : ℕ) (m : Member) → slice_get members i ≡ Some m → m.number ≡ alias → ⊥) → n ≡ 0

@@ -1,35 +1,35 @@
--- What a module declares, each identifier with its place (Oberon-07 report, sections 4 and 11).
+-- The members of a module: its declared identifiers, each with its scope (Oberon-07 report, sections 4 and 11).
 use Rattle.std.specs.Prelude.{ℕ, ◌==◌, List, [], ◌∷◌, Option, Some, None, if◌then◌else◌}
 use Rattle.std.specs.List.{filter_map}
-use Rattle.ob_rows.specs.declared.rows.Declarer.{Declarer}
-use Rattle.ob_rows.specs.declared.rows.Declared.{Declared}
-use Rattle.ob_rows.specs.Parts.{Rows}
+use Rattle.module_table.specs.declared.rows.DeclGroup.{DeclGroup}
+use Rattle.module_table.specs.declared.rows.Declared.{Declared}
+use Rattle.module_table.specs.Parts.{Rows}
 use Rattle.ob_scope.specs.declared.members.Member.{Member}
 use Rattle.ob_scope.specs.declared.members.Scope.{Scope}
 use Rattle.ob_scope.specs.declared.members.Scope.TheVariants.{Block, Record}
 
--- where a construct declares: fields in their record, all else in the block around it
-abbrev pub scope_of : Declarer → Scope
+-- the scope of a declaration group: the record of fields, the enclosing block of anything else
+abbrev pub scope_of : DeclGroup → Scope
 scope_of by = place by.of_record
   where
     place : Option ℕ → Scope
     place None = Block by.block
     place (Some r) = Record r
 
--- the construct that declares and begins with this token
-abbrev pub declarer_at : List Declarer → ℕ → Option Declarer
-declarer_at [] k = None
-declarer_at (by ∷ rest) k = if by.first == k then Some by else declarer_at rest k
+-- the declaration group that begins with this token
+abbrev pub decl_group_at : List DeclGroup → ℕ → Option DeclGroup
+decl_group_at [] k = None
+decl_group_at (by ∷ rest) k = if by.first == k then Some by else decl_group_at rest k
 
--- an identifier, as what and where its construct declares it
-abbrev pub member_by : Declared → Option Declarer → Option Member
-member_by d None = None
-member_by d (Some by) = Some (record { place = scope_of by; number = d.number; sort = by.sort })
+-- a declared identifier with the scope and kind of its group
+abbrev pub declared_member : Declared → Option DeclGroup → Option Member
+declared_member d None = None
+declared_member d (Some by) = Some (record { place = scope_of by; number = d.number; decl_kind = by.decl_kind })
 
--- what these constructs declare, in the order of the identifiers
-abbrev pub members_by : List Declarer → List Declared → List Member
-members_by constructs ds = filter_map (λ d. member_by d (declarer_at constructs d.declared_by)) ds
+-- the members of these groups, in the order of the identifiers
+abbrev pub declared_members : List DeclGroup → List Declared → List Member
+declared_members constructs ds = filter_map (λ d. declared_member d (decl_group_at constructs d.declared_by)) ds
 
--- what a module declares
+-- the members of a module
 abbrev pub members_of : Rows → List Member
-members_of rows = members_by rows.declarers rows.declared
+members_of rows = declared_members rows.decl_groups rows.declared

@@ -1,60 +1,60 @@
--- What is known of the scopes of a module.
+-- The scopes of a module, as a value.
 use Rattle.std.specs.Prelude.{◌≡◌, ℕ, ◌<◌, ◌↔◌, List, length, slice_get, Some, Contains}
 use Rattle.std.specs.String.{string_bytes}
 use Rattle.ob_scan.specs.declared.token.Token.{Token}
 use Rattle.ob_scan.specs.Texts.{text_at, token_at}
-use Rattle.ob_rows.specs.declared.rows.Import.{Import}
-use Rattle.ob_rows.specs.declared.rows.Used.{Used}
-use Rattle.ob_rows.specs.Parts.{Rows}
+use Rattle.module_table.specs.declared.rows.Import.{Import}
+use Rattle.module_table.specs.declared.rows.Used.{Used}
+use Rattle.module_table.specs.Parts.{Rows}
 use Rattle.ob_scope.specs.declared.fault.ScopeFault.{ScopeFault}
 use Rattle.ob_scope.specs.declared.fault.ScopeFault.TheVariants as faults
 use Rattle.ob_scope.specs.declared.members.Member.{Member}
 use Rattle.ob_scope.specs.declared.members.Scope.TheVariants.{Block, Record}
 use Rattle.ob_scope.specs.Members.{members_of}
-use Rattle.ob_scope.specs.Scope.{ResolvesTo, IsFirstTwice, NoneTwice}
+use Rattle.ob_scope.specs.Scope.{ResolvesTo, IsFirstDuplicate, HasNoDuplicates}
 use Rattle.ob_scope.specs.Counted.{HasUses}
 use Rattle.ob_scope.specs.Identified.{AreNames}
 
--- a use with the declaration that it means, by their tokens
+-- the tokens of a use and of the declaration that it means
 pub record Meaning : Type 0 where
   pub used : ℕ
   pub declared : ℕ
 
--- an alias, by the token that declares it, with the module that it stands for and how many uses it qualifies
+-- the token that declares an alias, the name of the module that it denotes, and the number of uses that it qualifies
 pub record AliasUses : Type 0 where
   pub alias : ℕ
   pub imported : List ℕ
   pub uses : ℕ
 
--- the name of the module, what its uses mean, and its aliases, each list in order
+-- the module's name, the meanings of its uses, and its aliases; both lists are sorted by token number
 pub record ModuleScopes : Type 0 where
   pub name : List ℕ
   pub meanings : List Meaning
   pub aliases : List AliasUses
 
--- the use of this number means the declaration of that number
+-- the use with the token `used` means the declaration with the token `declared`
 pub record MeansBy (name : ℕ → List ℕ) (rows : Rows) (used declared : ℕ) : Type 0 where
-  pub use_there : Used
-  pub is_use : Contains rows.uses use_there
-  pub of_use : use_there.number ≡ used
-  pub declared_there : Member
-  pub means : ResolvesTo name rows.blocks (members_of rows) use_there declared_there
-  pub of_declared : declared_there.number ≡ declared
+  pub use_row : Used
+  pub is_use : Contains rows.uses use_row
+  pub of_use : use_row.number ≡ used
+  pub named_declaration : Member
+  pub means : ResolvesTo name rows.blocks (members_of rows) use_row named_declaration
+  pub of_declared : named_declaration.number ≡ declared
 
--- an alias with its module and its uses
+-- the alias of an import item, with its module and its count of uses
 pub record IsAlias (name : ℕ → List ℕ) (rows : Rows) (item : Import) (a : AliasUses) : Type 0 where
   pub alias : a.alias ≡ item.alias
   pub imported : a.imported ≡ name item.imported
   pub uses : HasUses name rows item.alias a.uses
 
--- the aliases are those of the import items, one for each
+-- the aliases of the import items, one for each
 pub record AreAliases (name : ℕ → List ℕ) (rows : Rows) (aliases : List AliasUses) : Type 0 where
   pub as_many : length aliases ≡ length rows.imports
   pub each : (i : ℕ) (item : Import) (a : AliasUses) → slice_get rows.imports i ≡ Some item → slice_get aliases i ≡ Some a → IsAlias name rows item a
 
--- the scopes of a module of these bytes, tokens and rows, which declares nothing twice, and whose identifiers are names
+-- the scopes of the module with these bytes, tokens and entries; it has no duplicates, and its identifiers are names
 pub record AreScopes (bytes : List ℕ) (ts : List Token) (rows : Rows) (s : ModuleScopes) : Type 0 where
-  pub once : NoneTwice (text_at bytes ts) (members_of rows)
+  pub once : HasNoDuplicates (text_at bytes ts) (members_of rows)
   pub named : AreNames (text_at bytes ts) rows
   pub name : s.name ≡ text_at bytes ts 1
   pub meanings : (used declared : ℕ) → Contains s.meanings (record { used = used; declared = declared }) ↔ MeansBy (text_at bytes ts) rows used declared
@@ -62,17 +62,17 @@ pub record AreScopes (bytes : List ℕ) (ts : List Token) (rows : Rows) (s : Mod
   pub aliased : AreAliases (text_at bytes ts) rows s.aliases
   pub aliases_ordered : (i j : ℕ) (a b : AliasUses) → i < j → slice_get s.aliases i ≡ Some a → slice_get s.aliases j ≡ Some b → a.alias < b.alias
 
--- two declarations of one name in one place, told by the name and where they begin
-pub record IsTwiceAt (bytes : List ℕ) (ts : List Token) (rows : Rows) (d e : Member) (name : List ℕ) (first second : ℕ) : Type 0 where
-  pub is_first : IsFirstTwice (text_at bytes ts) (members_of rows) d e
+-- the first duplicates, with their name and the offsets of their first bytes
+pub record IsDuplicateAt (bytes : List ℕ) (ts : List Token) (rows : Rows) (d e : Member) (name : List ℕ) (first second : ℕ) : Type 0 where
+  pub is_first : IsFirstDuplicate (text_at bytes ts) (members_of rows) d e
   pub named : name ≡ text_at bytes ts d.number
   pub first_at : first ≡ (token_at ts d.number).start
   pub second_at : second ≡ (token_at ts e.number).start
 
--- what a fault says: of two identifiers of one block, or of one record, the pair whose second one stands first
+-- a fault names the first duplicates, which share a block (`Twice`) or a record (`TwiceField`)
 abbrev pub IsScopeFault : List ℕ → List Token → Rows → ScopeFault → Type 0
 IsScopeFault bytes ts rows (faults.Twice name first second) =
-    (d e : Member) × (block : ℕ) × (e.place ≡ Block block) × IsTwiceAt bytes ts rows d e (string_bytes name) first second
+    (d e : Member) × (block : ℕ) × (e.place ≡ Block block) × IsDuplicateAt bytes ts rows d e (string_bytes name) first second
 IsScopeFault bytes ts rows (faults.TwiceField name first second) =
-    (d e : Member) × (record_token : ℕ) × (e.place ≡ Record record_token) × IsTwiceAt bytes ts rows d e (string_bytes name) first second
+    (d e : Member) × (record_token : ℕ) × (e.place ≡ Record record_token) × IsDuplicateAt bytes ts rows d e (string_bytes name) first second
 IsScopeFault bytes ts rows faults.Memory = Unit {0}

@@ -1,12 +1,12 @@
-//! Why a module has no scopes.
+//! The faults of scope resolution.
 
 use std::alloc::{AllocError, AllocFailed};
 use thiserror::Error;
 
-/// Why a module has no scopes. Offsets are those of the identifiers' first bytes.
+/// Why a module has no scopes. `first` and `second` are the byte offsets of the two identifiers.
 #[derive(Debug, PartialEq, Eq, Drop, Error)]
 pub enum ScopeFault {
-    /// Two identifiers of one name are declared in one block.
+    /// Two identifiers with one name are declared in one block.
     #[error("{name} is declared twice")]
     Twice {
         name: String,
@@ -20,7 +20,7 @@ pub enum ScopeFault {
         first: u32,
         second: u32,
     },
-    /// A growth of memory was refused.
+    /// An allocation failed.
     #[error("memory ran out")]
     Memory,
 }

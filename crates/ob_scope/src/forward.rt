@@ -1,36 +1,37 @@
-//! The types that blocks declare, for the targets of pointers that stand before them.
+//! The types that blocks declare, for pointer targets that are used before their declaration.
 ghost use Rattle.std.specs.Prelude.{◌≡◌, ℕ, true, length, IfOk, IfSome, IfNone};
-ghost use Rattle.ob_rows.specs.declared.rows.Sort.TheVariants as sorts;
+ghost use Rattle.module_table.specs.declared.rows.DeclKind.TheVariants as decl_kinds;
 ghost use Rattle.ob_scope.specs.Forward.{AreTypes};
-ghost use Rattle.ob_scope.specs.declared.members.Scope.TheVariants as places;
+ghost use Rattle.ob_scope.specs.declared.members.Scope.TheVariants as locations;
 
 use crate::members::{Member, Scope};
 use indexmap::IndexMap;
-use ob_rows::Sort;
+use module_table::DeclKind;
 use std::alloc::{AllocError, Global};
 use text_hash::Seed;
 
-fn is_type(sort: Sort) -> bool
-    ensures yes { result ≡ true → sort ≡ sorts.Type }
-    ensures no { sort ≡ sorts.Type → result ≡ true }
+/// Whether a declaration is a type.
+fn is_type(decl_kind: DeclKind) -> bool
+    ensures yes { result ≡ true → decl_kind ≡ decl_kinds.Type }
+    ensures no { decl_kind ≡ decl_kinds.Type → result ≡ true }
 {
-    match sort {
-        Sort::Type => true,
-        Sort::Import => false,
-        Sort::Constant => false,
-        Sort::Variable => false,
-        Sort::Procedure => false,
-        Sort::Parameter => false,
-        Sort::Field => false,
+    match decl_kind {
+        DeclKind::Type => true,
+        DeclKind::Import => false,
+        DeclKind::Constant => false,
+        DeclKind::Variable => false,
+        DeclKind::Procedure => false,
+        DeclKind::Parameter => false,
+        DeclKind::Field => false,
     }
 }
 
-/// The block that declares this type, if it is one that a block declares.
+/// The block that declares this member, if the member is a type.
 fn block_of_type(member: Member) -> Option<u32>
-    ensures found { IfSome result (λ b. (member.place ≡ places.Block b) × (member.sort ≡ sorts.Type)) }
-    ensures none { IfNone result ((b : ℕ) → member.place ≡ places.Block b → member.sort ≡ sorts.Type → ⊥) }
+    ensures found { IfSome result (λ b. (member.place ≡ locations.Block b) × (member.decl_kind ≡ decl_kinds.Type)) }
+    ensures none { IfNone result ((b : ℕ) → member.place ≡ locations.Block b → member.decl_kind ≡ decl_kinds.Type → ⊥) }
 {
-    if !is_type(member.sort) {
+    if !is_type(member.decl_kind) {
         return None;
     }
     match member.place {
@@ -39,7 +40,8 @@ fn block_of_type(member: Member) -> Option<u32>
     }
 }
 
-/// The places of the types that blocks declare, by the block and the number of the name. A module has few types, of the many members.
+/// The indexes of the types that blocks declare, by the block and the number of the name. It is built of types alone, which are few among
+/// the members.
 pub(crate) fn types_of(
     alloc: Global,
     seed: Seed,

@@ -1,76 +1,82 @@
-//! Laws of scopes. Each function is a law: its body is empty, and its contract is proved.
+//! Laws of scopes. Each function states a law: its body is empty, and its contract is proved.
 ghost use Rattle.std.specs.Prelude.{◌≡◌, ◌≤◌, ◌⊎◌, ℕ, List, Contains, length};
 ghost use Rattle.ob_scan.specs.declared.token.Token.{Token};
 ghost use Rattle.ob_scan.specs.Texts.{text_at};
-ghost use Rattle.ob_rows.specs.declared.rows.Block.{Block};
-ghost use Rattle.ob_rows.specs.declared.rows.Declared.{Declared};
-ghost use Rattle.ob_rows.specs.declared.rows.Used.{Used};
-ghost use Rattle.ob_rows.specs.Parts.{Rows};
-ghost use Rattle.ob_scope.specs.declared.across.Crossing.{Crossing};
+ghost use Rattle.module_table.specs.declared.rows.Block.{Block};
+ghost use Rattle.module_table.specs.declared.rows.Declared.{Declared};
+ghost use Rattle.module_table.specs.declared.rows.Used.{Used};
+ghost use Rattle.module_table.specs.Parts.{Rows};
+ghost use Rattle.ob_scope.specs.declared.crossing_uses.Crossing.{Crossing};
 ghost use Rattle.ob_scope.specs.declared.members.Member.{Member};
 ghost use Rattle.ob_scope.specs.Counted.{HasWeight};
 ghost use Rattle.ob_scope.specs.Crossings.{AreCrossings};
-ghost use Rattle.ob_rows.specs.Order.{AscendBy};
+ghost use Rattle.module_table.specs.Order.{IsIncreasingBy};
 ghost use Rattle.ob_scope.specs.Members.{members_of};
-ghost use Rattle.ob_scope.specs.Scope.{IsFirstTwice, ResolvesTo, NoneTwice};
+ghost use Rattle.ob_scope.specs.Scope.{IsFirstDuplicate, ResolvesTo, HasNoDuplicates};
 ghost use Rattle.ob_scope.specs.Scoped.{AliasUses, AreScopes, ModuleScopes};
-ghost use Rattle.ob_scope.specs.Weights.{uses_across, uses_of_all};
+ghost use Rattle.ob_scope.specs.Weights.{uses_of_import, uses_of_all};
 
-/// Where nothing is declared twice, a use means at most one declaration.
+/// If there are no duplicates, a use means at most one declaration.
 pub fn one_meaning()
     ensures { (name : ℕ → List ℕ) (blocks : List Block) (ds : List Member) (u : Used) (d e : Member) →
-        NoneTwice name ds → ResolvesTo name blocks ds u d → ResolvesTo name blocks ds u e → d ≡ e }
+        HasNoDuplicates name ds → ResolvesTo name blocks ds u d → ResolvesTo name blocks ds u e → d ≡ e }
 {}
 
-/// Where nothing is declared twice, there is no first pair that is; and there is at most one first pair.
+/// There are no first duplicates if there are none at all; otherwise there is at most one such pair.
 pub fn one_fault()
-    ensures no_pair { (name : ℕ → List ℕ) (ds : List Member) (d e : Member) → NoneTwice name ds → IsFirstTwice name ds d e → ⊥ }
+    // Without duplicates there are no first duplicates.
+    ensures no_pair { (name : ℕ → List ℕ) (ds : List Member) (d e : Member) → HasNoDuplicates name ds → IsFirstDuplicate name ds d e → ⊥ }
+    // The first duplicates are unique.
     ensures one_pair { (name : ℕ → List ℕ) (ds : List Member) (d e f g : Member) →
-        IsFirstTwice name ds d e → IsFirstTwice name ds f g → (d ≡ f) × (e ≡ g) }
+        IsFirstDuplicate name ds d e → IsFirstDuplicate name ds f g → (d ≡ f) × (e ≡ g) }
 {}
 
-/// Nothing is declared twice, or there is a first pair that is.
+/// Either there are no duplicates, or there are first duplicates.
 pub fn some_fault()
-    ensures { (name : ℕ → List ℕ) (ds : List Member) → NoneTwice name ds ⊎ ((d e : Member) × IsFirstTwice name ds d e) }
+    ensures { (name : ℕ → List ℕ) (ds : List Member) → HasNoDuplicates name ds ⊎ ((d e : Member) × IsFirstDuplicate name ds d e) }
 {}
 
-/// What is declared stands in the order of its tokens where the identifiers do, and a token then declares one thing.
+/// The members are sorted by token number if the declared identifiers are; then a token declares at most one member.
 pub fn one_declared()
-    ensures ascend { (rows : Rows) → AscendBy (λ (d : Declared). d.number) rows.declared → AscendBy (λ (m : Member). m.number) (members_of rows) }
-    ensures one { (rows : Rows) (d e : Member) → AscendBy (λ (d : Declared). d.number) rows.declared →
+    // The members are sorted by token number.
+    ensures ascending_starts { (rows : Rows) → IsIncreasingBy (λ (d : Declared). d.number) rows.declared → IsIncreasingBy (λ (m : Member). m.number) (members_of rows) }
+    // A token declares at most one member.
+    ensures one { (rows : Rows) (d e : Member) → IsIncreasingBy (λ (d : Declared). d.number) rows.declared →
         Contains (members_of rows) d → Contains (members_of rows) e → d.number ≡ e.number → d ≡ e }
 {}
 
-/// How many uses cross to a module is the sum over its aliases of the uses that each one qualifies.
+/// The number of uses that cross to a module is the sum of the uses of its aliases.
 pub fn weight_of_aliases()
     ensures { (bytes : List ℕ) (ts : List Token) (rows : Rows) (s : ModuleScopes) (imported : List ℕ) →
-        AreScopes bytes ts rows s → HasWeight (text_at bytes ts) rows imported (uses_across s.aliases imported) }
+        AreScopes bytes ts rows s → HasWeight (text_at bytes ts) rows imported (uses_of_import s.aliases imported) }
 {}
 
-/// The import of a module has one weight.
+/// The import of a module has exactly one weight.
 pub fn one_weight()
     ensures { (name : ℕ → List ℕ) (rows : Rows) (imported : List ℕ) (n m : ℕ) →
         HasWeight name rows imported n → HasWeight name rows imported m → n ≡ m }
 {}
 
-/// All aliases together qualify no more uses than there are, and those of one module no more than all.
+/// All aliases together qualify at most as many uses as there are, and the aliases of one module at most as many as all aliases.
 pub fn weight_le()
+    // All aliases qualify at most as many uses as there are.
     ensures all { (bytes : List ℕ) (ts : List Token) (rows : Rows) (s : ModuleScopes) → AreScopes bytes ts rows s → uses_of_all s.aliases ≤ length rows.uses }
-    ensures one { (aliases : List AliasUses) (imported : List ℕ) → uses_across aliases imported ≤ uses_of_all aliases }
+    // The aliases of one module qualify at most as many uses as all aliases.
+    ensures one { (aliases : List AliasUses) (imported : List ℕ) → uses_of_import aliases imported ≤ uses_of_all aliases }
 {}
 
-/// The uses that cross to a module are as many as its import weighs.
+/// The number of uses that cross to a module is the weight of its import.
 pub fn weight_of_crossings()
     ensures { (name : ℕ → List ℕ) (rows : Rows) (imported : List ℕ) (cs : List Crossing) → AreCrossings name rows imported rows.uses cs → HasWeight name rows imported (length cs) }
 {}
 
-/// The uses that cross to a module are told in one way.
+/// The list of uses that cross to a module is unique.
 pub fn one_crossings()
     ensures { (name : ℕ → List ℕ) (rows : Rows) (imported : List ℕ) (cs ds : List Crossing) →
         AreCrossings name rows imported rows.uses cs → AreCrossings name rows imported rows.uses ds → cs ≡ ds }
 {}
 
-/// The bytes, tokens and rows of a module have one value of scopes.
+/// The bytes, tokens and entries of a module determine its scopes.
 pub fn one_scopes()
     ensures { (bytes : List ℕ) (ts : List Token) (rows : Rows) (s t : ModuleScopes) → AreScopes bytes ts rows s → AreScopes bytes ts rows t → s ≡ t }
 {}

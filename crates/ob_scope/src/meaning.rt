@@ -1,8 +1,8 @@
-//! What a use means, by numbers of tokens.
+//! The meaning of a use, by token numbers.
 
-use ob_rows::Keyed;
+use module_table::Keyed;
 
-/// A use and the declaration that it means, by the numbers of their tokens.
+/// The tokens of a use and of the declaration that it means.
 #[derive(Clone, Copy)]
 pub(crate) struct Resolution {
     pub(crate) used: u32,

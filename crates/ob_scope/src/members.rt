@@ -1,28 +1,28 @@
-//! What a module declares, each identifier with its place.
+//! The members of a module: its declared identifiers, each with its scope.
 ghost use Rattle.std.specs.Prelude.{◌≡◌, true, IfNone, IfOk, IfSome};
-ghost use Rattle.ob_rows.specs.declared.rows.Declarer.{Declarer};
+ghost use Rattle.module_table.specs.declared.rows.DeclGroup.{DeclGroup};
 ghost use Rattle.ob_scope.specs.declared.members.Member.{Member};
-ghost use Rattle.ob_rows.specs.Order.{AscendBy, HasNoneBy, IsPlaceBy};
-ghost use Rattle.ob_scope.specs.Members.{declarer_at, member_by, members_by, scope_of};
+ghost use Rattle.module_table.specs.Order.{IsIncreasingBy, HasNoneBy, IsIndexBy};
+ghost use Rattle.ob_scope.specs.Members.{decl_group_at, declared_member, declared_members, scope_of};
 
-use ob_rows::{Declared, Declarer, Keyed, Sort, place_of};
+use module_table::{DeclGroup, DeclKind, Declared, Keyed, index_of};
 use std::alloc::{AllocError, Global};
 
-/// Where an identifier is declared.
+/// The scope of a declared identifier.
 #[derive(Clone, Copy, PartialEq, Eq, Hash)]
 pub enum Scope {
-    /// In the block with this first token.
+    /// The block with this first token; the module's block is 0.
     Block(u32),
-    /// In the record of this RECORD.
+    /// The record with this RECORD keyword.
     Record(u32),
 }
 
-/// A declared identifier, by the number of its token.
+/// A declared identifier, by its token number, with its scope and kind.
 #[derive(Clone, Copy)]
 pub struct Member {
     pub place: Scope,
     pub number: u32,
-    pub sort: Sort,
+    pub decl_kind: DeclKind,
 }
 
 impl Keyed for Member {
@@ -33,8 +33,8 @@ impl Keyed for Member {
     }
 }
 
-/// Where a construct declares its identifiers.
-fn scope_of(by: Declarer) -> Scope
+/// The scope of the identifiers of a declaration group.
+fn scope_of(by: DeclGroup) -> Scope
     ensures { result ≡ scope_of by }
 {
     match by.of_record {
@@ -43,71 +43,75 @@ fn scope_of(by: Declarer) -> Scope
     }
 }
 
-/// Whether the construct at this place begins with this token.
-fn begins_at(declarers: &[Declarer], at: usize, first: u32) -> bool
-    ensures { result ≡ true → IsPlaceBy (λ (d : Declarer). d.first) declarers.now first at }
+/// Whether the declaration group with this index begins with this token.
+fn begins_at(decl_groups: &[DeclGroup], at: usize, first: u32) -> bool
+    ensures { result ≡ true → IsIndexBy (λ (d : DeclGroup). d.first) decl_groups.now first at }
 {
-    match declarers.get(at) {
+    match decl_groups.get(at) {
         Some(by) => by.first == first,
         None => false,
     }
 }
 
-/// The same place, which mostly is this one or the one behind it.
-fn place_near(declarers: &[Declarer], near: usize, first: u32) -> Option<usize>
-    requires { AscendBy (λ (d : Declarer). d.first) declarers.now }
-    ensures found { IfSome result (IsPlaceBy (λ (d : Declarer). d.first) declarers.now first) }
-    ensures none { IfNone result (HasNoneBy (λ (d : Declarer). d.first) declarers.now first) }
+/// The index of the declaration group that begins with this token. Tries the hint and the index after it, then a binary search.
+fn index_by_hint(decl_groups: &[DeclGroup], cursor: usize, first: u32) -> Option<usize>
+    requires { IsIncreasingBy (λ (d : DeclGroup). d.first) decl_groups.now }
+    ensures found { IfSome result (IsIndexBy (λ (d : DeclGroup). d.first) decl_groups.now first) }
+    ensures none { IfNone result (HasNoneBy (λ (d : DeclGroup). d.first) decl_groups.now first) }
 {
-    if begins_at(declarers, near, first) {
-        return Some(near);
+    if begins_at(decl_groups, cursor, first) {
+        return Some(cursor);
     }
-    let next = near.saturating_add(1);
-    if begins_at(declarers, next, first) {
+    let next = cursor.saturating_add(1);
+    if begins_at(decl_groups, next, first) {
         return Some(next);
     }
-    place_of(declarers, first)
+    index_of(decl_groups, first)
 }
 
-/// The construct that declares and begins with this token. It is looked for near a place, and its own is near the next one.
-fn declarer_at(declarers: &[Declarer], near: &mut usize, first: u32) -> Option<Declarer>
-    requires { AscendBy (λ (d : Declarer). d.first) declarers.now }
-    ensures { result ≡ declarer_at declarers.now first }
+/// The declaration group that begins with this token. Moves the hint to its index, so that look-ups in order need no search.
+fn decl_group_at(decl_groups: &[DeclGroup], cursor: &mut usize, first: u32) -> Option<DeclGroup>
+    requires { IsIncreasingBy (λ (d : DeclGroup). d.first) decl_groups.now }
+    ensures { result ≡ decl_group_at decl_groups.now first }
 {
-    let at = place_near(declarers, *near, first)?;
-    *near = at;
-    Some(declarers[at])
+    let at = index_by_hint(decl_groups, *cursor, first)?;
+    *cursor = at;
+    Some(decl_groups[at])
 }
 
-/// An identifier, as what and where its construct declares it.
-fn member_by(declarers: &[Declarer], near: &mut usize, declared: Declared) -> Option<Member>
-    requires { AscendBy (λ (d : Declarer). d.first) declarers.now }
-    ensures { result ≡ member_by declared (declarer_at declarers.now declared.declared_by) }
+/// A declared identifier with the scope and kind of its declaration group.
+fn declared_member(
+    decl_groups: &[DeclGroup],
+    cursor: &mut usize,
+    declared: Declared,
+) -> Option<Member>
+    requires { IsIncreasingBy (λ (d : DeclGroup). d.first) decl_groups.now }
+    ensures { result ≡ declared_member declared (decl_group_at decl_groups.now declared.declared_by) }
 {
-    match declarer_at(declarers, near, declared.declared_by) {
+    match decl_group_at(decl_groups, cursor, declared.declared_by) {
         Some(by) => Some(Member {
             place: scope_of(by),
             number: declared.number,
-            sort: by.sort,
+            decl_kind: by.decl_kind,
         }),
         None => None,
     }
 }
 
-/// What these constructs declare, in the order of the identifiers.
-pub(crate) fn members_by(
+/// The members of these declaration groups, in token order.
+pub(crate) fn declared_members(
     alloc: Global,
-    declarers: &[Declarer],
+    decl_groups: &[DeclGroup],
     declared: &[Declared],
 ) -> Result<Vec<Member>, AllocError>
-    requires { AscendBy (λ (d : Declarer). d.first) declarers.now }
-    ensures { IfOk result (λ v. v.items ≡ members_by declarers.now declared.now) }
+    requires { IsIncreasingBy (λ (d : DeclGroup). d.first) decl_groups.now }
+    ensures { IfOk result (λ v. v.items ≡ declared_members decl_groups.now declared.now) }
 {
     let mut members = Vec::with_capacity(alloc, declared.len())?;
-    // Identifiers stand in the order of the constructs that declare them.
-    let mut near = 0;
+    // Identifiers are in the order of their declaration groups, so the hint is right for most.
+    let mut cursor = 0;
     for row in declared {
-        if let Some(member) = member_by(declarers, &mut near, *row) {
+        if let Some(member) = declared_member(decl_groups, &mut cursor, *row) {
             members.push(member)?;
         }
     }

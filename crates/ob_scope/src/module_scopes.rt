@@ -1,6 +1,6 @@
-//! The scopes of a module, and their readers.
+//! The scopes of a module as a value, with its look-ups.
 ghost use Rattle.std.specs.Prelude.{◌≡◌, ◌<◌, ◌≤◌, ℕ, true, Some, IfSome, IfNone, Contains, map, slice_get};
-ghost use Rattle.ob_rows.specs.Order.{AscendBy, HasNoneBy, IsPlaceBy};
+ghost use Rattle.module_table.specs.Order.{IsIncreasingBy, HasNoneBy, IsIndexBy};
 ghost use Rattle.ob_scope.specs.Crossings.{IsAliasFor};
 ghost use Rattle.ob_scope.specs.Kept.{alias_of, AreValidScopes};
 ghost use Rattle.ob_scope.specs.declared.meaning.Resolution.{Resolution};
@@ -8,17 +8,17 @@ ghost use Rattle.ob_scope.specs.declared.module_scopes.Alias.{Alias};
 ghost use Rattle.ob_scope.specs.Scoped.{AliasUses};
 
 use crate::meaning::Resolution;
-use ob_rows::{Keyed, place_of};
+use module_table::{Keyed, index_of};
 use std::marker::Model;
 
-/// An import: the identifier that stands for a module, and the module's own name.
+/// An import item: its alias, and the module that the alias denotes.
 #[derive(Drop)]
 pub struct Alias {
-    /// The number of the token that declares the alias.
+    /// The token number of the alias.
     pub decl: u32,
-    /// The name of the module that it stands for.
+    /// The name of the module that the alias denotes.
     pub module: String,
-    /// How many uses it qualifies.
+    /// The number of uses that the alias qualifies.
     pub(crate) uses: u64,
 }
 
@@ -30,7 +30,7 @@ impl Keyed for Alias {
     }
 }
 
-/// What the used names of a module mean, and its aliases. Identifiers are told by the numbers of their tokens, from 0.
+/// The meanings of all uses of a module, and its aliases. Identifiers are represented by their token numbers, from 0.
 #[derive(Drop)]
 pub struct Scopes {
     pub(crate) name: String,
@@ -51,9 +51,9 @@ impl Model for Scopes {
     ghost invariant = { λ s. AreValidScopes (record { name = string_bytes s.name; meanings = map meaning_of s.meanings.items; aliases = map alias_of s.aliases.items }) };
 }
 
-/// Whether all rows before a place are of uses before this one.
-fn are_before(rows: &[Resolution], at: usize, used: u32) -> bool
-    requires { AscendBy (λ (m : Resolution). m.used) rows.now }
+/// Whether all entries before this index belong to uses before this one.
+fn all_before(rows: &[Resolution], at: usize, used: u32) -> bool
+    requires { IsIncreasingBy (λ (m : Resolution). m.used) rows.now }
     ensures { result ≡ true → (i : ℕ) (m : Resolution) → i < at → slice_get rows.now i ≡ Some m → m.used < used }
 {
     match at.checked_sub(1) {
@@ -65,9 +65,9 @@ fn are_before(rows: &[Resolution], at: usize, used: u32) -> bool
     }
 }
 
-/// Whether all rows from a place on are of uses behind this one.
-fn are_behind(rows: &[Resolution], at: usize, used: u32) -> bool
-    requires { AscendBy (λ (m : Resolution). m.used) rows.now }
+/// Whether all entries from this index on belong to uses after this one.
+fn all_after(rows: &[Resolution], at: usize, used: u32) -> bool
+    requires { IsIncreasingBy (λ (m : Resolution). m.used) rows.now }
     ensures { result ≡ true → (i : ℕ) (m : Resolution) → at ≤ i → slice_get rows.now i ≡ Some m → used < m.used }
 {
     match rows.get(at) {
@@ -76,9 +76,9 @@ fn are_behind(rows: &[Resolution], at: usize, used: u32) -> bool
     }
 }
 
-/// Whether the row at this place is of this use.
+/// Whether the entry with this index belongs to this use.
 fn is_at(rows: &[Resolution], at: usize, used: u32) -> bool
-    ensures { result ≡ true → IsPlaceBy (λ (m : Resolution). m.used) rows.now used at }
+    ensures { result ≡ true → IsIndexBy (λ (m : Resolution). m.used) rows.now used at }
 {
     match rows.get(at) {
         Some(row) => row.used == used,
@@ -86,32 +86,32 @@ fn is_at(rows: &[Resolution], at: usize, used: u32) -> bool
     }
 }
 
-/// The place of the row of a use, which is at this place or would be, where uses are asked for in order; the place behind it is left.
-fn place_near(rows: &[Resolution], near: &mut usize, used: u32) -> Option<usize>
-    requires { AscendBy (λ (m : Resolution). m.used) rows.now }
-    ensures found { IfSome result (IsPlaceBy (λ (m : Resolution). m.used) rows.now used) }
+/// The index of the entry of a use. Tries the hint, and sees there too whether a use has no entry; then a binary search. Leaves the index
+/// after the entry as the next hint.
+fn index_by_hint(rows: &[Resolution], cursor: &mut usize, used: u32) -> Option<usize>
+    requires { IsIncreasingBy (λ (m : Resolution). m.used) rows.now }
+    ensures found { IfSome result (IsIndexBy (λ (m : Resolution). m.used) rows.now used) }
     ensures none { IfNone result (HasNoneBy (λ (m : Resolution). m.used) rows.now used) }
 {
-    let at = *near;
+    let at = *cursor;
     if is_at(rows, at, used) {
-        *near = at.saturating_add(1);
+        *cursor = at.saturating_add(1);
         return Some(at);
     }
-    if are_before(rows, at, used) && are_behind(rows, at, used) {
+    if all_before(rows, at, used) && all_after(rows, at, used) {
         return None;
     }
-    let at = place_of(rows, used)?;
-    *near = at.saturating_add(1);
+    let at = index_of(rows, used)?;
+    *cursor = at.saturating_add(1);
     Some(at)
 }
 
 impl Scopes {
-    /// What every value keeps: uses and aliases ascend by their numbers, and all aliases together qualify at most
-    /// 16,777,216 uses.
-    pub fn keeps(&self)
+    /// States the invariant: uses and aliases are sorted by token number, and all aliases together qualify at most 16,777,216 uses.
+    pub fn invariants(&self)
         ensures { AreValidScopes self.now }
     {
-        // Using a field makes the facts of the type known here.
+        // Using a field makes the type's invariant known to the prover here.
         let _ = &self.name;
     }
 
@@ -122,50 +122,58 @@ impl Scopes {
         self.name.as_str()
     }
 
-    /// The number of the token that declares what the use of this token means, or none where the token is no use or
-    /// means no declaration of the module.
+    /// The token number of the declaration that this use means; `None` if the token isn't a use or the use means no declaration of this
+    /// module. Takes logarithmic time.
     pub fn resolve(&self, used: u32) -> Option<u32>
+        // The use means the returned declaration.
         ensures found { IfSome result (λ declared. Contains self.now.meanings (record { used = used; declared = declared })) }
+        // `None` is returned only if the token means no declaration.
         ensures none { IfNone result ((declared : ℕ) → Contains self.now.meanings (record { used = used; declared = declared }) → ⊥) }
     {
-        let at = place_of(self.meanings.as_slice(), used)?;
+        let at = index_of(self.meanings.as_slice(), used)?;
         Some(self.meanings[at].declared)
     }
 
-    /// What `resolve` answers, without a search where uses are asked for in order: the row at this place is looked at first, and the
-    /// place behind that of the answer is left there. A walk begins with 0.
-    pub fn resolve_near(&self, near: &mut usize, used: u32) -> Option<u32>
+    /// Equals `resolve`, in constant time if uses are asked for in order: `cursor` is a hint, 0 for the first use, and is left at the next
+    /// use's entry.
+    pub fn resolve_by_hint(&self, cursor: &mut usize, used: u32) -> Option<u32>
+        // The use means the returned declaration.
         ensures found { IfSome result (λ declared. Contains self.now.meanings (record { used = used; declared = declared })) }
+        // `None` is returned only if the token means no declaration.
         ensures none { IfNone result ((declared : ℕ) → Contains self.now.meanings (record { used = used; declared = declared }) → ⊥) }
     {
-        let at = place_near(self.meanings.as_slice(), near, used)?;
+        let at = index_by_hint(self.meanings.as_slice(), cursor, used)?;
         Some(self.meanings[at].declared)
     }
 
-    /// The aliases, in the order of their tokens.
+    /// The aliases, in token order.
     pub fn aliases(&self) -> &[Alias]
         ensures { map alias_of result.now ≡ self.now.aliases }
     {
         self.aliases.as_slice()
     }
 
-    /// How many uses the alias that the token of this number declares qualifies; 0 where it declares no alias.
+    /// The number of uses that the alias declared by this token qualifies; 0 if the token declares no alias.
     pub fn qualified_uses(&self, alias: u32) -> u64
+        // The result is the count of the alias.
         ensures found { (a : AliasUses) → Contains self.now.aliases a → a.alias ≡ alias → result ≡ a.uses }
+        // The result is 0 if the token declares no alias.
         ensures none { ((a : AliasUses) → Contains self.now.aliases a → a.alias ≡ alias → ⊥) → result ≡ 0 }
     {
-        match place_of(self.aliases.as_slice(), alias) {
+        match index_of(self.aliases.as_slice(), alias) {
             Some(at) => self.aliases[at].uses,
             None => 0,
         }
     }
 
-    /// Whether the token of this number declares an alias of the module of this name.
+    /// Whether this token declares an alias of the module named `imported`.
     pub fn is_alias_of(&self, alias: u32, imported: &str) -> bool
+        // True only for an alias of the module.
         ensures yes { result ≡ true → IsAliasFor self.now alias imported.now }
+        // True for every alias of the module.
         ensures no { IsAliasFor self.now alias imported.now → result ≡ true }
     {
-        match place_of(self.aliases.as_slice(), alias) {
+        match index_of(self.aliases.as_slice(), alias) {
             Some(at) => self.aliases[at].module.as_str() == imported,
             None => false,
         }

@@ -1,8 +1,8 @@
-//! The names of members, numbered.
+//! Interns the names of members, so that names are hashed once and compared as numbers.
 ghost use Rattle.std.specs.Prelude.{◌≡◌, ◌≤◌, ◌<◌, ◌+◌, ◌∷◌, ◌++◌, [], length, take, IfOk, IfSome, IfNone, OnOk};
 ghost use Rattle.ob_scan.specs.Spelling.{AreInText};
 ghost use Rattle.ob_scan.specs.Texts.{text_at};
-ghost use Rattle.ob_scope.specs.Sights.{name_number, AreNumbered};
+ghost use Rattle.ob_scope.specs.Visibility.{name_number, AreInterned};
 
 use crate::members::Member;
 use indexmap::IndexSet;
@@ -10,38 +10,38 @@ use ob_scan::TokenTexts;
 use std::alloc::{AllocError, Global};
 use text_hash::{Name, Seed};
 
-/// The names of members, in the order in which each stands first, and for each member the number of its name.
+/// The distinct names in the order of their first occurrence, and for each member the number of its name.
 #[derive(Drop)]
-pub(crate) struct Numbered<'a> {
+pub(crate) struct Interner<'a> {
     pub(crate) names: IndexSet<Name<'a>, Seed>,
     pub(crate) numbers: Vec<usize>,
 }
 
-/// No names of a text, with room for the numbers of so many members.
-pub(crate) fn no_names<'a>(
+/// No names, with capacity for the numbers of `count` members. The seed of the hash table comes from the source text.
+pub(crate) fn empty_interner<'a>(
     alloc: Global,
     text: &TokenTexts<'a>,
     count: usize,
-) -> Result<Numbered<'a>, AllocError>
+) -> Result<Interner<'a>, AllocError>
     ensures names { IfOk result (λ r. r.names.keys ≡ []) }
     ensures numbers { IfOk result (λ r. r.numbers.items ≡ []) }
 {
     let numbers = Vec::with_capacity(alloc, count)?;
     let names = IndexSet::with_hasher(alloc, Seed::for_keys(text.bytes, count));
-    Ok(Numbered { names, numbers })
+    Ok(Interner { names, numbers })
 }
 
-/// Numbers the name of the member at this place, behind those before it, and tells the number.
-pub(crate) fn number_next<'a>(
+/// Interns the name of the next member and returns its number.
+pub(crate) fn intern_member<'a>(
     text: &TokenTexts<'a>,
     members: &[Member],
-    named: &mut Numbered<'a>,
+    named: &mut Interner<'a>,
     at: usize,
 ) -> Result<usize, AllocError>
     requires in_text { AreInText text.now.bytes.now text.now.tokens.now }
     requires within { at < length members.now }
-    requires numbered { AreNumbered (text_at text.now.bytes.now text.now.tokens.now) (take at members.now) named.old.names.keys named.old.numbers.items }
-    ensures numbered { OnOk result (AreNumbered (text_at text.now.bytes.now text.now.tokens.now) (take (at + 1) members.now) named.new.names.keys named.new.numbers.items) }
+    requires numbered { AreInterned (text_at text.now.bytes.now text.now.tokens.now) (take at members.now) named.old.names.keys named.old.numbers.items }
+    ensures numbered { OnOk result (AreInterned (text_at text.now.bytes.now text.now.tokens.now) (take (at + 1) members.now) named.new.names.keys named.new.numbers.items) }
     ensures number { IfOk result (λ n. named.new.numbers.items ≡ named.old.numbers.items ++ n ∷ []) }
     ensures grown { OnOk result (length named.new.names.keys ≤ length named.old.names.keys + 1) }
 {
@@ -55,24 +55,24 @@ pub(crate) fn number_next<'a>(
     }
 }
 
-/// Numbers the names of the members that have no number yet.
-pub(crate) fn number_rest<'a>(
+/// Interns the names of the members that have no number yet.
+pub(crate) fn intern_rest<'a>(
     text: &TokenTexts<'a>,
     members: &[Member],
-    named: &mut Numbered<'a>,
+    named: &mut Interner<'a>,
 ) -> Result<(), AllocError>
     requires in_text { AreInText text.now.bytes.now text.now.tokens.now }
-    requires numbered { AreNumbered (text_at text.now.bytes.now text.now.tokens.now) (take (length named.old.numbers.items) members.now) named.old.names.keys named.old.numbers.items }
-    ensures { OnOk result (AreNumbered (text_at text.now.bytes.now text.now.tokens.now) members.now named.new.names.keys named.new.numbers.items) }
+    requires numbered { AreInterned (text_at text.now.bytes.now text.now.tokens.now) (take (length named.old.numbers.items) members.now) named.old.names.keys named.old.numbers.items }
+    ensures { OnOk result (AreInterned (text_at text.now.bytes.now text.now.tokens.now) members.now named.new.names.keys named.new.numbers.items) }
 {
     let begin = named.numbers.len();
     for i in begin..members.len() {
-        number_next(text, members, named, i)?;
+        intern_member(text, members, named, i)?;
     }
     Ok(())
 }
 
-/// The number of a name, or none where no member has it.
+/// The number of a name; `None` if no member has that name.
 pub(crate) fn name_number(names: &IndexSet<Name, Seed>, name: &[u8]) -> Option<usize>
     ensures found { IfSome result (λ n. n ≡ name_number names.now.keys name.now) }
     ensures within { IfSome result (λ n. n < length names.now.keys) }

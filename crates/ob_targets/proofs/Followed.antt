@@ -1,23 +1,23 @@
 -- Of a designator one thing is known at each place.
 use Rattle.std.proofs.Common.{◌≡◌, ℕ, suc, [], true, false, Some, refl, sym, ap, ◌∙◌, subst}
 use Rattle.std.specs.Prelude.{slice_get}
-use Rattle.type_search.proofs.Finding.{finds_once}
-use Rattle.type_search.proofs.Opening.{element_once, target_once}
-use Rattle.type_search.specs.Searches.{HasElement, HasTarget}
-use Rattle.ob_rows.specs.declared.rows.Selector.{Selector}
-use Rattle.ob_rows.specs.declared.rows.Step.{Step}
+use Rattle.type_graph.proofs.Finding.{finds_once}
+use Rattle.type_graph.proofs.Opening.{element_once, target_once}
+use Rattle.type_graph.specs.Searches.{HasElement, HasTarget}
+use Rattle.module_table.specs.declared.rows.Selector.{Selector}
+use Rattle.module_table.specs.declared.rows.Step.{Step}
 use Rattle.ob_types.specs.declared.nodes.Field.{Field}
 use Rattle.ob_types.specs.declared.nodes.Node.{Node}
 use Rattle.ob_types.specs.World.{World, text}
 use Rattle.ob_types.specs.Same.{same}
 use Rattle.ob_types.specs.Shapes.{shape, field_of, base_of}
-use Rattle.ob_targets.specs.declared.known.Known.{Known}
-use Rattle.ob_targets.specs.declared.known.Known.TheVariants as knowns
+use Rattle.ob_targets.specs.declared.known.DesignatorType.{DesignatorType}
+use Rattle.ob_targets.specs.declared.known.DesignatorType.TheVariants as knowns
 use Rattle.ob_targets.specs.declared.target.Target.{Target}
-use Rattle.ob_targets.specs.Targets.{field_target, known_of, used_target}
-use Rattle.ob_targets.specs.Steps.{begins_designator, FindsField, Follows, Knows, StepsTo, Levels, Selects, there, nowhere, of_module, of_nothing, exported, field, no_field, unknown, none, one, to_field, to_elements, to_target, by_guard, at_head, behind}
+use Rattle.ob_targets.specs.Targets.{field_target, target_type, used_target}
+use Rattle.ob_targets.specs.Steps.{begins_designator, FindsField, Follows, IsTypeBefore, StepsTo, Levels, Selects, there, nowhere, of_module, of_nothing, exported, field, no_field, unknown, none, one, to_field, to_elements, to_target, by_guard, at_head, behind}
 
-follows_once : (Leads : Node → Node → Type 0) → ((n x y : Node) → Leads n x → Leads n y → x ≡ y) → (o a b : Known) → Follows Leads o a → Follows Leads o b → a ≡ b
+follows_once : (Leads : Node → Node → Type 0) → ((n x y : Node) → Leads n x → Leads n y → x ≡ y) → (o a b : DesignatorType) → Follows Leads o a → Follows Leads o b → a ≡ b
 follows_once Leads once o a b (there {n = n} {m = x} p) (there {m = y} q) = ap knowns.Typed (once n x y p q)
 follows_once Leads once o a b (there {m = x} p) (nowhere q) = absurd (q x p)
 follows_once Leads once o a b (nowhere p) (there {m = y} q) = absurd (p y q)
@@ -29,7 +29,7 @@ module _ (w : World) where
   field_found_once : (n : Node) (k : ℕ) (f g : Field) → FindsField w n (text w k) f → FindsField w n (text w k) g → f ≡ g
   field_found_once n k f g p q = finds_once same (shape w) (λ r. field_of w r (text w k)) (base_of w) [] n f g p q
 
-  pub selects_once : (o : Known) (k : ℕ) (t u : Target) → Selects w o k t → Selects w o k u → t ≡ u
+  pub selects_once : (o : DesignatorType) (k : ℕ) (t u : Target) → Selects w o k t → Selects w o k u → t ≡ u
   selects_once o k t u exported exported = refl
   selects_once o k t u (field {n = n} {f = f} p) (field {f = g} q) = ap field_target (field_found_once n k f g p q)
   selects_once o k t u (field {f = f} p) (no_field q) = absurd (q f p)
@@ -37,14 +37,14 @@ module _ (w : World) where
   selects_once o k t u (no_field p) (no_field q) = refl
   selects_once o k t u unknown unknown = refl
 
-  levels_once : (c : ℕ) (o a b : Known) → Levels w c o a → Levels w c o b → a ≡ b
+  levels_once : (c : ℕ) (o a b : DesignatorType) → Levels w c o a → Levels w c o b → a ≡ b
   levels_once c o a b none none = refl
   levels_once c o a b (one {c = d} {next = x} p f) (one {next = y} q g) =
       let before : x ≡ y = levels_once d o x y p q in
-      follows_once (HasElement same (shape w)) (element_once same (shape w)) x a b f (subst (λ (v : Known). Follows (HasElement same (shape w)) v b) (sym before) g)
+      follows_once (HasElement same (shape w)) (element_once same (shape w)) x a b f (subst (λ (v : DesignatorType). Follows (HasElement same (shape w)) v b) (sym before) g)
 
-  leads_once : (o : Known) (s : Step) (a b : Known) → StepsTo w o s a → StepsTo w o s b → a ≡ b
-  leads_once o s a b (to_field {k = k} {t = t} p) (to_field {t = u} q) = ap (known_of w) (selects_once o k t u p q)
+  leads_once : (o : DesignatorType) (s : Step) (a b : DesignatorType) → StepsTo w o s a → StepsTo w o s b → a ≡ b
+  leads_once o s a b (to_field {k = k} {t = t} p) (to_field {t = u} q) = ap (target_type w) (selects_once o k t u p q)
   leads_once o s a b (to_elements {c = c} p) (to_elements q) = levels_once c o a b p q
   leads_once o s a b (to_target p) (to_target q) = follows_once (HasTarget same (shape w)) (target_once same (shape w)) o a b p q
   leads_once o s a b by_guard by_guard = refl
@@ -60,11 +60,11 @@ module _ (w : World) where
       let e : true ≡ false = sym first ∙ ap (begins_designator w.rows.selectors i) is ∙ other in
       cc
 
-  pub knows_once : (i : ℕ) (a b : Known) → Knows w i a → Knows w i b → a ≡ b
-  knows_once i a b (at_head {s = s} p first) (at_head {s = t} q other) = ap (λ (v : Selector). known_of w (used_target w v.of)) (one_selector i s t p q)
+  pub knows_once : (i : ℕ) (a b : DesignatorType) → IsTypeBefore w i a → IsTypeBefore w i b → a ≡ b
+  knows_once i a b (at_head {s = s} p first) (at_head {s = t} q other) = ap (λ (v : Selector). target_type w (used_target w v.of)) (one_selector i s t p q)
   knows_once i a b (at_head {s = s} p first) (behind {i = j} {t = t} before q other known leads) = absurd (begins_or_not (suc j) s t p q first other)
   knows_once i a b (behind {i = j} {t = t} before q other known leads) (at_head {s = s} p first) = absurd (begins_or_not (suc j) s t p q first other)
   knows_once i a b (behind {i = j} {s = s} {o = o} at_s p first known leads) (behind {s = t} {o = u} at_t q other knows led) =
       let is : t ≡ s = one_selector j t s at_t at_s in
       let before : o ≡ u = knows_once j o u known knows in
-      leads_once o s.step a b leads (subst (λ (v : Known). StepsTo w v s.step b) (sym before) (subst (λ (v : Selector). StepsTo w u v.step b) is led))
+      leads_once o s.step a b leads (subst (λ (v : DesignatorType). StepsTo w v s.step b) (sym before) (subst (λ (v : Selector). StepsTo w u v.step b) is led))

@@ -1,18 +1,18 @@
 -- An identifier stands for one thing, in one role.
 use Rattle.std.proofs.Common.{◌≡◌, ℕ, Some, false, refl, sym, ap, ◌∙◌, subst}
 use Rattle.std.specs.Prelude.{slice_get}
-use Rattle.ob_rows.specs.declared.rows.End.{End}
-use Rattle.ob_rows.specs.declared.rows.Used.{Used}
+use Rattle.module_table.specs.declared.rows.End.{End}
+use Rattle.module_table.specs.declared.rows.Used.{Used}
 use Rattle.ob_types.specs.World.{World}
-use Rattle.ob_targets.specs.declared.known.Known.{Known}
-use Rattle.ob_targets.specs.declared.standing.Standing.{Standing}
-use Rattle.ob_targets.specs.declared.standing.Standing.TheVariants as standings
+use Rattle.ob_targets.specs.declared.known.DesignatorType.{DesignatorType}
+use Rattle.ob_targets.specs.declared.syntax_position.SyntaxPosition.{SyntaxPosition}
+use Rattle.ob_targets.specs.declared.syntax_position.SyntaxPosition.TheVariants as syntax_positions
 use Rattle.ob_targets.specs.declared.target.Target.{Target}
 use Rattle.ob_targets.specs.declared.target.Target.TheVariants as targets
-use Rattle.ob_targets.specs.Standing.{standing}
+use Rattle.ob_targets.specs.SyntaxPosition.{syntax_position}
 use Rattle.ob_targets.specs.Targets.{end_target, is_written, second_target, use_role, used_target}
-use Rattle.ob_targets.specs.Steps.{Knows, Selects}
-use Rattle.ob_targets.specs.Refers.{Refers, own_name, item, declaration, end, used, selected, second, nowhere}
+use Rattle.ob_targets.specs.Steps.{IsTypeBefore, Selects}
+use Rattle.ob_targets.specs.Refers.{Refers, module_name_token, item, declaration, end, used, selected, second, nowhere}
 use Rattle.ob_targets.proofs.Followed.{knows_once, selects_once}
 
 module _ (w : World) where
@@ -22,8 +22,8 @@ module _ (w : World) where
     is : t ≡ end_target row.of
 
   record SelectedStands (k at : ℕ) (t : Target) : Type 0 where
-    before : Known
-    knows : Knows w at before
+    before : DesignatorType
+    knows : IsTypeBefore w at before
     selects : Selects w before k t
 
   record SecondStands (k at : ℕ) (t : Target) : Type 0 where
@@ -32,48 +32,48 @@ module _ (w : World) where
     is : t ≡ second_target w k (used_target w row.number)
 
   -- what an identifier that stands here stands for
-  Stands : ℕ → Standing → Target → Type 0
-  Stands k standings.OwnName t = t ≡ targets.Own
-  Stands k (standings.Item at) t = t ≡ targets.«Module» at
-  Stands k (standings.Declaration at) t = t ≡ targets.Declared k
-  Stands k (standings.End at) t = EndStands at t
-  Stands k (standings.Use at) t = t ≡ used_target w k
-  Stands k (standings.Selected at) t = SelectedStands k at t
-  Stands k (standings.Second at) t = SecondStands k at t
-  Stands k standings.Nowhere t = t ≡ targets.Unresolved
+  Stands : ℕ → SyntaxPosition → Target → Type 0
+  Stands k syntax_positions.OwnName t = t ≡ targets.Own
+  Stands k (syntax_positions.Item at) t = t ≡ targets.«Module» at
+  Stands k (syntax_positions.Declaration at) t = t ≡ targets.Declared k
+  Stands k (syntax_positions.End at) t = EndStands at t
+  Stands k (syntax_positions.Use at) t = t ≡ used_target w k
+  Stands k (syntax_positions.Selected at) t = SelectedStands k at t
+  Stands k (syntax_positions.Second at) t = SecondStands k at t
+  Stands k syntax_positions.Nowhere t = t ≡ targets.Unresolved
 
   -- and in which role
-  role : ℕ → Standing → Target → ℕ
-  role k standings.OwnName t = 1
-  role k (standings.Item at) t = 2
-  role k (standings.Declaration at) t = 1
-  role k (standings.End at) t = 0
-  role k (standings.Use at) t = use_role w t (is_written w.rows k)
-  role k (standings.Selected at) t = use_role w t (is_written w.rows k)
-  role k (standings.Second at) t = use_role w t false
-  role k standings.Nowhere t = 0
+  role : ℕ → SyntaxPosition → Target → ℕ
+  role k syntax_positions.OwnName t = 1
+  role k (syntax_positions.Item at) t = 2
+  role k (syntax_positions.Declaration at) t = 1
+  role k (syntax_positions.End at) t = 0
+  role k (syntax_positions.Use at) t = use_role w t (is_written w.rows k)
+  role k (syntax_positions.Selected at) t = use_role w t (is_written w.rows k)
+  role k (syntax_positions.Second at) t = use_role w t false
+  role k syntax_positions.Nowhere t = 0
 
-  stands : (k : ℕ) (t : Target) (r : ℕ) → Refers w k t r → Stands k (standing w.rows k) t
+  stands : (k : ℕ) (t : Target) (r : ℕ) → Refers w k t r → Stands k (syntax_position w.rows k) t
   unfolding Stands
-  stands k t r (own_name is) = subst (λ (s : Standing). Stands k s t) (sym is) refl
-  stands k t r (item is) = subst (λ (s : Standing). Stands k s t) (sym is) refl
-  stands k t r (declaration is) = subst (λ (s : Standing). Stands k s t) (sym is) refl
-  stands k t r (end {e = e} is at_e) = subst (λ (s : Standing). Stands k s t) (sym is) (record { row = e; there = at_e; is = refl })
-  stands k t r (used is) = subst (λ (s : Standing). Stands k s t) (sym is) refl
-  stands k t r (selected {o = o} is knows selects) = subst (λ (s : Standing). Stands k s t) (sym is) (record { before = o; knows = knows; selects = selects })
-  stands k t r (second {u = u} is at_u) = subst (λ (s : Standing). Stands k s t) (sym is) (record { row = u; there = at_u; is = refl })
-  stands k t r (nowhere is) = subst (λ (s : Standing). Stands k s t) (sym is) refl
+  stands k t r (module_name_token is) = subst (λ (s : SyntaxPosition). Stands k s t) (sym is) refl
+  stands k t r (item is) = subst (λ (s : SyntaxPosition). Stands k s t) (sym is) refl
+  stands k t r (declaration is) = subst (λ (s : SyntaxPosition). Stands k s t) (sym is) refl
+  stands k t r (end {e = e} is at_e) = subst (λ (s : SyntaxPosition). Stands k s t) (sym is) (record { row = e; there = at_e; is = refl })
+  stands k t r (used is) = subst (λ (s : SyntaxPosition). Stands k s t) (sym is) refl
+  stands k t r (selected {o = o} is knows selects) = subst (λ (s : SyntaxPosition). Stands k s t) (sym is) (record { before = o; knows = knows; selects = selects })
+  stands k t r (second {u = u} is at_u) = subst (λ (s : SyntaxPosition). Stands k s t) (sym is) (record { row = u; there = at_u; is = refl })
+  stands k t r (nowhere is) = subst (λ (s : SyntaxPosition). Stands k s t) (sym is) refl
 
-  has_role : (k : ℕ) (t : Target) (r : ℕ) → Refers w k t r → r ≡ role k (standing w.rows k) t
+  has_role : (k : ℕ) (t : Target) (r : ℕ) → Refers w k t r → r ≡ role k (syntax_position w.rows k) t
   unfolding role
-  has_role k t r (own_name is) = ap (λ (s : Standing). role k s t) (sym is)
-  has_role k t r (item is) = ap (λ (s : Standing). role k s t) (sym is)
-  has_role k t r (declaration is) = ap (λ (s : Standing). role k s t) (sym is)
-  has_role k t r (end is at_e) = ap (λ (s : Standing). role k s t) (sym is)
-  has_role k t r (used is) = ap (λ (s : Standing). role k s t) (sym is)
-  has_role k t r (selected is knows selects) = ap (λ (s : Standing). role k s t) (sym is)
-  has_role k t r (second is at_u) = ap (λ (s : Standing). role k s t) (sym is)
-  has_role k t r (nowhere is) = ap (λ (s : Standing). role k s t) (sym is)
+  has_role k t r (module_name_token is) = ap (λ (s : SyntaxPosition). role k s t) (sym is)
+  has_role k t r (item is) = ap (λ (s : SyntaxPosition). role k s t) (sym is)
+  has_role k t r (declaration is) = ap (λ (s : SyntaxPosition). role k s t) (sym is)
+  has_role k t r (end is at_e) = ap (λ (s : SyntaxPosition). role k s t) (sym is)
+  has_role k t r (used is) = ap (λ (s : SyntaxPosition). role k s t) (sym is)
+  has_role k t r (selected is knows selects) = ap (λ (s : SyntaxPosition). role k s t) (sym is)
+  has_role k t r (second is at_u) = ap (λ (s : SyntaxPosition). role k s t) (sym is)
+  has_role k t r (nowhere is) = ap (λ (s : SyntaxPosition). role k s t) (sym is)
 
   end_once : (at : ℕ) (t u : Target) → EndStands at t → EndStands at u → t ≡ u
   end_once at t u a b =
@@ -84,7 +84,7 @@ module _ (w : World) where
   selected_once : (k at : ℕ) (t u : Target) → SelectedStands k at t → SelectedStands k at u → t ≡ u
   selected_once k at t u a b =
       let is : b.before ≡ a.before = knows_once w at b.before a.before b.knows a.knows in
-      selects_once w a.before k t u a.selects (subst (λ (v : Known). Selects w v k u) is b.selects)
+      selects_once w a.before k t u a.selects (subst (λ (v : DesignatorType). Selects w v k u) is b.selects)
 
   second_once : (k at : ℕ) (t u : Target) → SecondStands k at t → SecondStands k at u → t ≡ u
   second_once k at t u a b =
@@ -92,19 +92,19 @@ module _ (w : World) where
       let is : a.row ≡ b.row = cc in
       a.is ∙ ap (λ (v : Used). second_target w k (used_target w v.number)) is ∙ sym b.is
 
-  stands_once : (k : ℕ) (s : Standing) (t u : Target) → Stands k s t → Stands k s u → t ≡ u
+  stands_once : (k : ℕ) (s : SyntaxPosition) (t u : Target) → Stands k s t → Stands k s u → t ≡ u
   unfolding Stands
-  stands_once k standings.OwnName t u a b = a ∙ sym b
-  stands_once k (standings.Item at) t u a b = a ∙ sym b
-  stands_once k (standings.Declaration at) t u a b = a ∙ sym b
-  stands_once k (standings.End at) t u a b = end_once at t u a b
-  stands_once k (standings.Use at) t u a b = a ∙ sym b
-  stands_once k (standings.Selected at) t u a b = selected_once k at t u a b
-  stands_once k (standings.Second at) t u a b = second_once k at t u a b
-  stands_once k standings.Nowhere t u a b = a ∙ sym b
+  stands_once k syntax_positions.OwnName t u a b = a ∙ sym b
+  stands_once k (syntax_positions.Item at) t u a b = a ∙ sym b
+  stands_once k (syntax_positions.Declaration at) t u a b = a ∙ sym b
+  stands_once k (syntax_positions.End at) t u a b = end_once at t u a b
+  stands_once k (syntax_positions.Use at) t u a b = a ∙ sym b
+  stands_once k (syntax_positions.Selected at) t u a b = selected_once k at t u a b
+  stands_once k (syntax_positions.Second at) t u a b = second_once k at t u a b
+  stands_once k syntax_positions.Nowhere t u a b = a ∙ sym b
 
   pub target_once : (k : ℕ) (t u : Target) (r s : ℕ) → Refers w k t r → Refers w k u s → t ≡ u
-  target_once k t u r s a b = stands_once k (standing w.rows k) t u (stands k t r a) (stands k u s b)
+  target_once k t u r s a b = stands_once k (syntax_position w.rows k) t u (stands k t r a) (stands k u s b)
 
   pub role_once : (k : ℕ) (t u : Target) (r s : ℕ) → Refers w k t r → Refers w k u s → r ≡ s
-  role_once k t u r s a b = has_role k t r a ∙ ap (role k (standing w.rows k)) (target_once k t u r s a b) ∙ sym (has_role k u s b)
+  role_once k t u r s a b = has_role k t r a ∙ ap (role k (syntax_position w.rows k)) (target_once k t u r s a b) ∙ sym (has_role k u s b)

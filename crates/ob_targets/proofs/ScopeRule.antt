@@ -14,41 +14,41 @@ use Rattle.ob_scan.specs.Spelling.{AreInText}
 use Rattle.ob_scan.specs.Texts.{no_token, text_at}
 use Rattle.ob_scan.proofs.Places.{spelled_in_text}
 use Rattle.ob_tree.specs.declared.declaration.Module.{Module}
-use Rattle.ob_rows.specs.declared.rows.Declared.{Declared}
-use Rattle.ob_rows.specs.declared.rows.Declarer.{Declarer}
-use Rattle.ob_rows.specs.declared.rows.Import.{Import}
-use Rattle.ob_rows.specs.declared.rows.Sort.{Sort}
-use Rattle.ob_rows.specs.declared.rows.Sort.TheVariants as sorts
-use Rattle.ob_rows.specs.declared.rows.Used.{Used}
-use Rattle.ob_rows.specs.Blocks.{IsAround, itself}
-use Rattle.ob_rows.specs.Order.{AreRowsInOrder}
-use Rattle.ob_rows.specs.Parts.{Rows}
-use Rattle.ob_rows.proofs.Around.{around-le, ascend_one}
-use Rattle.ob_decls.specs.Declaring.{rows_of}
-use Rattle.ob_decls.proofs.Derived.{declared_ident, used_ident}
-use Rattle.ob_decls.proofs.LinedModules.{rows_in_order}
-use Rattle.ob_interface.specs.Interfaces.{Alone, declaration, imported_of, interface_of, start_at, Declaration, Imported, ModuleInterface}
+use Rattle.module_table.specs.declared.rows.Declared.{Declared}
+use Rattle.module_table.specs.declared.rows.DeclGroup.{DeclGroup}
+use Rattle.module_table.specs.declared.rows.Import.{Import}
+use Rattle.module_table.specs.declared.rows.DeclKind.{DeclKind}
+use Rattle.module_table.specs.declared.rows.DeclKind.TheVariants as decl_kinds
+use Rattle.module_table.specs.declared.rows.Used.{Used}
+use Rattle.module_table.specs.Blocks.{Encloses, itself}
+use Rattle.module_table.specs.Order.{AreRowsSorted}
+use Rattle.module_table.specs.Parts.{Rows}
+use Rattle.module_table.proofs.Around.{around-le, ascend_one}
+use Rattle.table_rules.specs.Declaring.{rows_of}
+use Rattle.table_rules.proofs.Derived.{declared_ident, used_ident}
+use Rattle.table_rules.proofs.LinedModules.{rows_in_order}
+use Rattle.ob_interface.specs.Interfaces.{Simple, declaration, imported_of, interface_of, start_at, Declaration, Imported, ModuleInterface}
 use Rattle.ob_interface.specs.OwnTable.{Declares}
-use Rattle.ob_interface.specs.Placed.{declaration_at, module_named, place_of}
+use Rattle.ob_interface.specs.Placed.{declaration_at, module_named, index_of}
 use Rattle.ob_interface.proofs.FoundRows.{found_rows}
 use Rattle.ob_scope.specs.declared.members.Member.{Member}
 use Rattle.ob_scope.specs.declared.members.Scope.{Scope}
 use Rattle.ob_scope.specs.declared.members.Scope.TheVariants.{Block}
-use Rattle.ob_scope.specs.Members.{declarer_at, member_by, members_of, scope_of}
-use Rattle.ob_scope.specs.Scope.{as_target, by_scope, ResolvesTo, IsSeen}
+use Rattle.ob_scope.specs.Members.{decl_group_at, declared_member, members_of, scope_of}
+use Rattle.ob_scope.specs.Scope.{as_target, by_scope, ResolvesTo, IsVisible}
 use Rattle.ob_scope.specs.Scoped.{ModuleScopes}
 use Rattle.ob_scope.proofs.Elements.{slice_contains}
 use Rattle.ob_scope.proofs.Meanings.{member_once}
 use Rattle.ob_scope.proofs.Placing.{declarer_found}
-use Rattle.type_search.specs.declared.shape.Shape.TheVariants as shapes
+use Rattle.type_graph.specs.declared.shape.Shape.TheVariants as shapes
 use Rattle.ob_types.specs.declared.nodes.Named.TheVariants as named
 use Rattle.ob_types.specs.declared.nodes.Node.TheVariants as nodes
-use Rattle.ob_types.specs.Shapes.{TypeShape, is_type, known, may_mean, named_there, seen_by, seen_type, type_by}
-use Rattle.ob_types.specs.World.{World, declaration_there, declared_there, named_by_alias}
-use Rattle.ob_targets.specs.ScopeRule.{IsOuterUse, MeansAlias, MeansType}
+use Rattle.ob_types.specs.Shapes.{TypeShape, is_type, known, may_mean, resolve_imported_name, type_if_visible, visible_type, type_by}
+use Rattle.ob_types.specs.World.{World, imported_declaration, named_declaration, named_by_alias}
+use Rattle.ob_targets.specs.ScopeRule.{IsBlockUse, MeansAlias, MeansType}
 use Rattle.ob_targets.proofs.Aliased.{alias_before, aliased}
 use Rattle.ob_targets.specs.Contexts as contexts
-use Rattle.ob_targets.proofs.OneContext.{one_context}
+use Rattle.ob_targets.proofs.OneContext.{one_syntax_position}
 
 -- ---- lists
 
@@ -61,8 +61,8 @@ in_picked h [] x y e (i, l, g) = absurd (omega arith)
 in_picked h (z ∷ zs) x y e (zero, l, g) = let is : h z ≡ Some y = ap h g ∙ e in rw is (zero, omega arith, refl)
 in_picked h (z ∷ zs) x y e (suc i, l, g) = picked_one h z (h z) y (filter_map h zs) refl (in_picked h zs x y e (i, omega arith, g))
 
-is_type_sort : (s : Sort) → is_type s ≡ true → s ≡ sorts.Type
-is_type_sort sorts.Type e = refl
+is_type_sort : (s : DeclKind) → is_type s ≡ true → s ≡ decl_kinds.Type
+is_type_sort decl_kinds.Type e = refl
 is_type_sort s e = absurd cc
 
 or_cases : (a b : Bool) → (a || b) ≡ true → (a ≡ true) ⊎ ((a ≡ false) × (b ≡ true))
@@ -98,8 +98,8 @@ module _ (bytes : List ℕ) (ts : List Token) (m : Module) (s : ModuleScopes) (u
   abbrev start : ℕ
   start = start_at ts u.number
 
-  module _ (is : IsOuterUse bytes ts m s u) where
-    order : AreRowsInOrder rows
+  module _ (is : IsBlockUse bytes ts m s u) where
+    order : AreRowsSorted rows
     order = rows_in_order m
 
     in_text : AreInText bytes ts
@@ -134,47 +134,47 @@ module _ (bytes : List ℕ) (ts : List Token) (m : Module) (s : ModuleScopes) (u
 
     never_both : (row : Declared) → Contains rows.declared row → row.number ≡ u.number → ⊥
     never_both row has same =
-        let e = one_context m u.number contexts.Declaration contexts.Use (contexts.declared row has same) (contexts.used u is.is_use refl) in cc
+        let e = one_syntax_position m u.number contexts.Declaration contexts.Use (contexts.declared row has same) (contexts.used u is.is_use refl) in cc
 
     -- the member of a row that declares the name
-    abbrev member : Declared → Declarer → Member
-    member row by = record { place = Block 0; number = row.number; sort = by.sort }
+    abbrev member : Declared → DeclGroup → Member
+    member row by = record { place = Block 0; number = row.number; decl_kind = by.decl_kind }
 
-    scope_is : (by : Declarer) → by.of_record ≡ None → by.block ≡ 0 → scope_of by ≡ Block 0
+    scope_is : (by : DeclGroup) → by.of_record ≡ None → by.block ≡ 0 → scope_of by ≡ Block 0
     scope_is by none block = rw none (ap (λ (b : ℕ). Block b) block)
 
-    in_members : (row : Declared) (by : Declarer) → Contains rows.declared row → Contains rows.declarers by → by.first ≡ row.declared_by → by.of_record ≡ None → by.block ≡ 0 → Contains (members_of rows) (member row by)
+    in_members : (row : Declared) (by : DeclGroup) → Contains rows.declared row → Contains rows.decl_groups by → by.first ≡ row.declared_by → by.of_record ≡ None → by.block ≡ 0 → Contains (members_of rows) (member row by)
     in_members row by is_row is_construct begins no_field in_block =
-        let (at, there) = slice_contains rows.declarers by is_construct in
-        let found : declarer_at rows.declarers row.declared_by ≡ Some by = declarer_found rows.declarers at row.declared_by by order.declarers there begins in
-        let made : member_by row (Some by) ≡ Some (member row by) = ap (λ (p : Scope). Some (record { place = p; number = row.number; sort = by.sort })) (scope_is by no_field in_block) in
-        in_picked (λ (x : Declared). member_by x (declarer_at rows.declarers x.declared_by)) rows.declared row (member row by) (ap (member_by row) found ∙ made) is_row
+        let (at, there) = slice_contains rows.decl_groups by is_construct in
+        let found : decl_group_at rows.decl_groups row.declared_by ≡ Some by = declarer_found rows.decl_groups at row.declared_by by order.decl_groups there begins in
+        let made : declared_member row (Some by) ≡ Some (member row by) = ap (λ (p : Scope). Some (record { place = p; number = row.number; decl_kind = by.decl_kind })) (scope_is by no_field in_block) in
+        in_picked (λ (x : Declared). declared_member x (decl_group_at rows.decl_groups x.declared_by)) rows.declared row (member row by) (ap (declared_member row) found ∙ made) is_row
 
-    is_member : (row : Declared) (by : Declarer) → Declares bytes ts rows None name row by → Contains (members_of rows) (member row by)
+    is_member : (row : Declared) (by : DeclGroup) → Declares bytes ts rows None name row by → Contains (members_of rows) (member row by)
     is_member row by d = in_members row by d.is_row d.is_construct d.begins d.in_record d.in_block
 
     -- a member that the use sees is in the module's block
-    seen_outer : (b : ℕ) (e : Member) → IsSeen text rows.blocks (members_of rows) u b e → b ≡ 0
-    seen_outer b e sees = let le = around-le rows.blocks b 0 (subst (IsAround rows.blocks b) is.outer sees.around) in omega (arith, le)
+    seen_outer : (b : ℕ) (e : Member) → IsVisible text rows.blocks (members_of rows) u b e → b ≡ 0
+    seen_outer b e sees = let le = around-le rows.blocks b 0 (subst (Encloses rows.blocks b) is.outer sees.around) in omega (arith, le)
 
     -- what is seen in the module's block is what the use resolves to
     resolved_outer : (e : Member) → Contains (members_of rows) e → e.place ≡ Block 0 → text e.number ≡ name → e.number < u.number → ResolvesTo text rows.blocks (members_of rows) u e
     resolved_outer e has placed is_named before = by_scope (record {
       block = 0;
       seen = record { declared = has; placed = placed; named = is_named; before = before; around = itself (sym is.outer) };
-      innermost = λ b other sees. subst (IsAround rows.blocks b) is.outer sees.around;
+      innermost = λ b other sees. subst (Encloses rows.blocks b) is.outer sees.around;
     })
 
     -- the use means what has its name in the module's block
     meant : (k : ℕ) → Contains s.meanings (record { used = u.number; declared = k }) → (e : Member) × (e.number ≡ k) × ResolvesTo text rows.blocks (members_of rows) u e
     meant k has =
         let means = (is.scopes.meanings u.number k).0 has in
-        let same : means.use_there ≡ u = ascend_one (λ (x : Used). x.number) rows.uses means.use_there u order.uses means.is_use is.is_use means.of_use in
-        (means.declared_there, means.of_declared, subst (λ (x : Used). ResolvesTo text rows.blocks (members_of rows) x means.declared_there) same means.means)
+        let same : means.use_row ≡ u = ascend_one (λ (x : Used). x.number) rows.uses means.use_row u order.uses means.is_use is.is_use means.of_use in
+        (means.named_declaration, means.of_declared, subst (λ (x : Used). ResolvesTo text rows.blocks (members_of rows) x means.named_declaration) same means.means)
 
-    resolves : (row : Declared) (by : Declarer) → Declares bytes ts rows None name row by → by.sort ≡ sorts.Type → may_mean start u.is_target (declaration bytes ts rows.parts row by) ≡ true
+    resolves : (row : Declared) (by : DeclGroup) → Declares bytes ts rows None name row by → by.decl_kind ≡ decl_kinds.Type → may_mean start u.is_target (declaration bytes ts rows.parts row by) ≡ true
         → ResolvesTo text rows.blocks (members_of rows) u (member row by)
-    resolves row by d a_type may = elim (or_cases (nat_lt (start_at ts row.number) start) (u.is_target && is_type by.sort) may) [
+    resolves row by d a_type may = elim (or_cases (nat_lt (start_at ts row.number) start) (u.is_target && is_type by.decl_kind) may) [
       | inl before ↦ by_scope (record {
         block = 0;
         seen = record {
@@ -184,7 +184,7 @@ module _ (bytes : List ℕ) (ts : List Token) (m : Module) (s : ModuleScopes) (u
           before = starts_back row.number u.number (row_low row d.is_row) (ltb-true (start_at ts row.number) start before);
           around = itself (sym is.outer);
         };
-        innermost = λ b e sees. subst (IsAround rows.blocks b) is.outer sees.around;
+        innermost = λ b e sees. subst (Encloses rows.blocks b) is.outer sees.around;
       })
       | inr (not_before, target) ↦
           let differ : row.number ≡ u.number → ⊥ = never_both row d.is_row in
@@ -195,7 +195,7 @@ module _ (bytes : List ℕ) (ts : List Token) (m : Module) (s : ModuleScopes) (u
               | inr ge ↦ absurd (differ (omega (arith, le, ge)))
             ]
           ] in
-          as_target (and_left u.is_target (is_type by.sort) target)
+          as_target (and_left u.is_target (is_type by.decl_kind) target)
           (λ b e sees.
           let same : e ≡ member row by = member_once text (members_of rows) e (member row by) is.scopes.once sees.declared (is_member row by d) (sees.placed ∙ ap (λ (x : ℕ). Block x) (seen_outer b e sees), sees.named ∙ sym d.named) in
           let number = ap (λ (x : Member). x.number) same in
@@ -210,14 +210,14 @@ module _ (bytes : List ℕ) (ts : List Token) (m : Module) (s : ModuleScopes) (u
           })
     ]
 
-    may : (row : Declared) (by : Declarer) → Declares bytes ts rows None name row by → by.sort ≡ sorts.Type → Contains s.meanings (record { used = u.number; declared = row.number }) → may_mean start u.is_target (declaration bytes ts rows.parts row by) ≡ true
+    may : (row : Declared) (by : DeclGroup) → Declares bytes ts rows None name row by → by.decl_kind ≡ decl_kinds.Type → Contains s.meanings (record { used = u.number; declared = row.number }) → may_mean start u.is_target (declaration bytes ts rows.parts row by) ≡ true
     may row by d a_type has = let (e, number, resolved) = meant row.number has in at e number resolved
       where
         at : (e : Member) → e.number ≡ row.number → ResolvesTo text rows.blocks (members_of rows) u e → may_mean start u.is_target (declaration bytes ts rows.parts row by) ≡ true
         at e number (by_scope r) =
             let before = r.seen.before in
-            ap (λ (b : Bool). b || (u.is_target && is_type by.sort)) (lt-ltb (start_at ts row.number) start (starts row.number u.number (omega (arith, number, before)) use_low))
-        at e number (as_target t n l) = or_right (nat_lt (start_at ts row.number) start) (u.is_target && is_type by.sort) (both_true u.is_target (is_type by.sort) t (ap is_type a_type))
+            ap (λ (b : Bool). b || (u.is_target && is_type by.decl_kind)) (lt-ltb (start_at ts row.number) start (starts row.number u.number (omega (arith, number, before)) use_low))
+        at e number (as_target t n l) = or_right (nat_lt (start_at ts row.number) start) (u.is_target && is_type by.decl_kind) (both_true u.is_target (is_type by.decl_kind) t (ap is_type a_type))
 
     -- ---- aliases
 
@@ -232,7 +232,7 @@ module _ (bytes : List ℕ) (ts : List Token) (m : Module) (s : ModuleScopes) (u
         let (e, is_in, placed, number) = alias_member item has in
         let before = alias_before m item u has is.is_use in
         let resolved = resolved_outer e is_in placed (ap text number ∙ is_named) (omega (arith, number, before)) in
-        (is.scopes.meanings u.number item.alias).1 (record { use_there = u; is_use = is.is_use; of_use = refl; declared_there = e; means = resolved; of_declared = number })
+        (is.scopes.meanings u.number item.alias).1 (record { use_row = u; is_use = is.is_use; of_use = refl; named_declaration = e; means = resolved; of_declared = number })
 
     resolved_name : (e : Member) → ResolvesTo text rows.blocks (members_of rows) u e → text e.number ≡ name
     resolved_name e (by_scope r) = r.seen.named
@@ -286,75 +286,75 @@ module _ (bytes : List ℕ) (ts : List Token) (m : Module) (s : ModuleScopes) (u
       shape_at d = shapes.Named (named.Other i d) (nodes.Other i d 0)
 
       abbrev seen_at : ℕ → Option TypeShape
-      seen_at d = option_and_then (seen_by i d start u.is_target) (declaration_at seen d)
+      seen_at d = option_and_then (type_if_visible i d start u.is_target) (declaration_at seen d)
 
-      type_at : (d : ℕ) → seen_type w i start u.is_target d ≡ seen_at d
-      unfolding seen_type declaration_there
-      type_at d = ap (λ (o : Option ModuleInterface). option_and_then (seen_by i d start u.is_target) (option_and_then (λ (x : ModuleInterface). declaration_at x d) o)) there
+      type_at : (d : ℕ) → visible_type w i start u.is_target d ≡ seen_at d
+      unfolding visible_type imported_declaration
+      type_at d = ap (λ (o : Option ModuleInterface). option_and_then (type_if_visible i d start u.is_target) (option_and_then (λ (x : ModuleInterface). declaration_at x d) o)) there
 
-      placed : declared_there w i name ≡ place_of seen None name
-      unfolding declared_there
-      placed = ap (option_and_then (λ (x : ModuleInterface). place_of x None name)) there
+      placed : named_declaration w i name ≡ index_of seen None name
+      unfolding named_declaration
+      placed = ap (option_and_then (λ (x : ModuleInterface). index_of x None name)) there
 
-      denoted : named_there w i start u.is_target (Alone name) ≡ known (option_and_then seen_at (place_of seen None name))
-      unfolding named_there
-      denoted = ap (λ (o : Option ℕ). known (option_and_then (seen_type w i start u.is_target) o)) placed ∙ ap (λ (f : ℕ → Option TypeShape). known (option_and_then f (place_of seen None name))) (λ j d. type_at d j)
+      denoted : resolve_imported_name w i start u.is_target (Simple name) ≡ known (option_and_then seen_at (index_of seen None name))
+      unfolding resolve_imported_name
+      denoted = ap (λ (o : Option ℕ). known (option_and_then (visible_type w i start u.is_target) o)) placed ∙ ap (λ (f : ℕ → Option TypeShape). known (option_and_then f (index_of seen None name))) (λ j d. type_at d j)
 
       -- the declaration that the name denotes
       record IsDenoted (d : ℕ) : Type 0 where
         it : Declaration
-        place : place_of seen None name ≡ Some d
+        place : index_of seen None name ≡ Some d
         at : declaration_at seen d ≡ Some it
         may_be : may_mean start u.is_target it ≡ true
-        a_type : is_type it.sort ≡ true
+        a_type : is_type it.decl_kind ≡ true
 
       one_place : (p d : ℕ) → shape_at p ≡ shape_at d → p ≡ d
       one_place p d e = cc
 
-      by_type : (p d : ℕ) (it : Declaration) (b : Bool) → is_type it.sort ≡ b → place_of seen None name ≡ Some p → declaration_at seen p ≡ Some it → may_mean start u.is_target it ≡ true → known (if b then Some (shape_at p) else None) ≡ shape_at d → IsDenoted d
+      by_type : (p d : ℕ) (it : Declaration) (b : Bool) → is_type it.decl_kind ≡ b → index_of seen None name ≡ Some p → declaration_at seen p ≡ Some it → may_mean start u.is_target it ≡ true → known (if b then Some (shape_at p) else None) ≡ shape_at d → IsDenoted d
       by_type p d it false e place at may_be is_shape = absurd cc
       by_type p d it true e place at may_be is_shape =
           let same = one_place p d is_shape in
           record { it = it; place = place ∙ ap (λ (n : ℕ). Some n) same; at = ap (declaration_at seen) (sym same) ∙ at; may_be = may_be; a_type = e }
 
-      by_place : (p d : ℕ) (it : Declaration) (b : Bool) → may_mean start u.is_target it ≡ b → place_of seen None name ≡ Some p → declaration_at seen p ≡ Some it → known (if b then type_by i p it else None) ≡ shape_at d → IsDenoted d
+      by_place : (p d : ℕ) (it : Declaration) (b : Bool) → may_mean start u.is_target it ≡ b → index_of seen None name ≡ Some p → declaration_at seen p ≡ Some it → known (if b then type_by i p it else None) ≡ shape_at d → IsDenoted d
       by_place p d it false e place at is_shape = absurd cc
-      by_place p d it true e place at is_shape = by_type p d it (is_type it.sort) refl place at e is_shape
+      by_place p d it true e place at is_shape = by_type p d it (is_type it.decl_kind) refl place at e is_shape
 
-      by_declaration : (p d : ℕ) (o : Option Declaration) → declaration_at seen p ≡ o → place_of seen None name ≡ Some p → known (option_and_then (seen_by i p start u.is_target) o) ≡ shape_at d → IsDenoted d
+      by_declaration : (p d : ℕ) (o : Option Declaration) → declaration_at seen p ≡ o → index_of seen None name ≡ Some p → known (option_and_then (type_if_visible i p start u.is_target) o) ≡ shape_at d → IsDenoted d
       by_declaration p d None at place is_shape = absurd cc
       by_declaration p d (Some it) at place is_shape = by_place p d it (may_mean start u.is_target it) refl place at is_shape
 
-      by_name : (d : ℕ) (o : Option ℕ) → place_of seen None name ≡ o → known (option_and_then seen_at o) ≡ shape_at d → IsDenoted d
+      by_name : (d : ℕ) (o : Option ℕ) → index_of seen None name ≡ o → known (option_and_then seen_at o) ≡ shape_at d → IsDenoted d
       by_name d None place is_shape = absurd cc
       by_name d (Some p) place is_shape = by_declaration p d (declaration_at seen p) refl place is_shape
 
       from_denoted : (d : ℕ) → IsDenoted d → MeansType bytes ts rows s u.number d
       from_denoted d h =
           let first = (found_rows bytes ts rows None name order h.it).0 (ap (option_and_then (declaration_at seen)) h.place ∙ h.at) in
-          let is_sort : is_type (first.by).sort ≡ true = ap (λ (x : Declaration). is_type x.sort) (sym first.told) ∙ h.a_type in
-          let a_type = is_type_sort (first.by).sort is_sort in
-          let resolved = resolves first.row first.by first.declares a_type (ap (may_mean start u.is_target) (sym first.told) ∙ h.may_be) in
+          let is_sort : is_type (first.by).decl_kind ≡ true = ap (λ (x : Declaration). is_type x.decl_kind) (sym first.exact) ∙ h.a_type in
+          let a_type = is_type_sort (first.by).decl_kind is_sort in
+          let resolved = resolves first.row first.by first.declares a_type (ap (may_mean start u.is_target) (sym first.exact) ∙ h.may_be) in
           record {
             row = first.row;
             by = first.by;
             declares = first.declares;
             a_type = a_type;
-            means = (is.scopes.meanings u.number (first.row).number).1 (record { use_there = u; is_use = is.is_use; of_use = refl; declared_there = member first.row first.by; means = resolved; of_declared = refl });
+            means = (is.scopes.meanings u.number (first.row).number).1 (record { use_row = u; is_use = is.is_use; of_use = refl; named_declaration = member first.row first.by; means = resolved; of_declared = refl });
             place = h.place;
-            there = h.at ∙ ap (λ (x : Declaration). Some x) first.told;
+            there = h.at ∙ ap (λ (x : Declaration). Some x) first.exact;
           }
 
-      shape_is : (d : ℕ) (it : Declaration) → may_mean start u.is_target it ≡ true → is_type it.sort ≡ true → known (seen_by i d start u.is_target it) ≡ shape_at d
+      shape_is : (d : ℕ) (it : Declaration) → may_mean start u.is_target it ≡ true → is_type it.decl_kind ≡ true → known (type_if_visible i d start u.is_target it) ≡ shape_at d
       shape_is d it may_be a_type = rw (may_be, a_type) refl
 
-      to_shape : (d : ℕ) → MeansType bytes ts rows s u.number d → named_there w i start u.is_target (Alone name) ≡ shape_at d
+      to_shape : (d : ℕ) → MeansType bytes ts rows s u.number d → resolve_imported_name w i start u.is_target (Simple name) ≡ shape_at d
       to_shape d h =
-          denoted ∙ ap (λ (o : Option ℕ). known (option_and_then seen_at o)) h.place ∙ ap (λ (o : Option Declaration). known (option_and_then (seen_by i d start u.is_target) o)) h.there
+          denoted ∙ ap (λ (o : Option ℕ). known (option_and_then seen_at o)) h.place ∙ ap (λ (o : Option Declaration). known (option_and_then (type_if_visible i d start u.is_target) o)) h.there
           ∙ shape_is d (declaration bytes ts rows.parts h.row h.by) (may h.row h.by h.declares h.a_type h.means) (ap is_type h.a_type)
 
-      pub alone : (d : ℕ) → (named_there w i start u.is_target (Alone name) ≡ shape_at d) ↔ MeansType bytes ts rows s u.number d
-      alone d = (λ e. from_denoted d (by_name d (place_of seen None name) refl (sym denoted ∙ e)), to_shape d)
+      pub alone : (d : ℕ) → (resolve_imported_name w i start u.is_target (Simple name) ≡ shape_at d) ↔ MeansType bytes ts rows s u.number d
+      alone d = (λ e. from_denoted d (by_name d (index_of seen None name) refl (sym denoted ∙ e)), to_shape d)
 
       alias_there : named_by_alias w i name ≡ found_own rows.imports
       unfolding named_by_alias

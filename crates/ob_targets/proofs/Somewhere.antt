@@ -10,16 +10,16 @@ use Rattle.ob_scan.specs.declared.kind.Kind.TheVariants as kinds
 use Rattle.ob_scan.specs.declared.token.Token.{Token}
 use Rattle.ob_tree.specs.declared.declaration.Module.{Module}
 use Rattle.ob_tree.specs.Derives.{Derives}
-use Rattle.ob_rows.specs.Tables.{own_name}
-use Rattle.ob_decls.specs.Declaring.{rows_of}
-use Rattle.ob_decls.specs.Naming.{IsNamed}
-use Rattle.ob_decls.specs.Naming as names
-use Rattle.ob_rows.specs.Parts.{Rows}
-use Rattle.ob_decls.proofs.Derived.{each_named}
-use Rattle.ob_targets.specs.declared.standing.Standing.{Standing}
-use Rattle.ob_targets.specs.declared.standing.Standing.TheVariants as standings
+use Rattle.module_table.specs.Tables.{module_name_token}
+use Rattle.table_rules.specs.Declaring.{rows_of}
+use Rattle.table_rules.specs.Naming.{IsNamed}
+use Rattle.table_rules.specs.Naming as names
+use Rattle.module_table.specs.Parts.{Rows}
+use Rattle.table_rules.proofs.Derived.{each_named}
+use Rattle.ob_targets.specs.declared.syntax_position.SyntaxPosition.{SyntaxPosition}
+use Rattle.ob_targets.specs.declared.syntax_position.SyntaxPosition.TheVariants as syntax_positions
 use Rattle.ob_targets.specs.Refers.{identifiers, is_identifier, identifier_number}
-use Rattle.ob_targets.specs.Standing.{first, is_alias, is_declared, is_end_name, is_imported_name, is_second, is_selected, is_token, is_use, name_of, standing}
+use Rattle.ob_targets.specs.SyntaxPosition.{first, is_alias, is_declared, is_end_name, is_imported_name, is_second, is_selected, is_token, is_use, name_of, syntax_position}
 
 -- ---- the first row of a kind
 
@@ -38,11 +38,11 @@ module _ {X : Type 0} (stands : X → Bool) where
   found xs x c t none = found_from 0 xs x c t (sym (position_from-zero stands xs) ∙ none)
 
   -- where the first tells nothing there is none, and what is told otherwise tells nothing
-  none_first : (at : ℕ → Standing) (xs : List X) (otherwise : Standing) → ((n : ℕ) → at n ≡ standings.Nowhere → ⊥) → first stands at xs otherwise ≡ standings.Nowhere →
-      ((x : X) → Contains xs x → stands x ≡ true → ⊥) × (otherwise ≡ standings.Nowhere)
+  none_first : (at : ℕ → SyntaxPosition) (xs : List X) (otherwise : SyntaxPosition) → ((n : ℕ) → at n ≡ syntax_positions.Nowhere → ⊥) → first stands at xs otherwise ≡ syntax_positions.Nowhere →
+      ((x : X) → Contains xs x → stands x ≡ true → ⊥) × (otherwise ≡ syntax_positions.Nowhere)
   none_first at xs otherwise never e = by (position stands xs) refl e
     where
-      by : (o : Option ℕ) → position stands xs ≡ o → option_map_or at o otherwise ≡ standings.Nowhere → ((x : X) → Contains xs x → stands x ≡ true → ⊥) × (otherwise ≡ standings.Nowhere)
+      by : (o : Option ℕ) → position stands xs ≡ o → option_map_or at o otherwise ≡ syntax_positions.Nowhere → ((x : X) → Contains xs x → stands x ≡ true → ⊥) × (otherwise ≡ syntax_positions.Nowhere)
       by None none rest = (λ x c t. found xs x c t none, rest)
       by (Some n) some here = absurd (never n here)
 
@@ -52,36 +52,36 @@ same a k e = eq-eqb a k e
 -- ---- what a row names stands somewhere
 
 module _ (rows : Rows) (k : ℕ) where
-  abbrev by_second : Standing
-  by_second = first (is_second k) standings.Second rows.uses standings.Nowhere
+  abbrev by_second : SyntaxPosition
+  by_second = first (is_second k) syntax_positions.Second rows.uses syntax_positions.Nowhere
 
-  abbrev by_selected : Standing
-  by_selected = first (is_selected k) standings.Selected rows.selectors by_second
+  abbrev by_selected : SyntaxPosition
+  by_selected = first (is_selected k) syntax_positions.Selected rows.selectors by_second
 
-  abbrev by_use : Standing
-  by_use = first (is_use k) standings.Use rows.uses by_selected
+  abbrev by_use : SyntaxPosition
+  by_use = first (is_use k) syntax_positions.Use rows.uses by_selected
 
-  abbrev by_end : Standing
-  by_end = first (is_end_name k) standings.End rows.ends by_use
+  abbrev by_end : SyntaxPosition
+  by_end = first (is_end_name k) syntax_positions.End rows.ends by_use
 
-  abbrev by_declared : Standing
-  by_declared = first (is_declared k) standings.Declaration rows.declared by_end
+  abbrev by_declared : SyntaxPosition
+  by_declared = first (is_declared k) syntax_positions.Declaration rows.declared by_end
 
-  abbrev by_imported : Standing
-  by_imported = first (is_imported_name k) standings.Item rows.imports by_declared
+  abbrev by_imported : SyntaxPosition
+  by_imported = first (is_imported_name k) syntax_positions.Item rows.imports by_declared
 
-  abbrev by_alias : Standing
-  by_alias = first (is_alias k) standings.Item rows.imports by_imported
+  abbrev by_alias : SyntaxPosition
+  by_alias = first (is_alias k) syntax_positions.Item rows.imports by_imported
 
-  behind_own : (k ≡ own_name → ⊥) → IsNamed rows k → by_alias ≡ standings.Nowhere → ⊥
+  behind_own : (k ≡ module_name_token → ⊥) → IsNamed rows k → by_alias ≡ syntax_positions.Nowhere → ⊥
   behind_own not_own named e =
-      let a = none_first (is_alias k) standings.Item rows.imports by_imported (λ n f. cc) e in
-      let b = none_first (is_imported_name k) standings.Item rows.imports by_declared (λ n f. cc) a.1 in
-      let c = none_first (is_declared k) standings.Declaration rows.declared by_end (λ n f. cc) b.1 in
-      let d = none_first (is_end_name k) standings.End rows.ends by_use (λ n f. cc) c.1 in
-      let u = none_first (is_use k) standings.Use rows.uses by_selected (λ n f. cc) d.1 in
-      let s = none_first (is_selected k) standings.Selected rows.selectors by_second (λ n f. cc) u.1 in
-      let t = none_first (is_second k) standings.Second rows.uses standings.Nowhere (λ n f. cc) s.1 in
+      let a = none_first (is_alias k) syntax_positions.Item rows.imports by_imported (λ n f. cc) e in
+      let b = none_first (is_imported_name k) syntax_positions.Item rows.imports by_declared (λ n f. cc) a.1 in
+      let c = none_first (is_declared k) syntax_positions.Declaration rows.declared by_end (λ n f. cc) b.1 in
+      let d = none_first (is_end_name k) syntax_positions.End rows.ends by_use (λ n f. cc) c.1 in
+      let u = none_first (is_use k) syntax_positions.Use rows.uses by_selected (λ n f. cc) d.1 in
+      let s = none_first (is_selected k) syntax_positions.Selected rows.selectors by_second (λ n f. cc) u.1 in
+      let t = none_first (is_second k) syntax_positions.Second rows.uses syntax_positions.Nowhere (λ n f. cc) s.1 in
       elim named [
         | names.own is ↦ not_own is
         | names.imported i among is ↦ b.0 i among (same i.imported k is)
@@ -92,10 +92,10 @@ module _ (rows : Rows) (k : ℕ) where
         | names.second x among is ↦ t.0 x among (ap (is_token k) is ∙ same k k refl)
       ]
 
-  pub somewhere : IsNamed rows k → standing rows k ≡ standings.Nowhere → ⊥
-  somewhere named e = elim (cases_Bool (k == own_name)) [
-    | inl is ↦ (let f : standings.OwnName ≡ standings.Nowhere = rw is at e in cc)
-    | inr isnt ↦ behind_own (λ own. let t : (k == own_name) ≡ true = same k own_name own in let f : true ≡ false = sym t ∙ isnt in cc) named (rw isnt at e)
+  pub somewhere : IsNamed rows k → syntax_position rows k ≡ syntax_positions.Nowhere → ⊥
+  somewhere named e = elim (cases_Bool (k == module_name_token)) [
+    | inl is ↦ (let f : syntax_positions.OwnName ≡ syntax_positions.Nowhere = rw is at e in cc)
+    | inr isnt ↦ behind_own (λ own. let t : (k == module_name_token) ≡ true = same k module_name_token own in let f : true ≡ false = sym t ∙ isnt in cc) named (rw isnt at e)
   ]
 
 -- ---- identifiers
@@ -124,7 +124,7 @@ ident_from (t ∷ ts) a k h = elim (cases_Bool (is_identifier t.kind)) [
       (suc r.0, (let e : a + 1 + r.0 ≡ k = r.1 in omega arith), r.2)
 ]
 
-pub identifier_somewhere : (tokens : List Token) (m : Module) (k : ℕ) → Derives (map (λ (t : Token). t.kind) tokens) m → Contains (identifiers tokens) k → standing (rows_of m) k ≡ standings.Nowhere → ⊥
+pub identifier_somewhere : (tokens : List Token) (m : Module) (k : ℕ) → Derives (map (λ (t : Token). t.kind) tokens) m → Contains (identifiers tokens) k → syntax_position (rows_of m) k ≡ syntax_positions.Nowhere → ⊥
 identifier_somewhere tokens m k d h =
     let r = ident_from tokens 0 k h in
     let place : r.0 ≡ k = (let e : 0 + r.0 ≡ k = r.1 in omega arith) in

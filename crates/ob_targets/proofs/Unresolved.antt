@@ -7,7 +7,7 @@ use Rattle.ob_types.specs.World.{World}
 use Rattle.ob_targets.specs.declared.target.Reference.{Reference}
 use Rattle.ob_targets.specs.declared.target.Target.{Target}
 use Rattle.ob_targets.specs.declared.target.Target.TheVariants as targets
-use Rattle.ob_targets.specs.Refers.{identifiers, is_unresolved, unresolved, AreReferences, Refers, StandsForNothing}
+use Rattle.ob_targets.specs.Refers.{identifiers, is_unresolved, unresolved, AreReferences, Refers, DenotesNothing}
 use Rattle.ob_targets.proofs.Referred.{target_once}
 
 in_head : {X : Type 0} (x : X) (xs : List X) → Contains (x ∷ xs) x
@@ -86,7 +86,7 @@ kept (r ∷ rs) row c nothing = elim (head_or_tail r rs row c) [
 ]
 
 module _ (w : World) (rs : List Reference) (k : ℕ) (are : AreReferences w rs) where
-  from_row : HasNothing rs k → StandsForNothing w k
+  from_row : HasNothing rs k → DenotesNothing w k
   from_row h =
       let numbered_here : Contains (map (λ (r : Reference). r.number) rs) h.row.number = mapped rs h.row h.among in
       let refers : Refers w h.row.number h.row.target h.row.role = All-contains (λ (r : Reference). Refers w r.number r.target r.role) rs h.row are.each h.among in
@@ -110,12 +110,12 @@ module _ (w : World) (rs : List Reference) (k : ℕ) (are : AreReferences w rs) 
       let refers : Refers w h.row.number h.row.target h.row.role = All-contains (λ (r : Reference). Refers w r.number r.target r.role) rs h.row are.each h.among in
       (h.row.target, h.row.role, subst (λ (n : ℕ). Refers w n h.row.target h.row.role) h.is refers)
 
-  to_row : StandsForNothing w k → Contains (unresolved rs) k
+  to_row : DenotesNothing w k → Contains (unresolved rs) k
   to_row s =
       let h : HasNumber rs k = numbered rs k (subst (λ (ns : List ℕ). Contains ns k) (sym are.numbers) s.is) in
       let refers : Refers w h.row.number h.row.target h.row.role = All-contains (λ (r : Reference). Refers w r.number r.target r.role) rs h.row are.each h.among in
       let here : Refers w k h.row.target h.row.role = subst (λ (n : ℕ). Refers w n h.row.target h.row.role) h.is refers in
       subst (λ (n : ℕ). Contains (unresolved rs) n) h.is (kept rs h.row h.among (target_once w k h.row.target targets.Unresolved h.row.role s.role here s.refers))
 
-  pub exactly : Contains (unresolved rs) k ↔ StandsForNothing w k
+  pub exactly : Contains (unresolved rs) k ↔ DenotesNothing w k
   exactly = (λ c. from_row (found rs k c), λ s. to_row s)

@@ -1,5 +1,5 @@
 pub mod Predeclared
-pub mod Standing
+pub mod SyntaxPosition
 pub mod Contexts
 pub mod Targets
 pub mod Steps

@@ -4,31 +4,31 @@ use Rattle.std.specs.List.{All, Contains, filter, filter_map, enumerate_from}
 use Rattle.ob_scan.specs.declared.kind.Kind.{Kind}
 use Rattle.ob_scan.specs.declared.kind.Kind.TheVariants as kinds
 use Rattle.ob_scan.specs.declared.token.Token.{Token}
-use Rattle.ob_rows.specs.declared.rows.End.{End}
-use Rattle.ob_rows.specs.declared.rows.Used.{Used}
+use Rattle.module_table.specs.declared.rows.End.{End}
+use Rattle.module_table.specs.declared.rows.Used.{Used}
 use Rattle.ob_types.specs.World.{World}
-use Rattle.ob_targets.specs.declared.known.Known.{Known}
-use Rattle.ob_targets.specs.declared.standing.Standing.TheVariants as standings
+use Rattle.ob_targets.specs.declared.known.DesignatorType.{DesignatorType}
+use Rattle.ob_targets.specs.declared.syntax_position.SyntaxPosition.TheVariants as syntax_positions
 use Rattle.ob_targets.specs.declared.target.Target.{Target}
 use Rattle.ob_targets.specs.declared.target.Target.TheVariants as targets
 use Rattle.ob_targets.specs.declared.target.Reference.{Reference}
-use Rattle.ob_targets.specs.Standing.{standing}
+use Rattle.ob_targets.specs.SyntaxPosition.{syntax_position}
 use Rattle.ob_targets.specs.Targets.{end_target, is_written, second_target, use_role, used_target}
-use Rattle.ob_targets.specs.Steps.{Knows, Selects}
+use Rattle.ob_targets.specs.Steps.{IsTypeBefore, Selects}
 
 module _ (w : World) where
   -- the identifier of this token denotes this target, in this role
   pub data Refers (k : ℕ) : Target → ℕ → Type 0 where
-    own_name : standing w.rows k ≡ standings.OwnName → Refers k targets.Own 1
-    item : {at : ℕ} → standing w.rows k ≡ standings.Item at → Refers k (targets.«Module» at) 2
-    declaration : {at : ℕ} → standing w.rows k ≡ standings.Declaration at → Refers k (targets.Declared k) 1
-    end : {at : ℕ} {e : End} → standing w.rows k ≡ standings.End at → slice_get w.rows.ends at ≡ Some e → Refers k (end_target e.of) 0
-    used : {at : ℕ} → standing w.rows k ≡ standings.Use at → Refers k (used_target w k) (use_role w (used_target w k) (is_written w.rows k))
-    selected : {at : ℕ} {o : Known} {t : Target} → standing w.rows k ≡ standings.Selected at → Knows w at o → Selects w o k t →
+    module_name_token : syntax_position w.rows k ≡ syntax_positions.OwnName → Refers k targets.Own 1
+    item : {at : ℕ} → syntax_position w.rows k ≡ syntax_positions.Item at → Refers k (targets.«Module» at) 2
+    declaration : {at : ℕ} → syntax_position w.rows k ≡ syntax_positions.Declaration at → Refers k (targets.Declared k) 1
+    end : {at : ℕ} {e : End} → syntax_position w.rows k ≡ syntax_positions.End at → slice_get w.rows.ends at ≡ Some e → Refers k (end_target e.of) 0
+    used : {at : ℕ} → syntax_position w.rows k ≡ syntax_positions.Use at → Refers k (used_target w k) (use_role w (used_target w k) (is_written w.rows k))
+    selected : {at : ℕ} {o : DesignatorType} {t : Target} → syntax_position w.rows k ≡ syntax_positions.Selected at → IsTypeBefore w at o → Selects w o k t →
         Refers k t (use_role w t (is_written w.rows k))
-    second : {at : ℕ} {u : Used} → standing w.rows k ≡ standings.Second at → slice_get w.rows.uses at ≡ Some u →
+    second : {at : ℕ} {u : Used} → syntax_position w.rows k ≡ syntax_positions.Second at → slice_get w.rows.uses at ≡ Some u →
         Refers k (second_target w k (used_target w u.number)) (use_role w (second_target w k (used_target w u.number)) false)
-    nowhere : standing w.rows k ≡ standings.Nowhere → Refers k targets.Unresolved 0
+    nowhere : syntax_position w.rows k ≡ syntax_positions.Nowhere → Refers k targets.Unresolved 0
 
 -- whether a token of this kind is an identifier
 abbrev pub is_identifier : Kind → Bool
@@ -63,7 +63,7 @@ abbrev pub unresolved : List Reference → List ℕ
 unresolved rs = map (λ (r : Reference). r.number) (filter (λ (r : Reference). is_unresolved r.target) rs)
 
 -- the token is an identifier that denotes nothing
-pub record StandsForNothing (w : World) (k : ℕ) : Type 0 where
+pub record DenotesNothing (w : World) (k : ℕ) : Type 0 where
   pub is : Contains (identifiers w.tokens) k
   pub role : ℕ
   pub refers : Refers w k targets.Unresolved role

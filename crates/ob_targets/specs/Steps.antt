@@ -1,34 +1,34 @@
 -- What is known of a designator, followed from left to right (Oberon-07 report, section 8.1).
 use Rattle.std.specs.Prelude.{◌≡◌, ℕ, zero, suc, ◌==◌, List, [], slice_get, Option, Some, None, Bool, true, false, not}
-use Rattle.ob_rows.specs.declared.rows.Selector.{Selector}
-use Rattle.ob_rows.specs.declared.rows.Step.{Step}
-use Rattle.ob_rows.specs.declared.rows.Step.TheVariants as steps
-use Rattle.ob_rows.specs.declared.rows.TypeName.{TypeName}
-use Rattle.type_search.specs.declared.shape.Shape.TheVariants as shapes
-use Rattle.type_search.specs.Searches.{Finds, HasElement, HasTarget}
+use Rattle.module_table.specs.declared.rows.Selector.{Selector}
+use Rattle.module_table.specs.declared.rows.Step.{Step}
+use Rattle.module_table.specs.declared.rows.Step.TheVariants as steps
+use Rattle.module_table.specs.declared.rows.TypeName.{TypeName}
+use Rattle.type_graph.specs.declared.shape.Shape.TheVariants as shapes
+use Rattle.type_graph.specs.Searches.{Finds, HasElement, HasTarget}
 use Rattle.ob_types.specs.declared.nodes.Node.{Node}
 use Rattle.ob_types.specs.declared.nodes.Node.TheVariants as nodes
 use Rattle.ob_types.specs.declared.nodes.Field.{Field}
 use Rattle.ob_types.specs.World.{World, text}
 use Rattle.ob_types.specs.Same.{same}
-use Rattle.ob_types.specs.Shapes.{shape, field_of, base_of, named_here}
+use Rattle.ob_types.specs.Shapes.{shape, field_of, base_of, resolve_type_name}
 use Rattle.ob_targets.specs.declared.target.Target.{Target}
 use Rattle.ob_targets.specs.declared.target.Target.TheVariants as targets
-use Rattle.ob_targets.specs.declared.known.Known.{Known}
-use Rattle.ob_targets.specs.declared.known.Known.TheVariants as knowns
-use Rattle.ob_targets.specs.Targets.{exported_target, field_target, known_of, used_target}
+use Rattle.ob_targets.specs.declared.known.DesignatorType.{DesignatorType}
+use Rattle.ob_targets.specs.declared.known.DesignatorType.TheVariants as knowns
+use Rattle.ob_targets.specs.Targets.{exported_target, field_target, target_type, used_target}
 
 -- what is known after a step along a relation of types: the related type, and nothing if there is none or if no type is known before it
-pub data Follows (Leads : Node → Node → Type 0) : Known → Known → Type 0 where
+pub data Follows (Leads : Node → Node → Type 0) : DesignatorType → DesignatorType → Type 0 where
   there : {n m : Node} → Leads n m → Follows Leads (knowns.Typed n) (knowns.Typed m)
   nowhere : {n : Node} → ((m : Node) → Leads n m → ⊥) → Follows Leads (knowns.Typed n) knowns.Nothing
   of_module : {at : ℕ} → Follows Leads (knowns.«Module» at) knowns.Nothing
   of_nothing : Follows Leads knowns.Nothing knowns.Nothing
 
 -- what is known after parentheses: a type, if their only content is its name (a type guard), and otherwise nothing
-abbrev pub guard_of : World → Option TypeName → Known
+abbrev pub guard_of : World → Option TypeName → DesignatorType
 guard_of w None = knowns.Nothing
-guard_of w (Some t) = elim (named_here w t.head t.member) [
+guard_of w (Some t) = elim (resolve_type_name w t.head t.member) [
   | shapes.Array n ↦ knowns.Nothing
   | shapes.Pointer n ↦ knowns.Nothing
   | shapes.Record r ↦ knowns.Nothing
@@ -48,26 +48,26 @@ module _ (w : World) where
   FindsField n name f = Finds same (shape w) (λ r. field_of w r name) (base_of w) [] n f
 
   -- the target of the name after a dot, by what is known before the dot
-  pub data Selects : Known → ℕ → Target → Type 0 where
+  pub data Selects : DesignatorType → ℕ → Target → Type 0 where
     exported : {at k : ℕ} → Selects (knowns.«Module» at) k (exported_target w at k)
     field : {n : Node} {k : ℕ} {f : Field} → FindsField n (text w k) f → Selects (knowns.Typed n) k (field_target f)
     no_field : {n : Node} {k : ℕ} → ((f : Field) → FindsField n (text w k) f → ⊥) → Selects (knowns.Typed n) k targets.Unresolved
     unknown : {k : ℕ} → Selects knowns.Nothing k targets.Unresolved
 
   -- what is known after this number of index expressions, each of which takes one level of an array
-  pub data Levels : ℕ → Known → Known → Type 0 where
-    none : {o : Known} → Levels 0 o o
-    one : {c : ℕ} {o next last : Known} → Levels c o next → Follows (HasElement same (shape w)) next last → Levels (suc c) o last
+  pub data Levels : ℕ → DesignatorType → DesignatorType → Type 0 where
+    none : {o : DesignatorType} → Levels 0 o o
+    one : {c : ℕ} {o next last : DesignatorType} → Levels c o next → Follows (HasElement same (shape w)) next last → Levels (suc c) o last
 
   -- what is known after a selector, by what is known before it
-  pub data StepsTo (o : Known) : Step → Known → Type 0 where
-    to_field : {k : ℕ} {t : Target} → Selects o k t → StepsTo o (steps.Field k) (known_of w t)
-    to_elements : {c : ℕ} {next : Known} → Levels c o next → StepsTo o (steps.Elements c) next
-    to_target : {next : Known} → Follows (HasTarget same (shape w)) o next → StepsTo o steps.Target next
+  pub data StepsTo (o : DesignatorType) : Step → DesignatorType → Type 0 where
+    to_field : {k : ℕ} {t : Target} → Selects o k t → StepsTo o (steps.Field k) (target_type w t)
+    to_elements : {c : ℕ} {next : DesignatorType} → Levels c o next → StepsTo o (steps.Elements c) next
+    to_target : {next : DesignatorType} → Follows (HasTarget same (shape w)) o next → StepsTo o steps.Target next
     by_guard : {t : Option TypeName} → StepsTo o (steps.Arguments t) (guard_of w t)
 
   -- what is known before the selector at this index, from the head of its designator on
-  pub data Knows : ℕ → Known → Type 0 where
-    at_head : {i : ℕ} {s : Selector} → slice_get w.rows.selectors i ≡ Some s → begins_designator w.rows.selectors i s ≡ true → Knows i (known_of w (used_target w s.of))
-    behind : {i : ℕ} {s t : Selector} {o next : Known} → slice_get w.rows.selectors i ≡ Some s → slice_get w.rows.selectors (suc i) ≡ Some t →
-        begins_designator w.rows.selectors (suc i) t ≡ false → Knows i o → StepsTo o s.step next → Knows (suc i) next
+  pub data IsTypeBefore : ℕ → DesignatorType → Type 0 where
+    at_head : {i : ℕ} {s : Selector} → slice_get w.rows.selectors i ≡ Some s → begins_designator w.rows.selectors i s ≡ true → IsTypeBefore i (target_type w (used_target w s.of))
+    behind : {i : ℕ} {s t : Selector} {o next : DesignatorType} → slice_get w.rows.selectors i ≡ Some s → slice_get w.rows.selectors (suc i) ≡ Some t →
+        begins_designator w.rows.selectors (suc i) t ≡ false → IsTypeBefore i o → StepsTo o s.step next → IsTypeBefore (suc i) next

@@ -2,22 +2,22 @@
 use Rattle.std.specs.Prelude.{ℕ, ◌==◌, List, Option, Some, None, Bool, true, false, ◌&&◌, if◌then◌else◌, nat_eq}
 use Rattle.std.specs.List.{filter, fold, list_any}
 use Rattle.std.specs.Option.{unwrap_or}
-use Rattle.ob_rows.specs.declared.rows.Designator.{Designator}
-use Rattle.ob_rows.specs.declared.rows.Selector.{Selector}
-use Rattle.ob_rows.specs.declared.rows.Sort.{Sort}
-use Rattle.ob_rows.specs.declared.rows.Sort.TheVariants as sorts
-use Rattle.ob_rows.specs.Parts.{Rows}
+use Rattle.module_table.specs.declared.rows.Designator.{Designator}
+use Rattle.module_table.specs.declared.rows.Selector.{Selector}
+use Rattle.module_table.specs.declared.rows.DeclKind.{DeclKind}
+use Rattle.module_table.specs.declared.rows.DeclKind.TheVariants as decl_kinds
+use Rattle.module_table.specs.Parts.{Rows}
 use Rattle.ob_types.specs.declared.nodes.Node.{Node}
 use Rattle.ob_types.specs.declared.nodes.Node.TheVariants as nodes
 use Rattle.ob_types.specs.declared.nodes.Field.{Field}
 use Rattle.ob_types.specs.declared.nodes.Field.TheVariants as fields
-use Rattle.ob_types.specs.World.{World, text, meaning, sort_of, item_of, form_of, home_of, exported, sort_there}
+use Rattle.ob_types.specs.World.{World, text, meaning, decl_kind_of, item_of, type_node_of, module_of_item, exported, imported_kind}
 use Rattle.ob_targets.specs.Predeclared.{is_predeclared}
-use Rattle.ob_targets.specs.Standing.{name_of}
+use Rattle.ob_targets.specs.SyntaxPosition.{name_of}
 use Rattle.ob_targets.specs.declared.target.Target.{Target}
 use Rattle.ob_targets.specs.declared.target.Target.TheVariants as targets
-use Rattle.ob_targets.specs.declared.known.Known.{Known}
-use Rattle.ob_targets.specs.declared.known.Known.TheVariants as knowns
+use Rattle.ob_targets.specs.declared.known.DesignatorType.{DesignatorType}
+use Rattle.ob_targets.specs.declared.known.DesignatorType.TheVariants as knowns
 
 -- ---- targets
 
@@ -32,7 +32,7 @@ used_target w k = elim (meaning w k) [ Some d ↦ declared_target w d | None ↦
 -- the target of a name after a module and a dot: what the module exports under this name, Unresolved if it exports none, or the name itself if the
 -- module isn't in the tree
 abbrev pub exported_target : World → ℕ → ℕ → Target
-exported_target w at k = elim (home_of w at) [ None ↦ targets.External at k | Some i ↦ elim (exported w i (text w k)) [ None ↦ targets.Unresolved | Some d ↦ targets.Imported i d ] ]
+exported_target w at k = elim (module_of_item w at) [ None ↦ targets.External at k | Some i ↦ elim (exported w i (text w k)) [ None ↦ targets.Unresolved | Some d ↦ targets.Imported i d ] ]
 
 -- the target of the second identifier of a qualident, by the target of the first
 abbrev pub second_target : World → ℕ → Target → Target
@@ -57,30 +57,30 @@ field_target (fields.Other i d) = targets.Imported i d
 -- ---- what is known of a target
 
 -- whether a declaration of this kind holds a value: a variable, a parameter or a field
-abbrev pub holds_value : Sort → Bool
-holds_value sorts.Import = false
-holds_value sorts.Constant = false
-holds_value sorts.Type = false
-holds_value sorts.Variable = true
-holds_value sorts.Procedure = false
-holds_value sorts.Parameter = true
-holds_value sorts.Field = true
+abbrev pub holds_value : DeclKind → Bool
+holds_value decl_kinds.Import = false
+holds_value decl_kinds.Constant = false
+holds_value decl_kinds.Type = false
+holds_value decl_kinds.Variable = true
+holds_value decl_kinds.Procedure = false
+holds_value decl_kinds.Parameter = true
+holds_value decl_kinds.Field = true
 
 -- what is known of a declaration of this kind and type: its type, if it holds a value
-abbrev pub typed : Option Sort → Option Node → Known
-typed None form = knowns.Nothing
+abbrev pub typed : Option DeclKind → Option Node → DesignatorType
+typed None type_expr = knowns.Nothing
 typed (Some s) None = knowns.Nothing
 typed (Some s) (Some n) = if holds_value s then knowns.Typed n else knowns.Nothing
 
 -- what is known of a target: the module, or the declared type of what holds a value, and otherwise nothing
-abbrev pub known_of : World → Target → Known
-known_of w (targets.Declared k) = typed (sort_of w k) (form_of w k)
-known_of w (targets.Imported i d) = typed (sort_there w i d) (Some (nodes.Other i d 0))
-known_of w (targets.External at n) = knowns.Nothing
-known_of w targets.Own = knowns.Nothing
-known_of w (targets.«Module» at) = knowns.«Module» at
-known_of w targets.Predeclared = knowns.Nothing
-known_of w targets.Unresolved = knowns.Nothing
+abbrev pub target_type : World → Target → DesignatorType
+target_type w (targets.Declared k) = typed (decl_kind_of w k) (type_node_of w k)
+target_type w (targets.Imported i d) = typed (imported_kind w i d) (Some (nodes.Other i d 0))
+target_type w (targets.External at n) = knowns.Nothing
+target_type w targets.Own = knowns.Nothing
+target_type w (targets.«Module» at) = knowns.«Module» at
+target_type w targets.Predeclared = knowns.Nothing
+target_type w targets.Unresolved = knowns.Nothing
 
 -- ---- roles
 
@@ -101,14 +101,14 @@ abbrev pub is_written : Rows → ℕ → Bool
 is_written rows k = list_any (writes rows k) rows.designators
 
 -- the role of a use of a declaration of this kind: if it holds a value, 4 if it is written and 8 if it is read, and otherwise 0
-abbrev pub value_role : Option Sort → Bool → ℕ
+abbrev pub value_role : Option DeclKind → Bool → ℕ
 value_role None written = 0
 value_role (Some s) written = if holds_value s then (if written then 4 else 8) else 0
 
 -- the role of a use of a target: 4 (written) or 8 (read) if it holds a value, and otherwise 0
 abbrev pub use_role : World → Target → Bool → ℕ
-use_role w (targets.Declared k) written = value_role (sort_of w k) written
-use_role w (targets.Imported i d) written = value_role (sort_there w i d) written
+use_role w (targets.Declared k) written = value_role (decl_kind_of w k) written
+use_role w (targets.Imported i d) written = value_role (imported_kind w i d) written
 use_role w (targets.External at n) written = 0
 use_role w targets.Own written = 0
 use_role w (targets.«Module» at) written = 0

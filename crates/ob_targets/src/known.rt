@@ -4,7 +4,7 @@ use ob_types::Node;
 
 /// What is known of a prefix of a designator: of its head and its first selectors.
 #[derive(Clone, Copy, Drop)]
-pub enum Known {
+pub enum DesignatorType {
     /// Neither a module nor a type.
     Nothing,
     /// It denotes the module that the import item at this index names.

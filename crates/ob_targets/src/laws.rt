@@ -4,20 +4,20 @@ ghost use Rattle.ob_scan.specs.declared.token.Token.{Token};
 ghost use Rattle.ob_scan.specs.Texts.{text_at};
 ghost use Rattle.ob_tree.specs.declared.declaration.Module.{Module};
 ghost use Rattle.ob_tree.specs.Derives.{Derives};
-ghost use Rattle.ob_rows.specs.declared.rows.Used.{Used};
-ghost use Rattle.ob_decls.specs.Declaring.{rows_of};
-ghost use Rattle.ob_interface.specs.Interfaces.{interface_of, start_at, Alone};
+ghost use Rattle.module_table.specs.declared.rows.Used.{Used};
+ghost use Rattle.table_rules.specs.Declaring.{rows_of};
+ghost use Rattle.ob_interface.specs.Interfaces.{interface_of, start_at, Simple};
 ghost use Rattle.ob_scope.specs.Scoped.{ModuleScopes};
-ghost use Rattle.type_search.specs.declared.shape.Shape.TheVariants as shapes;
-ghost use Rattle.ob_types.specs.Shapes.{named_there};
+ghost use Rattle.type_graph.specs.declared.shape.Shape.TheVariants as shapes;
+ghost use Rattle.ob_types.specs.Shapes.{resolve_imported_name};
 ghost use Rattle.ob_types.specs.World.{named_by_alias, World};
 ghost use Rattle.ob_types.specs.declared.nodes.Named.TheVariants as named;
 ghost use Rattle.ob_types.specs.declared.nodes.Node.TheVariants as nodes;
-ghost use Rattle.ob_targets.specs.Contexts.{HasContext, NameContext};
-ghost use Rattle.ob_targets.specs.Refers.{identifiers, unresolved, AreReferences, Refers, StandsForNothing};
-ghost use Rattle.ob_targets.specs.ScopeRule.{IsOuterUse, MeansAlias, MeansType};
-ghost use Rattle.ob_targets.specs.Standing.{standing};
-ghost use Rattle.ob_targets.specs.declared.standing.Standing.TheVariants as standings;
+ghost use Rattle.ob_targets.specs.Contexts.{HasSyntaxPosition, SyntaxPositionKind};
+ghost use Rattle.ob_targets.specs.Refers.{identifiers, unresolved, AreReferences, Refers, DenotesNothing};
+ghost use Rattle.ob_targets.specs.ScopeRule.{IsBlockUse, MeansAlias, MeansType};
+ghost use Rattle.ob_targets.specs.SyntaxPosition.{syntax_position};
+ghost use Rattle.ob_targets.specs.declared.syntax_position.SyntaxPosition.TheVariants as syntax_positions;
 ghost use Rattle.ob_targets.specs.declared.target.Reference.{Reference};
 ghost use Rattle.ob_targets.specs.declared.target.Target.{Target};
 
@@ -41,7 +41,7 @@ pub fn each_refers()
 /// The unresolved references of a module are exactly those of the identifiers that denote nothing.
 pub fn unresolved_identifiers()
     // A token number is in `unresolved` of the references if and only if the token is an identifier that denotes nothing.
-    ensures { (w : World) (rs : List Reference) (k : ℕ) → AreReferences w rs → Contains (unresolved rs) k ↔ StandsForNothing w k }
+    ensures { (w : World) (rs : List Reference) (k : ℕ) → AreReferences w rs → Contains (unresolved rs) k ↔ DenotesNothing w k }
 {}
 
 /// A module has at most one list of references.
@@ -52,17 +52,17 @@ pub fn one_references()
 
 /// If a tree derives the tokens, each identifier among them has a syntactic position.
 /// The rule of that position determines what the identifier denotes, or that it denotes nothing.
-pub fn each_stands()
+pub fn each_identifier_has_position()
     // In the module table of a tree that derives the tokens, the syntactic position of an identifier isn't `Nowhere`.
-    ensures { (tokens : List Token) (m : Module) (k : ℕ) → Derives (map (λ (t : Token). t.kind) tokens) m → Contains (identifiers tokens) k → standing (rows_of m) k ≢ standings.Nowhere }
+    ensures { (tokens : List Token) (m : Module) (k : ℕ) → Derives (map (λ (t : Token). t.kind) tokens) m → Contains (identifiers tokens) k → syntax_position (rows_of m) k ≢ syntax_positions.Nowhere }
 {}
 
 /// A token has at most one context in the module table of a tree.
 /// It is the module's own name, the name after `:=` in an import item, or a declared identifier (an import item's alias is one).
 /// Otherwise it is the name after END, a name that is looked up, or a name after a dot.
-pub fn one_context()
+pub fn one_syntax_position()
     // Two contexts of one token are equal.
-    ensures { (m : Module) (k : ℕ) (c d : NameContext) → HasContext (rows_of m) k c → HasContext (rows_of m) k d → c ≡ d }
+    ensures { (m : Module) (k : ℕ) (c d : SyntaxPositionKind) → HasSyntaxPosition (rows_of m) k c → HasSyntaxPosition (rows_of m) k d → c ≡ d }
 {}
 
 /// For the modules that import an accepted module, a name in its block denotes what the module's own scopes give it.
@@ -70,10 +70,10 @@ pub fn one_context()
 pub fn one_scope_rule()
     // An unqualified name denotes the type at an index of the interface if and only if it means that type by the module's own scopes.
     ensures alone { (bytes : List ℕ) (ts : List Token) (m : Module) (s : ModuleScopes) (u : Used) (w : World) (i d : ℕ) →
-        IsOuterUse bytes ts m s u → slice_get w.reached i ≡ Some (interface_of bytes ts (rows_of m)) →
-        (named_there w i (start_at ts u.number) u.is_target (Alone (text_at bytes ts u.number)) ≡ shapes.Named (named.Other i d) (nodes.Other i d 0)) ↔ MeansType bytes ts (rows_of m) s u.number d }
+        IsBlockUse bytes ts m s u → slice_get w.reached i ≡ Some (interface_of bytes ts (rows_of m)) →
+        (resolve_imported_name w i (start_at ts u.number) u.is_target (Simple (text_at bytes ts u.number)) ≡ shapes.Named (named.Other i d) (nodes.Other i d 0)) ↔ MeansType bytes ts (rows_of m) s u.number d }
     // A name before a dot denotes the module of this name if and only if it means an alias of that module by the module's own scopes.
     ensures qualified { (bytes : List ℕ) (ts : List Token) (m : Module) (s : ModuleScopes) (u : Used) (w : World) (i : ℕ) (name : List ℕ) →
-        IsOuterUse bytes ts m s u → slice_get w.reached i ≡ Some (interface_of bytes ts (rows_of m)) →
+        IsBlockUse bytes ts m s u → slice_get w.reached i ≡ Some (interface_of bytes ts (rows_of m)) →
         (named_by_alias w i (text_at bytes ts u.number) ≡ Some name) ↔ MeansAlias bytes ts (rows_of m) s u.number name }
 {}

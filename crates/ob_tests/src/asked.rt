@@ -1,44 +1,44 @@
-//! What the rows of tests ask, and what is told of it.
-use crate::boards::{Step, told_board};
-use crate::documents::told_document;
-use crate::graphs::{File, told_files};
-use crate::interfaces::{told_found, told_seen};
+//! The test cases, and the results as text.
+use crate::boards::{Step, describe_board};
+use crate::documents::describe_document;
+use crate::graphs::{File, describe_files};
+use crate::interfaces::{describe_exports, describe_lookup};
 use std::alloc::Global;
 use std::process::Abort;
 use std::test::Fail;
 
-/// What a row asks for.
+/// What a test case computes.
 pub(crate) enum Asked {
-    /// What other modules see.
+    /// The interface of a module.
     Seen(&'static [u8]),
-    /// What a record and a name find in the interface.
+    /// The lookup of a field by a record and a name in the interface.
     Found(&'static [u8], u32, &'static str),
-    /// Whether a text that imports nothing has a document in a package, or why not.
+    /// Whether a module without imports has a document in a package, or the error.
     Package(&'static [u8], &'static str),
-    /// The graph of files, of which these modules are done.
+    /// The graph of files, with these modules completed.
     Files(&'static [File], &'static [bool]),
-    /// Steps on a board.
+    /// Calls of a scheduler.
     Board(&'static [Step]),
 }
 
-/// What is asked, and what is told of it.
+/// A test case with its expected result.
 pub(crate) type Row = (Asked, &'static str);
 
-fn told(alloc: Global, asked: &Asked) -> Result<String, Fail> {
+fn description(alloc: Global, asked: &Asked) -> Result<String, Fail> {
     match asked {
-        Asked::Seen(text) => told_seen(alloc, text),
-        Asked::Found(text, record, name) => told_found(alloc, text, *record, name.as_bytes()),
-        Asked::Package(text, name) => told_document(alloc, text, name),
-        Asked::Files(files, done) => told_files(alloc, files, done),
-        Asked::Board(steps) => Ok(told_board(alloc, steps)?),
+        Asked::Seen(text) => describe_exports(alloc, text),
+        Asked::Found(text, record, name) => describe_lookup(alloc, text, *record, name.as_bytes()),
+        Asked::Package(text, name) => describe_document(alloc, text, name),
+        Asked::Files(files, done) => describe_files(alloc, files, done),
+        Asked::Board(steps) => Ok(describe_board(alloc, steps)?),
     }
 }
 
-/// Checks what rows tell.
-pub(crate) fn are_told<R: Abort + AllocGlobal>(rt: &R, rows: &[Row]) -> Result<(), Fail> {
+/// Checks test cases.
+pub(crate) fn check_rows<R: Abort + AllocGlobal>(rt: &R, rows: &[Row]) -> Result<(), Fail> {
     for (asked, want) in rows {
-        let told = told(rt.alloc(), asked)?;
-        assert_eq!(rt; told.as_str(), *want);
+        let description = description(rt.alloc(), asked)?;
+        assert_eq!(rt; description.as_str(), *want);
     }
     Ok(())
 }

@@ -1,7 +1,7 @@
-//! Fields behind bases beside what the declared text says: in seeded forests of records, and where bases come back to one another.
+//! Lookups of inherited fields, compared with the generated source: in seeded forests of records, and in cycles of bases.
 
 use crate::readings::table_in;
-use ob_interface::{Interface, seen_of};
+use ob_interface::{Interface, exports_of};
 use ob_scan::laws::tokens_in_text;
 use ob_scan::{Token, scan};
 use ob_scope::scopes_from;
@@ -10,9 +10,9 @@ use std::alloc::{AllocError, Global};
 use std::process::Abort;
 use std::sync::Arc;
 use std::test::Fail;
-use type_search::Finder;
+use type_graph::Finder;
 
-/// So many records, and names of fields; names that no record has; and trees of each shape.
+/// The numbers of records, of field names, of names that no record has, and of trees of each shape.
 const RECORDS: u32 = 48;
 
 const NAMES: u32 = 9;
@@ -21,22 +21,22 @@ const ABSENT: u32 = 2_000;
 
 const TREES: u32 = 4;
 
-/// How a record's base is drawn.
+/// How the base of a record is chosen.
 #[derive(Clone, Copy)]
 enum Shape {
-    /// One of the records before it.
+    /// One of the preceding records.
     Tree,
-    /// The record before it.
+    /// The preceding record.
     Chain,
-    /// Any record, so that some come back to one another.
+    /// Any record, so there are cycles.
     Any,
-    /// The record before it, and the last one's for the first.
+    /// The preceding record, and the last one for the first.
     Cycle,
 }
 
 const SHAPES: [Shape; 4] = [Shape::Tree, Shape::Chain, Shape::Any, Shape::Cycle];
 
-/// A field of a record: the number of its name, the offset of its identifier, and whether it has the export mark.
+/// A field of a record: the number of its name, the offset of its identifier, and whether it is exported.
 #[derive(Clone, Copy, Drop)]
 struct DrawnField {
     name: u32,
@@ -44,7 +44,7 @@ struct DrawnField {
     exported: bool,
 }
 
-/// A record: the offset of its type's identifier, the record above it, and its fields.
+/// A record: the offset of its type's identifier, its base record, and its fields.
 #[derive(Drop)]
 struct DrawnRecord {
     at: u32,
@@ -67,7 +67,7 @@ impl Seed {
     }
 }
 
-/// The record whose type is the base of a record.
+/// The record that is the base of a record.
 fn above(seed: &mut Seed, shape: Shape, record: u32) -> Option<u32> {
     match shape {
         Shape::Tree => record
@@ -79,12 +79,12 @@ fn above(seed: &mut Seed, shape: Shape, record: u32) -> Option<u32> {
     }
 }
 
-/// The offset at which what is written next begins.
+/// The offset of what is written next.
 fn here(text: &String) -> u32 {
     u32::try_from(text.len()).unwrap_or(u32::MAX)
 }
 
-/// Writes the fields of a record, some of them with the export mark.
+/// Writes the fields of a record, some of them exported.
 fn draw_fields(
     alloc: Global,
     text: &mut String,
@@ -147,7 +147,7 @@ fn draw(
     Ok(drawn)
 }
 
-/// Writes a module with a variable of each of these types, and tells the offsets of their identifiers.
+/// Writes a module with a variable of each of these types, and returns the offsets of their identifiers.
 fn draw_variables(alloc: Global, text: &mut String) -> Result<Vec<u32>, AllocError> {
     text.push_str("MODULE M; IMPORT N; VAR ")?;
     let mut places = Vec::new(alloc);
@@ -159,7 +159,7 @@ fn draw_variables(alloc: Global, text: &mut String) -> Result<Vec<u32>, AllocErr
     Ok(places)
 }
 
-/// So many names that begin with this letter.
+/// This many names that begin with this letter.
 fn names(alloc: Global, letter: &str, count: u32) -> Result<Vec<String>, AllocError> {
     let mut names = Vec::new(alloc);
     for name in 0..count {
@@ -168,8 +168,8 @@ fn names(alloc: Global, letter: &str, count: u32) -> Result<Vec<String>, AllocEr
     Ok(names)
 }
 
-/// The offset of a record's own field of this name, which others see, where that is asked.
-fn own(record: &DrawnRecord, name: u32, from_outside: bool) -> Option<u32> {
+/// The offset of a record's own field of this name; of an exported one if only exported fields are visible.
+fn declared_field(record: &DrawnRecord, name: u32, from_outside: bool) -> Option<u32> {
     record
         .fields
         .iter()
@@ -177,12 +177,12 @@ fn own(record: &DrawnRecord, name: u32, from_outside: bool) -> Option<u32> {
         .map(|field| field.at)
 }
 
-/// The offset of the field that a name means in a record, by the text: its own, or else that of a record above it.
+/// The offset of the field that a name denotes in a record, by the source: its own, or else that of a base record.
 fn meant(drawn: &[DrawnRecord], record: u32, name: u32, from_outside: bool) -> Option<u32> {
     let mut record = record;
     for _ in 0..RECORDS {
         let it = drawn.get(record as usize)?;
-        if let Some(at) = own(it, name, from_outside) {
+        if let Some(at) = declared_field(it, name, from_outside) {
             return Some(at);
         }
         record = it.above?;
@@ -190,7 +190,7 @@ fn meant(drawn: &[DrawnRecord], record: u32, name: u32, from_outside: bool) -> O
     None
 }
 
-/// The offset of the identifier of a field that is found.
+/// The offset of the identifier of the field that a lookup finds.
 fn offset_of(types: &Types, field: Field) -> Option<u32> {
     match field {
         Field::Own(token) => Some(types.tokens().get(token as usize)?.start),
@@ -201,13 +201,13 @@ fn offset_of(types: &Types, field: Field) -> Option<u32> {
     }
 }
 
-/// The type of what the identifier at an offset declares.
+/// The type of the declaration at an offset.
 fn type_at(types: &Types, at: u32) -> Option<Node> {
     let token = types.tokens().iter().position(|it| it.start == at)?;
-    types.form(u32::try_from(token).ok()?)
+    types.type_expr(u32::try_from(token).ok()?)
 }
 
-/// The types of what the identifiers at these offsets declare.
+/// The types of the declarations at these offsets.
 fn types_at(alloc: Global, types: &Types, places: &[u32]) -> Result<Vec<Option<Node>>, AllocError> {
     let mut nodes = Vec::new(alloc);
     for at in places {
@@ -216,7 +216,7 @@ fn types_at(alloc: Global, types: &Types, places: &[u32]) -> Result<Vec<Option<N
     Ok(nodes)
 }
 
-/// Compares what a name means at a type with the field at this offset, or none.
+/// Compares the lookup of a name at a type with the field at this offset, or none.
 fn compare_name<'a, R: Abort>(
     rt: &R,
     finder: &mut Finder<'a, Types<'_>>,
@@ -233,7 +233,7 @@ fn compare_name<'a, R: Abort>(
     Ok(())
 }
 
-/// What is compared: the records, the types that lead to them, and whether these stand in another module.
+/// The compared records, the types that denote them, and whether these are in another module.
 #[derive(Drop)]
 struct Compared<'a> {
     drawn: &'a [DrawnRecord],
@@ -241,7 +241,7 @@ struct Compared<'a> {
     from_outside: bool,
 }
 
-/// Compares what all names of fields mean in a record.
+/// Compares the lookups of all field names in a record.
 fn compare_record<'a, R: Abort>(
     rt: &R,
     finder: &mut Finder<'a, Types<'_>>,
@@ -262,7 +262,7 @@ fn compare_record<'a, R: Abort>(
     Ok(())
 }
 
-/// Compares what all names of fields mean in all records.
+/// Compares the lookups of all field names in all records.
 fn compare_records<'a, R: Abort>(
     rt: &R,
     finder: &mut Finder<'a, Types<'_>>,
@@ -275,7 +275,7 @@ fn compare_records<'a, R: Abort>(
     Ok(())
 }
 
-/// Searches for names that no record has.
+/// Looks up names that no record has.
 fn compare_absent<'a, R: Abort>(
     rt: &R,
     finder: &mut Finder<'a, Types<'_>>,
@@ -289,7 +289,8 @@ fn compare_absent<'a, R: Abort>(
     Ok(())
 }
 
-/// Compares all names and records, at first where searches climb, then where they climbed so far that they hop.
+/// Compares the lookups of all names in all records: first when lookups climb from base to base, then when so many climbed that they use
+/// jumps.
 fn compare<R: Abort + AllocGlobal>(
     rt: &R,
     types: &Types,
@@ -313,7 +314,7 @@ fn compare<R: Abort + AllocGlobal>(
 }
 
 /// Compares the fields of a module's own records.
-fn compare_own<R: Abort + AllocGlobal>(rt: &R, shape: Shape, state: u64) -> Result<(), Fail> {
+fn compare_local<R: Abort + AllocGlobal>(rt: &R, shape: Shape, state: u64) -> Result<(), Fail> {
     let alloc = rt.alloc();
     let mut text = String::new(alloc);
     let drawn = draw(alloc, &mut text, &mut Seed { state }, shape)?;
@@ -333,13 +334,13 @@ fn compare_own<R: Abort + AllocGlobal>(rt: &R, shape: Shape, state: u64) -> Resu
     compare(rt, &types, drawn.as_slice(), places.as_slice(), false)
 }
 
-/// What other modules see of a text.
-pub(crate) fn seen(alloc: Global, text: &[u8]) -> Result<Arc<Interface>, Fail> {
+/// The interface of a module.
+pub(crate) fn exports(alloc: Global, text: &[u8]) -> Result<Arc<Interface>, Fail> {
     tokens_in_text();
     let tokens = scan(alloc, text)?;
     let table = table_in(alloc, text, &tokens)?;
-    let seen = seen_of(alloc, &table, tokens.as_slice(), text)?;
-    Ok(Arc::new(alloc, Interface::new(alloc, seen)?)?)
+    let exports = exports_of(alloc, &table, tokens.as_slice(), text)?;
+    Ok(Arc::new(alloc, Interface::new(alloc, exports)?)?)
 }
 
 /// Compares the fields of records of another module.
@@ -348,7 +349,7 @@ fn compare_reached<R: Abort + AllocGlobal>(rt: &R, shape: Shape, state: u64) -> 
     let (mut other, mut text) = (String::new(alloc), String::new(alloc));
     let drawn = draw(alloc, &mut other, &mut Seed { state }, shape)?;
     let places = draw_variables(alloc, &mut text)?;
-    let reached = vec![in alloc; seen(alloc, other.as_bytes())?]?;
+    let reached = vec![in alloc; exports(alloc, other.as_bytes())?]?;
     tokens_in_text();
     let tokens = scan(alloc, text.as_bytes())?;
     let table = table_in(alloc, text.as_bytes(), &tokens)?;
@@ -364,17 +365,17 @@ fn compare_reached<R: Abort + AllocGlobal>(rt: &R, shape: Shape, state: u64) -> 
     compare(rt, &types, drawn.as_slice(), places.as_slice(), true)
 }
 
-/// Compares both in trees of a shape.
+/// Compares both kinds of lookups in trees of a shape.
 fn compare_shape<R: Abort + AllocGlobal>(rt: &R, shape: Shape) -> Result<(), Fail> {
     for tree in 0..TREES {
-        compare_own(rt, shape, u64::from(tree))?;
+        compare_local(rt, shape, u64::from(tree))?;
         compare_reached(rt, shape, u64::from(tree))?;
     }
     Ok(())
 }
 
 #[test]
-fn fields_behind_bases_are_those_of_the_text(rt: HostRuntime) -> Result<(), Fail> {
+fn inherited_fields_are_those_of_the_source(rt: HostRuntime) -> Result<(), Fail> {
     for shape in SHAPES {
         compare_shape(&rt, shape)?;
     }

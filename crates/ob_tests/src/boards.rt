@@ -1,8 +1,8 @@
-//! The board of a tree of four modules, step by step: A imports B and C, and these D.
+//! A scheduler of a tree of four modules, call by call: A imports B and C, which import D.
 ghost use Rattle.std.specs.Prelude.{◌≡◌};
 
 use crate::asked::Asked::Board as OnBoard;
-use crate::asked::{Row, are_told};
+use crate::asked::{Row, check_rows};
 use crate::graphs::texts;
 use std::alloc::{AllocError, Global};
 use std::marker::Brand;
@@ -10,7 +10,7 @@ use std::sync::Arc;
 use std::test::Fail;
 use work_board::{Board, Graph, NamedTree, WorkEntry};
 
-/// An entry that is but the name of a module and its number.
+/// An entry with only the name of a module and its number.
 #[derive(Drop)]
 struct Named {
     name: String,
@@ -38,19 +38,19 @@ impl WorkEntry for Named {
     }
 }
 
-/// A step on a board.
+/// A call of a scheduler.
 pub(crate) enum Step {
     Claim,
     /// Delivers an entry of this name.
     Deliver(u32, &'static str),
     Abandon(u32),
-    /// Asks for the parts for a module.
+    /// Requests the entries of the modules that a module reaches.
     Parts(u32),
 }
 
-/// Steps on a board, with what they tell, and the entries that are gathered then.
+/// Calls of a scheduler with their results, and the gathered entries.
 const ROWS: &[Row] = &[
-    // To its end.
+    // Up to completion.
     (
         OnBoard(&[
             Step::Abandon(0),
@@ -74,12 +74,12 @@ const ROWS: &[Row] = &[
         "abandoned; Module { number: 3 }; Later; NotClaimed; taken; Module { number: 1 }; Module { number: 2 }; WrongModule; NotClaimed; \
          Twice; taken; taken; Module { number: 0 }; 123; Later; taken; Finished; ABCD",
     ),
-    // Given up at its first module.
+    // Abandoned at its first module.
     (
         OnBoard(&[Step::Claim, Step::Abandon(3), Step::Claim]),
         "Module { number: 3 }; abandoned; Finished; ----",
     ),
-    // A module that was given up may still be delivered.
+    // A claimed module may still be delivered after the scheduler is abandoned.
     (
         OnBoard(&[
             Step::Claim,
@@ -118,105 +118,105 @@ fn entry_of(alloc: Global, number: u32, name: &str) -> Result<Named, AllocError>
     })
 }
 
-/// Delivers an entry of this name, and tells why it isn't taken.
-fn tell_delivery<T: NamedTree>(
+/// Delivers an entry of this name, and describes why it is rejected.
+fn append_delivery<T: NamedTree>(
     alloc: Global,
-    told: &mut String,
+    description: &mut String,
     board: &mut Board<'_, T, Named>,
     number: u32,
     name: &str,
 ) -> Result<(), AllocError> {
     match board.deliver(number, entry_of(alloc, number, name)?) {
-        Ok(()) => told.push_str("taken"),
-        Err((fault, _entry)) => write!(told, "{fault:?}"),
+        Ok(()) => description.push_str("taken"),
+        Err((fault, _entry)) => write!(description, "{fault:?}"),
     }
 }
 
-/// Tells the numbers of parts, each a digit.
-fn tell_numbers(told: &mut String, parts: &[Arc<u32>]) -> Result<(), AllocError> {
+/// Appends the numbers of entries, each a digit.
+fn append_numbers(description: &mut String, parts: &[Arc<u32>]) -> Result<(), AllocError> {
     for part in parts {
-        write!(told, "{}", **part)?;
+        write!(description, "{}", **part)?;
     }
     Ok(())
 }
 
-fn tell_parts<T: NamedTree>(
-    told: &mut String,
+fn append_parts<T: NamedTree>(
+    description: &mut String,
     board: &Board<'_, T, Named>,
     number: u32,
 ) -> Result<(), AllocError> {
     match board.interfaces(number) {
-        Ok(parts) => tell_numbers(told, parts.as_slice()),
-        Err(fault) => write!(told, "{fault:?}"),
+        Ok(parts) => append_numbers(description, parts.as_slice()),
+        Err(fault) => write!(description, "{fault:?}"),
     }
 }
 
-fn tell_step<T: NamedTree>(
+fn append_step<T: NamedTree>(
     alloc: Global,
-    told: &mut String,
+    description: &mut String,
     board: &mut Board<'_, T, Named>,
     step: &Step,
 ) -> Result<(), AllocError> {
     match step {
-        Step::Claim => write!(told, "{:?}", board.claim()),
-        Step::Deliver(number, name) => tell_delivery(alloc, told, board, *number, name),
+        Step::Claim => write!(description, "{:?}", board.claim()),
+        Step::Deliver(number, name) => append_delivery(alloc, description, board, *number, name),
         Step::Abandon(number) => {
             board.abandon(*number);
-            told.push_str("abandoned")
+            description.push_str("abandoned")
         }
-        Step::Parts(number) => tell_parts(told, board, *number),
+        Step::Parts(number) => append_parts(description, board, *number),
     }
 }
 
-fn tell_steps<T: NamedTree>(
+fn append_steps<T: NamedTree>(
     alloc: Global,
-    told: &mut String,
+    description: &mut String,
     board: &mut Board<'_, T, Named>,
     steps: &[Step],
 ) -> Result<(), AllocError> {
     for step in steps {
-        tell_step(alloc, told, board, step)?;
-        told.push_str("; ")?;
+        append_step(alloc, description, board, step)?;
+        description.push_str("; ")?;
     }
     Ok(())
 }
 
-/// Tells the names of entries, and a dash for each that isn't there.
-fn tell_entries(told: &mut String, entries: &[Option<Named>]) -> Result<(), AllocError> {
+/// Appends the names of entries, and a dash for each missing one.
+fn append_entries(description: &mut String, entries: &[Option<Named>]) -> Result<(), AllocError> {
     for entry in entries {
         match entry {
-            Some(entry) => told.push_str(entry.name.as_str())?,
-            None => told.push_str("-")?,
+            Some(entry) => description.push_str(entry.name.as_str())?,
+            None => description.push_str("-")?,
         }
     }
     Ok(())
 }
 
-fn told_run<T: NamedTree>(
+fn describe_run<T: NamedTree>(
     alloc: Global,
     graph: &Graph,
     steps: &[Step],
 ) -> Result<String, AllocError>
     requires { graph.now ≡ T.graph }
 {
-    let mut told = String::new(alloc);
+    let mut description = String::new(alloc);
     let mut board: Board<'_, T, Named> = Board::new(alloc, graph)?;
-    tell_steps(alloc, &mut told, &mut board, steps)?;
-    tell_entries(&mut told, board.gather().as_slice())?;
-    Ok(told)
+    append_steps(alloc, &mut description, &mut board, steps)?;
+    append_entries(&mut description, board.gather().as_slice())?;
+    Ok(description)
 }
 
-pub(crate) fn told_board(alloc: Global, steps: &[Step]) -> Result<String, AllocError> {
+pub(crate) fn describe_board(alloc: Global, steps: &[Step]) -> Result<String, AllocError> {
     let names = texts(alloc, &["A", "B", "C", "D"])?;
     let imports = lists(alloc, &[&[1, 2], &[3], &[3], &[]])?;
     if !Graph::is_graph(names.as_slice(), imports.as_slice()) {
         return String::from_str(alloc, "no graph");
     }
     let graph = Graph::new(alloc, names, imports)?;
-    told_run::<Brand>(alloc, &graph, steps)
+    describe_run::<Brand>(alloc, &graph, steps)
 }
 
 #[test]
 fn boards_go_step_by_step(rt: HostRuntime) -> Result<(), Fail> {
-    are_told(&rt, ROWS)
+    check_rows(&rt, ROWS)
 }

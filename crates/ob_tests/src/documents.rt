@@ -1,6 +1,6 @@
-//! Packages, in which a module has a document or none.
+//! Packages that a document can or can't have.
 use crate::asked::Asked::Package;
-use crate::asked::{Row, are_told};
+use crate::asked::{Row, check_rows};
 use crate::readings::table_in;
 use ob_emit::document;
 use ob_emit::laws::names_of_scopes;
@@ -23,7 +23,7 @@ const ROWS: &[Row] = &[
     ),
 ];
 
-pub(crate) fn told_document(
+pub(crate) fn describe_document(
     alloc: Global,
     text: &[u8],
     package_name: &str,
@@ -42,5 +42,5 @@ pub(crate) fn told_document(
 
 #[test]
 fn a_package_has_documents_or_is_none(rt: HostRuntime) -> Result<(), Fail> {
-    are_told(&rt, ROWS)
+    check_rows(&rt, ROWS)
 }

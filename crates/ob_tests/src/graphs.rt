@@ -1,14 +1,14 @@
-//! The graphs of files' imports, and which modules are ready.
+//! The import graphs of files, and the modules that are ready.
 use crate::asked::Asked::Files;
-use crate::asked::{Row, are_told};
+use crate::asked::{Row, check_rows};
 use ob_imports::{Graph, Parsed, graph};
 use std::alloc::{AllocError, Global};
 use std::test::Fail;
 
-/// A file: its path, its module's name, and what it imports.
+/// A file: its path, its module's name, and the imported names.
 pub(crate) type File = (&'static str, &'static str, &'static [&'static str]);
 
-/// Modules come first, and external ones follow by name.
+/// The modules of the tree come first, and external ones follow, sorted by name.
 const FOUR: &[File] = &[
     ("D.Mod", "D", &["SYSTEM"]),
     ("B.Mod", "B", &["D", "Texts", "D"]),
@@ -23,8 +23,8 @@ const DIAMOND: &[File] = &[
     ("D.Mod", "D", &[]),
 ];
 
-/// Files, the modules that are done, and their graph: how many modules are of the tree, each module with its number by its name, what it
-/// imports and what imports it, another name's number, and the modules that are ready. Imports and importers ascend.
+/// Files and the completed modules, with the expected graph: the number of the tree's modules, each module with its number by name, its
+/// imports and importers in ascending order, the number of another name, and the ready modules.
 const ROWS: &[Row] = &[
     (
         Files(FOUR, &[true, false, false, false]),
@@ -63,37 +63,37 @@ fn parsed(alloc: Global, files: &[File]) -> Result<Vec<Parsed>, AllocError> {
     Ok(all)
 }
 
-/// Tells a module of a graph.
-fn tell_node(told: &mut String, graph: &Graph, node: u32) -> Result<(), AllocError> {
+/// Appends a module of a graph.
+fn append_node(description: &mut String, graph: &Graph, node: u32) -> Result<(), AllocError> {
     if node >= graph.nodes() {
-        return told.push_str("no module");
+        return description.push_str("no module");
     }
     let name = graph.name(node);
     let found = graph.node_of(name);
     let (imports, importers) = (graph.imports_of(node), graph.importers_of(node));
-    write!(told, "{name} {found:?} {imports:?} {importers:?}; ")
+    write!(description, "{name} {found:?} {imports:?} {importers:?}; ")
 }
 
-fn told_graph(alloc: Global, graph: &Graph, done: &[bool]) -> Result<String, AllocError> {
-    let mut told = format!(in alloc; "{}: ", graph.modules())?;
+fn describe_graph(alloc: Global, graph: &Graph, done: &[bool]) -> Result<String, AllocError> {
+    let mut description = format!(in alloc; "{}: ", graph.modules())?;
     if graph.modules() as usize != done.len() {
-        return Ok(told);
+        return Ok(description);
     }
     for node in 0..graph.nodes() {
-        tell_node(&mut told, graph, node)?;
+        append_node(&mut description, graph, node)?;
     }
     let (another, ready) = (graph.node_of("Files"), graph.ready(done)?);
-    write!(told, "{another:?} {ready:?}")?;
-    Ok(told)
+    write!(description, "{another:?} {ready:?}")?;
+    Ok(description)
 }
 
-pub(crate) fn told_files(alloc: Global, files: &[File], done: &[bool]) -> Result<String, Fail> {
+pub(crate) fn describe_files(alloc: Global, files: &[File], done: &[bool]) -> Result<String, Fail> {
     let files = parsed(alloc, files)?;
     let graph = graph(alloc, files.as_slice())?;
-    Ok(told_graph(alloc, &graph, done)?)
+    Ok(describe_graph(alloc, &graph, done)?)
 }
 
 #[test]
 fn files_have_graphs(rt: HostRuntime) -> Result<(), Fail> {
-    are_told(&rt, ROWS)
+    check_rows(&rt, ROWS)
 }

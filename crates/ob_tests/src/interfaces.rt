@@ -1,27 +1,27 @@
-//! What other modules see of a module. Offsets and numbers of tokens are counted by hand.
+//! The interface of a module. Offsets and numbers of tokens are counted by hand.
 use crate::asked::Asked::{Found, Seen};
-use crate::asked::{Row, are_told};
+use crate::asked::{Row, check_rows};
 use crate::readings::table_in;
-use ob_interface::{Form, Interface, Part, TypeName, seen_of};
+use ob_interface::{Interface, Part, TypeExpr, TypeName, exports_of};
 use ob_scan::laws::tokens_in_text;
 use ob_scan::scan;
 use std::alloc::{AllocError, Global};
 use std::test::Fail;
 
-/// A record that extends one of another module, behind a pointer to it.
+/// A record that extends one of another module through a pointer.
 const M: &[u8] = b"MODULE M; IMPORT B; TYPE T = POINTER TO R; R = RECORD (B.S) f*: INTEGER END; \
     VAR p: T; BEGIN p.f := p.g END M.";
 
-/// The record that it extends.
+/// The extended record.
 const B: &[u8] = b"MODULE B; TYPE S* = RECORD g*: INTEGER END; END B.";
 
-/// An alias, a list of names, a record in a record, a procedure type, and what is local to a procedure.
+/// An alias, a list of names, a nested record, a procedure type, and local declarations of a procedure.
 const EACH: &[u8] =
     b"MODULE E; IMPORT X := B; CONST c* = 1; VAR a, b*: ARRAY 2, 3 OF RECORD f: RECORD (X.S) g*: SET END END; \
     h: PROCEDURE (q: SET); PROCEDURE p*(r: SET); VAR v: RECORD w: SET END; END p; END E.";
 
-/// What is seen of each declaration of a module: what it is, its name, whether it has a star, where it begins, its record and its form.
-/// And what is found by a record and a name: the field's place, the declaration's, the owner's, the base, and the module of the name.
+/// The declarations of a module's interface: kind, name, export mark, offset, record and type expression of each. Then lookups of a field
+/// by a record and a name: the indices of the field, the declaration and the owner, the base, and the module of the name.
 const ROWS: &[Row] = &[
     (
         Seen(M),
@@ -32,7 +32,7 @@ const ROWS: &[Row] = &[
         Seen(B),
         "B: Type S true 15 None record 7; Field g true 27 Some(7) INTEGER at 31; ",
     ),
-    // No alias, no parameter and nothing that is local is seen.
+    // Aliases, parameters and local declarations aren't in the interface.
     (
         Seen(EACH),
         "E: Constant c true 31 None; Variable a false 43 None array array record 25; Variable b true 46 None array array record 25; \
@@ -43,13 +43,13 @@ const ROWS: &[Row] = &[
     (Found(M, 15, "B"), "None None Some(1) B.S B"),
     (Found(B, 7, "S"), "None Some(0) Some(0) no base no module"),
     (Found(EACH, 28, "g"), "Some(4) None Some(3) X.S no module"),
-    // A record that a list of names owns is the first one's, and an alias is no declaration.
+    // A record in the declaration of several names belongs to the first one, and an alias is no declaration.
     (Found(EACH, 25, "X"), "None None Some(1) no base B"),
     (
         Found(EACH, 25, "c"),
         "None Some(0) Some(1) no base no module",
     ),
-    // A local record has no owner that is seen.
+    // A local record has no exported owner.
     (Found(EACH, 62, "w"), "None None None no base no module"),
     (
         Found(M, 4294967295, "f"),
@@ -61,141 +61,145 @@ fn interface_of(alloc: Global, text: &[u8]) -> Result<Interface, Fail> {
     let tokens = scan(alloc, text)?;
     tokens_in_text();
     let table = table_in(alloc, text, &tokens)?;
-    let seen = seen_of(alloc, &table, tokens.as_slice(), text)?;
-    Ok(Interface::new(alloc, seen)?)
+    let exports = exports_of(alloc, &table, tokens.as_slice(), text)?;
+    Ok(Interface::new(alloc, exports)?)
 }
 
-fn tell_bytes(alloc: Global, told: &mut String, bytes: &[u8]) -> Result<(), AllocError> {
-    told.push_str(String::from_utf8_lossy(alloc, bytes)?.as_str())
+fn append_bytes(alloc: Global, description: &mut String, bytes: &[u8]) -> Result<(), AllocError> {
+    description.push_str(String::from_utf8_lossy(alloc, bytes)?.as_str())
 }
 
-fn tell_name(alloc: Global, told: &mut String, name: TypeName<'_>) -> Result<(), AllocError> {
+fn append_name(
+    alloc: Global,
+    description: &mut String,
+    name: TypeName<'_>,
+) -> Result<(), AllocError> {
     match name {
-        TypeName::Alone(name) => tell_bytes(alloc, told, name),
+        TypeName::Simple(name) => append_bytes(alloc, description, name),
         TypeName::Qualified(alias, name) => {
-            tell_bytes(alloc, told, alias)?;
-            told.push_str(".")?;
-            tell_bytes(alloc, told, name)
+            append_bytes(alloc, description, alias)?;
+            description.push_str(".")?;
+            append_bytes(alloc, description, name)
         }
     }
 }
 
-fn tell_part(alloc: Global, told: &mut String, part: Part<'_>) -> Result<(), AllocError> {
+fn append_part(alloc: Global, description: &mut String, part: Part<'_>) -> Result<(), AllocError> {
     match part {
-        Part::Array => told.push_str(" array"),
-        Part::Pointer => told.push_str(" pointer"),
-        Part::Record(number) => write!(told, " record {number}"),
-        Part::Procedure => told.push_str(" procedure"),
+        Part::Array => description.push_str(" array"),
+        Part::Pointer => description.push_str(" pointer"),
+        Part::Record(number) => write!(description, " record {number}"),
+        Part::Procedure => description.push_str(" procedure"),
         Part::Named { start, name } => {
-            told.push_str(" ")?;
-            tell_name(alloc, told, name)?;
-            write!(told, " at {start}")
+            description.push_str(" ")?;
+            append_name(alloc, description, name)?;
+            write!(description, " at {start}")
         }
     }
 }
 
-/// The form of the declaration at a place, part by part.
-fn told_parts(alloc: Global, interface: &Interface, place: u32) -> Result<String, AllocError> {
-    let mut told = String::new(alloc);
+/// The type expression of the declaration at an index, component by component.
+fn describe_parts(alloc: Global, interface: &Interface, place: u32) -> Result<String, AllocError> {
+    let mut description = String::new(alloc);
     for at in 0..4 {
         if let Some(part) = interface.part(place, at) {
-            tell_part(alloc, &mut told, part)?;
+            append_part(alloc, &mut description, part)?;
         }
     }
-    Ok(told)
+    Ok(description)
 }
 
-/// The same of a form, from the outermost part inwards.
-fn told_form(alloc: Global, form: Form<'_>) -> Result<String, AllocError> {
-    let mut told = String::new(alloc);
-    let mut rest = form;
+/// The components of a type expression, from the outermost inwards.
+fn describe_type_expr(alloc: Global, type_expr: TypeExpr<'_>) -> Result<String, AllocError> {
+    let mut description = String::new(alloc);
+    let mut rest = type_expr;
     for _ in 0..4 {
         if let Some(part) = rest.first() {
-            tell_part(alloc, &mut told, part)?;
+            append_part(alloc, &mut description, part)?;
         }
         rest = rest.rest();
     }
-    Ok(told)
+    Ok(description)
 }
 
-fn tell_declaration(
+fn append_declaration(
     alloc: Global,
-    told: &mut String,
+    description: &mut String,
     interface: &Interface,
     place: u32,
 ) -> Result<(), AllocError> {
     let Some(it) = interface.declaration_at(place) else {
         return Ok(());
     };
-    write!(told, "{:?} ", it.sort)?;
-    tell_bytes(alloc, told, it.name)?;
-    write!(told, " {} {} {:?}", it.exported, it.start, it.record)?;
-    let parts = told_parts(alloc, interface, place)?;
-    let form = told_form(alloc, it.form)?;
-    told.push_str(parts.as_str())?;
-    told.push_str(if form == parts {
+    write!(description, "{:?} ", it.decl_kind)?;
+    append_bytes(alloc, description, it.name)?;
+    write!(description, " {} {} {:?}", it.exported, it.start, it.record)?;
+    let parts = describe_parts(alloc, interface, place)?;
+    let type_expr = describe_type_expr(alloc, it.type_expr)?;
+    description.push_str(parts.as_str())?;
+    description.push_str(if type_expr == parts {
         "; "
     } else {
         " by place alone; "
     })
 }
 
-fn told_declarations(alloc: Global, interface: &Interface) -> Result<String, AllocError> {
-    let mut told = String::from_utf8_lossy(alloc, interface.name())?;
-    told.push_str(": ")?;
+fn describe_declarations(alloc: Global, interface: &Interface) -> Result<String, AllocError> {
+    let mut description = String::from_utf8_lossy(alloc, interface.name())?;
+    description.push_str(": ")?;
     for place in 0..8 {
-        tell_declaration(alloc, &mut told, interface, place)?;
+        append_declaration(alloc, &mut description, interface, place)?;
     }
-    Ok(told)
+    Ok(description)
 }
 
-pub(crate) fn told_seen(alloc: Global, text: &[u8]) -> Result<String, Fail> {
+pub(crate) fn describe_exports(alloc: Global, text: &[u8]) -> Result<String, Fail> {
     let interface = interface_of(alloc, text)?;
-    Ok(told_declarations(alloc, &interface)?)
+    Ok(describe_declarations(alloc, &interface)?)
 }
 
-fn tell_base(
+fn append_base(
     alloc: Global,
-    told: &mut String,
+    description: &mut String,
     interface: &Interface,
     record: u32,
 ) -> Result<(), AllocError> {
     match interface.base(record) {
-        Some(base) => tell_name(alloc, told, base.name),
-        None => told.push_str("no base"),
+        Some(base) => append_name(alloc, description, base.name),
+        None => description.push_str("no base"),
     }
 }
 
-fn told_of_name(
+fn describe_name(
     alloc: Global,
     interface: &Interface,
     record: u32,
     name: &[u8],
 ) -> Result<String, AllocError> {
     let (field, declared) = (
-        interface.place_of(Some(record), name),
-        interface.place_of(None, name),
+        interface.index_of(Some(record), name),
+        interface.index_of(None, name),
     );
     let owner = interface.owner(record);
-    let mut told = format!(in alloc; "{field:?} {declared:?} {owner:?} ")?;
-    tell_base(alloc, &mut told, interface, record)?;
-    told.push_str(" ")?;
+    let mut description = format!(in alloc; "{field:?} {declared:?} {owner:?} ")?;
+    append_base(alloc, &mut description, interface, record)?;
+    description.push_str(" ")?;
     let module = interface.module_of(name).unwrap_or(b"no module");
-    tell_bytes(alloc, &mut told, module)?;
-    Ok(told)
+    append_bytes(alloc, &mut description, module)?;
+    Ok(description)
 }
 
-pub(crate) fn told_found(
+pub(crate) fn describe_lookup(
     alloc: Global,
     text: &[u8],
     record: u32,
     name: &[u8],
 ) -> Result<String, Fail> {
     let interface = interface_of(alloc, text)?;
-    Ok(told_of_name(alloc, &interface, record, name)?)
+    Ok(describe_name(alloc, &interface, record, name)?)
 }
 
 #[test]
 fn other_modules_see_and_find_declarations(rt: HostRuntime) -> Result<(), Fail> {
-    are_told(&rt, ROWS)
+    check_rows(&rt, ROWS)
 }

@@ -1,7 +1,8 @@
-//! Tests of interfaces, graphs of imports, the work board, fields behind bases and documents, from outside: of what no command shows. What a
-//! command prints, tells and ends with stands in `rows/`.
-//! Stands on `ob_scan`, `ob_rows`, `ob_table`, `ob_scope`, `ob_interface`, `type_search`, `ob_types`, `ob_emit`, `ob_imports` and `work_board`.
-//! Its contract: none; it has nothing but tests.
+//! Tests of interfaces, import graphs, the scheduler, inherited fields and documents, of what no command shows. The output of commands is
+//! in `rows/`.
+//! Depends on `ob_scan`, `module_table`, `table_reader`, `ob_scope`, `ob_interface`, `type_graph`, `ob_types`, `ob_emit`, `ob_imports` and
+//! `work_board`, which it tests or needs for inputs.
+//! It has nothing but tests.
 #![tactic(auto)]
 
 #[cfg(test)]
@@ -17,6 +18,6 @@ mod graphs;
 #[cfg(test)]
 mod interfaces;
 #[cfg(test)]
-mod known;
+mod owners;
 #[cfg(test)]
 mod readings;

@@ -1,4 +1,4 @@
--- What holds of an outline by its marks holds of expressions and designators.
+-- A closed property of event sequences holds for expressions and designators.
 use Rattle.std.proofs.Common.{◌++◌, Option, Some, None}
 use Rattle.std.specs.declared.boxed.Box.{Box}
 use Rattle.std.specs.declared.alloc.Global.{Global}
@@ -11,26 +11,26 @@ use Rattle.ob_tree.specs.declared.expression.Expr.{Expr}
 use Rattle.ob_tree.specs.declared.expression.ExprList.{ExprList}
 use Rattle.ob_tree.specs.declared.expression.SimpleExpression.{SimpleExpression}
 use Rattle.ob_tree.specs.Constructs as constructs
-use Rattle.ob_tree.specs.Marks.{Out, word, if_there}
-use Rattle.ob_tree.specs.Expressions.{relation_kind, sign_kind, add_kind, mul_kind, factor_outline, selector_outline, designator_outline, element_outline, element_list_outline, expr_outline, expr_list_outline, sum_outline, term_outline}
+use Rattle.ob_tree.specs.TreeEvents.{Events, word, if_present}
+use Rattle.ob_tree.specs.Expressions.{relation_kind, sign_kind, add_kind, mul_kind, factor_events, selector_events, designator_events, element_events, element_list_events, expr_events, expr_list_events, sum_events, term_events}
 use Rattle.ob_tree.proofs.ExpressionInduction.{With, ExpressionPredicates, ExpressionSteps, WithFactor, WithSelector, WithDesignator, WithElement, WithElementList, WithExpr, WithExprList, WithSum, WithTerm, factor_of, selector_of, designator_of, element_of, element_list_of, expr_of, expr_list_of, sum_of, term_of, designator_induction, expr_induction, expr_list_induction}
 use Rattle.ob_tree.proofs.ExpressionLayers.{factor_shown, selector_shown, designator_shown, element_shown, element_list_shown, expr_list_shown, expr_shown, sum_shown, term_shown, factor_made, selector_made, designator_made, element_made, element_list_made, expr_made, expr_list_made, sum_made, term_made}
 use Rattle.ob_tree.proofs.Closed.{IsClosed, closed-is, closed-both, closed-construct, closed-there, closed-map}
 
-module _ (P : Out → Type 0) (closed : IsClosed P) where
+module _ (P : Events → Type 0) (closed : IsClosed P) where
   -- of each production
 
   abbrev predicates : ExpressionPredicates
   predicates = record {
-    factor = λ t. P (factor_outline t);
-    selector = λ t. P (selector_outline t);
-    designator = λ t. P (designator_outline t);
-    element = λ t. P (element_outline t);
-    element_list = λ t. P (element_list_outline t);
-    expr = λ t. P (expr_outline t);
-    expr_list = λ t. P (expr_list_outline t);
-    sum = λ t. P (sum_outline t);
-    term = λ t. P (term_outline t);
+    factor = λ t. P (factor_events t);
+    selector = λ t. P (selector_events t);
+    designator = λ t. P (designator_events t);
+    element = λ t. P (element_events t);
+    element_list = λ t. P (element_list_events t);
+    expr = λ t. P (expr_events t);
+    expr_list = λ t. P (expr_list_events t);
+    sum = λ t. P (sum_events t);
+    term = λ t. P (term_events t);
   }
 
   factor_held : (y : WithFactor predicates) → P (factor_shown (factor_of predicates y))
@@ -51,11 +51,11 @@ module _ (P : Out → Type 0) (closed : IsClosed P) where
   selector_held (layers.Arguments None) = closed-both P closed (closed.a_word kinds.LeftParen) (closed.a_word kinds.RightParen)
   selector_held (layers.Arguments (Some l)) = closed-both P closed (closed.a_word kinds.LeftParen) (closed-both P closed l.value.1 (closed.a_word kinds.RightParen))
 
-  high_held : (o : Option (With predicates.expr)) → P (if_there (λ h. word kinds.DotDot ++ expr_outline h) ((shapes.former-Element-high).map (With predicates.expr) Expr (λ e. e.0) o))
+  high_held : (o : Option (With predicates.expr)) → P (if_present (λ h. word kinds.DotDot ++ expr_events h) ((shapes.former-Element-high).map (With predicates.expr) Expr (λ e. e.0) o))
   high_held None = closed.nothing
   high_held (Some e) = closed-both P closed (closed.a_word kinds.DotDot) e.1
 
-  compared_held : (o : Option (Relation × Box (With predicates.sum) Global)) → P (if_there (λ c. word (relation_kind c.0) ++ sum_outline c.1.value) ((shapes.former-Expr-compared).map (With predicates.sum) SimpleExpression (λ e. e.0) o))
+  compared_held : (o : Option (Relation × Box (With predicates.sum) Global)) → P (if_present (λ c. word (relation_kind c.0) ++ sum_events c.1.value) ((shapes.former-Expr-compared).map (With predicates.sum) SimpleExpression (λ e. e.0) o))
   compared_held None = closed.nothing
   compared_held (Some c) = closed-both P closed (closed.a_word (relation_kind c.0)) c.1.value.1
 
@@ -66,21 +66,21 @@ module _ (P : Out → Type 0) (closed : IsClosed P) where
   expr_held y = closed-both P closed y.left.1 (compared_held y.compared)
 
   element_list_held : (y : WithElementList predicates) → P (element_list_shown (element_list_of predicates y))
-  element_list_held y = closed-both P closed y.first.1 (closed-map P closed (λ e. word kinds.Comma ++ element_outline e) _ y.rest.items (λ e. closed-both P closed (closed.a_word kinds.Comma) e.1))
+  element_list_held y = closed-both P closed y.first.1 (closed-map P closed (λ e. word kinds.Comma ++ element_events e) _ y.rest.items (λ e. closed-both P closed (closed.a_word kinds.Comma) e.1))
 
   expr_list_held : (y : WithExprList predicates) → P (expr_list_shown (expr_list_of predicates y))
-  expr_list_held y = closed-both P closed y.first.1 (closed-map P closed (λ e. word kinds.Comma ++ expr_outline e) _ y.rest.items (λ e. closed-both P closed (closed.a_word kinds.Comma) e.1))
+  expr_list_held y = closed-both P closed y.first.1 (closed-map P closed (λ e. word kinds.Comma ++ expr_events e) _ y.rest.items (λ e. closed-both P closed (closed.a_word kinds.Comma) e.1))
 
   sum_held : (y : WithSum predicates) → P (sum_shown (sum_of predicates y))
   sum_held y =
       closed-both P closed (closed-there P closed (λ x. word (sign_kind x)) y.sign (λ x. closed.a_word (sign_kind x)))
-      (closed-both P closed y.first.1 (closed-map P closed (λ p. word (add_kind p.0) ++ term_outline p.1) _ y.rest.items (λ p. closed-both P closed (closed.a_word (add_kind p.0)) p.1.1)))
+      (closed-both P closed y.first.1 (closed-map P closed (λ p. word (add_kind p.0) ++ term_events p.1) _ y.rest.items (λ p. closed-both P closed (closed.a_word (add_kind p.0)) p.1.1)))
 
   term_held : (y : WithTerm predicates) → P (term_shown (term_of predicates y))
-  term_held y = closed-both P closed y.first.1 (closed-map P closed (λ p. word (mul_kind p.0) ++ factor_outline p.1) _ y.rest.items (λ p. closed-both P closed (closed.a_word (mul_kind p.0)) p.1.1))
+  term_held y = closed-both P closed y.first.1 (closed-map P closed (λ p. word (mul_kind p.0) ++ factor_events p.1) _ y.rest.items (λ p. closed-both P closed (closed.a_word (mul_kind p.0)) p.1.1))
 
   designator_held : (y : WithDesignator predicates) → P (designator_shown (designator_of predicates y))
-  designator_held y = closed-both P closed (closed.a_use y.head) (closed-map P closed selector_outline _ y.selectors.items (λ s. s.1))
+  designator_held y = closed-both P closed (closed.a_use y.head) (closed-map P closed selector_events _ y.selectors.items (λ s. s.1))
 
   -- ---- layer by layer
 
@@ -97,11 +97,11 @@ module _ (P : Out → Type 0) (closed : IsClosed P) where
     term = λ y. closed-is P closed (term_made _) (closed-construct P closed constructs.Term (term_held y));
   }
 
-  pub closed-expr : (t : Expr) → P (expr_outline t)
+  pub closed-expr : (t : Expr) → P (expr_events t)
   closed-expr = expr_induction predicates steps
 
-  pub closed-designator : (t : Designator) → P (designator_outline t)
+  pub closed-designator : (t : Designator) → P (designator_events t)
   closed-designator = designator_induction predicates steps
 
-  pub closed-expr_list : (t : ExprList) → P (expr_list_outline t)
+  pub closed-expr_list : (t : ExprList) → P (expr_list_events t)
   closed-expr_list = expr_list_induction predicates steps

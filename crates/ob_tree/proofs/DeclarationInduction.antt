@@ -9,7 +9,7 @@ pub record DeclarationPredicates : Type 1 where
   pub declarations : Declarations → Type 0
   pub procedure : ProcDecl → Type 0
 
--- a layer, with a tree for each part
+-- a layer, with a tree for each child
 
 abbrev pub DeclarationsLayer : Type 0
 DeclarationsLayer = Declarations-F Declarations ProcDecl
@@ -17,7 +17,7 @@ DeclarationsLayer = Declarations-F Declarations ProcDecl
 abbrev pub ProcedureLayer : Type 0
 ProcedureLayer = ProcDecl-F Declarations ProcDecl
 
--- a layer whose parts have what is shown of them beside them, and the layer itself
+-- a layer whose children carry their proofs, and the layer without them
 
 abbrev pub WithDeclarations : DeclarationPredicates → Type 0
 WithDeclarations F = Declarations-F (With F.declarations) (With F.procedure)
@@ -31,7 +31,7 @@ WithProcedure F = ProcDecl-F (With F.declarations) (With F.procedure)
 abbrev pub procedure_of : (F : DeclarationPredicates) → WithProcedure F → ProcedureLayer
 procedure_of F = map-ProcDecl (With F.declarations) (With F.procedure) Declarations ProcDecl (λ e. e.0) (λ e. e.0)
 
--- the step of each production: from the parts to the tree
+-- the induction step of each production: from the children to the tree
 pub record DeclarationSteps (F : DeclarationPredicates) : Type 0 where
   pub declarations : (y : WithDeclarations F) → F.declarations (roll-Declarations (declarations_of F y))
   pub procedure : (y : WithProcedure F) → F.procedure (roll-ProcDecl (procedure_of F y))

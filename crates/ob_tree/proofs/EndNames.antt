@@ -1,4 +1,4 @@
--- The names after END stand in declarations of procedures and modules alone.
+-- Only declarations of procedures and modules contain names after END.
 use Rattle.std.proofs.Common.{◌≡◌, ℕ, Bool, List, [], ◌∷◌, ◌++◌, refl, ap, ◌∙◌, append_assoc}
 use Rattle.std.proofs.lemmas.List.{append-nil, take_all}
 use Rattle.std.proofs.lemmas.Grind.{take_at_read}
@@ -13,11 +13,11 @@ use Rattle.ob_tree.specs.declared.declaration.Module.{Module}
 use Rattle.ob_tree.specs.declared.declaration.Declarations.{Declarations, out-Declarations}
 use Rattle.ob_tree.specs.declared.declaration.ProcDecl.{ProcDecl, out-ProcDecl}
 use Rattle.ob_tree.specs.declared.role.Role.TheVariants.{Declares, Aliases, Imports, Uses, Completes, Selects, Names, Repeats}
-use Rattle.ob_tree.specs.Marks.{Out, Mark, Begins, Ends, Identifier, Value, Word, word, declared, aliased, imported, each, separated}
-use Rattle.ob_tree.specs.Expressions.{expr_outline}
-use Rattle.ob_tree.specs.Statements.{block_outline}
-use Rattle.ob_tree.specs.Types.{parameters_outline}
-use Rattle.ob_tree.specs.Declaring.{const_outline, type_decl_outline, variable_outline, part, declarations_outline, procedure_outline, import_outline, module_outline}
+use Rattle.ob_tree.specs.TreeEvents.{Events, TreeEvent, Begins, Ends, Identifier, Value, Word, word, declared, aliased, imported, each, separated}
+use Rattle.ob_tree.specs.Expressions.{expr_events}
+use Rattle.ob_tree.specs.Statements.{block_events}
+use Rattle.ob_tree.specs.Types.{parameters_events}
+use Rattle.ob_tree.specs.Declaring.{const_events, type_decl_events, variable_events, part, declarations_events, procedure_events, import_events, module_events}
 use Rattle.ob_tree.specs.Derives.{endings_in}
 use Rattle.ob_tree.proofs.DeclarationLayers.{procedure_shown, declarations_out, procedure_out}
 use Rattle.ob_tree.proofs.Gathers.{Gathers, Without, without, gathered-append, gathered-past, gathered-construct, gathered-each_push}
@@ -26,7 +26,7 @@ use Rattle.ob_tree.proofs.ClosedExpressions.{closed-expr}
 use Rattle.ob_tree.proofs.ClosedStatements.{closed-block}
 use Rattle.ob_tree.proofs.ClosedTypes.{closed-identdef, closed-parameters, closed-type, closed-var}
 
-one_more : (m : Mark) (ms : Out) → endings_in (m ∷ ms) ≡ endings_in (m ∷ []) ++ endings_in ms
+one_more : (m : TreeEvent) (ms : Events) → endings_in (m ∷ ms) ≡ endings_in (m ∷ []) ++ endings_in ms
 one_more (Begins c n) ms = refl
 one_more (Ends c) ms = refl
 one_more (Identifier (Declares starred) n) ms = refl
@@ -56,7 +56,7 @@ gathers = record {
 -- ---- what has none
 
 -- no name after END is in it
-abbrev NoEnd : Out → Type 0
+abbrev NoEnd : Events → Type 0
 NoEnd = Without endings_in
 
 no_end : IsClosed NoEnd
@@ -71,66 +71,66 @@ aliases n = record { none = refl }
 imports : (n : ℕ) → NoEnd (imported n)
 imports n = record { none = refl }
 
-const_none : (c : ConstDecl) → NoEnd (const_outline c)
-unfolding const_outline
+const_none : (c : ConstDecl) → NoEnd (const_events c)
+unfolding const_events
 const_none c = closed-construct NoEnd no_end constructs.ConstDeclaration (closed-both NoEnd no_end (closed-identdef NoEnd no_end declares c.name) (closed-both NoEnd no_end (no_end.a_word kinds.Equals) (closed-expr NoEnd no_end c.value)))
 
-type_decl_none : (t : TypeDecl) → NoEnd (type_decl_outline t)
-unfolding type_decl_outline
-type_decl_none t = closed-construct NoEnd no_end constructs.TypeDeclaration (closed-both NoEnd no_end (closed-identdef NoEnd no_end declares t.name) (closed-both NoEnd no_end (no_end.a_word kinds.Equals) (closed-type NoEnd no_end declares t.form)))
+type_decl_none : (t : TypeDecl) → NoEnd (type_decl_events t)
+unfolding type_decl_events
+type_decl_none t = closed-construct NoEnd no_end constructs.TypeDeclaration (closed-both NoEnd no_end (closed-identdef NoEnd no_end declares t.name) (closed-both NoEnd no_end (no_end.a_word kinds.Equals) (closed-type NoEnd no_end declares t.type_expr)))
 
-variable_none : (v : VarDecl) → NoEnd (variable_outline v)
-unfolding variable_outline
+variable_none : (v : VarDecl) → NoEnd (variable_events v)
+unfolding variable_events
 variable_none v = closed-construct NoEnd no_end constructs.VariableDeclaration (closed-var NoEnd no_end declares v)
 
-import_none : (i : ImportItem) → NoEnd (import_outline i)
-unfolding import_outline
+import_none : (i : ImportItem) → NoEnd (import_events i)
+unfolding import_events
 import_none i =
     closed-construct NoEnd no_end constructs.Import (closed-both NoEnd no_end (aliases i.name)
     (closed-there NoEnd no_end (λ m. word kinds.Assign ++ imported m) i.of (λ m. closed-both NoEnd no_end (no_end.a_word kinds.Assign) (imports m))))
 
-part_none : {X : Type 0} (k : Kind) (f : X → Out) (xs : List X) → ((x : X) → NoEnd (f x)) → NoEnd (part k f xs)
+part_none : {X : Type 0} (k : Kind) (f : X → Events) (xs : List X) → ((x : X) → NoEnd (f x)) → NoEnd (part k f xs)
 part_none k f xs w = closed-both NoEnd no_end (no_end.a_word k) (closed-each NoEnd no_end (λ x. f x ++ word kinds.Semicolon) xs (λ x. closed-both NoEnd no_end (w x) (no_end.a_word kinds.Semicolon)))
 
 -- ---- what has some
 
--- what stands behind a part that has none
-past : (a b : Out) → NoEnd a → endings_in (a ++ b) ≡ endings_in b
+-- the names after END in a sequence that follows one without any
+past : (a b : Events) → NoEnd a → endings_in (a ++ b) ≡ endings_in b
 past = gathered-past endings_in gathers
 
-pub endings-append : (a b : Out) → endings_in (a ++ b) ≡ endings_in a ++ endings_in b
+pub endings-append : (a b : Events) → endings_in (a ++ b) ≡ endings_in a ++ endings_in b
 endings-append = gathered-append endings_in gathers
 
-pub endings-each_push : {X : Type 0} (f : X → Out) (xs : List X) (x : X) → endings_in (each f (xs ++ x ∷ [])) ≡ endings_in (each f xs) ++ endings_in (f x)
+pub endings-each_push : {X : Type 0} (f : X → Events) (xs : List X) (x : X) → endings_in (each f (xs ++ x ∷ [])) ≡ endings_in (each f xs) ++ endings_in (f x)
 endings-each_push f xs x = gathered-each_push endings_in gathers f xs x
 
 -- the procedures' alone
-pub declarations_ends : (d : Declarations) → endings_in (declarations_outline d) ≡ endings_in (each (λ p. procedure_outline p ++ word kinds.Semicolon) (out-Declarations d).procedures.items)
+pub declarations_ends : (d : Declarations) → endings_in (declarations_events d) ≡ endings_in (each (λ p. procedure_events p ++ word kinds.Semicolon) (out-Declarations d).procedures.items)
 declarations_ends d =
     ap endings_in (declarations_out d)
-    ∙ past _ _ (closed-there NoEnd no_end (λ v. part kinds.Const const_outline v.items) (out-Declarations d).constants (λ v. part_none kinds.Const const_outline v.items const_none))
-    ∙ past _ _ (closed-there NoEnd no_end (λ v. part kinds.Type type_decl_outline v.items) (out-Declarations d).types (λ v. part_none kinds.Type type_decl_outline v.items type_decl_none))
-    ∙ past _ _ (closed-there NoEnd no_end (λ v. part kinds.Var variable_outline v.items) (out-Declarations d).variables (λ v. part_none kinds.Var variable_outline v.items variable_none))
+    ∙ past _ _ (closed-there NoEnd no_end (λ v. part kinds.Const const_events v.items) (out-Declarations d).constants (λ v. part_none kinds.Const const_events v.items const_none))
+    ∙ past _ _ (closed-there NoEnd no_end (λ v. part kinds.Type type_decl_events v.items) (out-Declarations d).types (λ v. part_none kinds.Type type_decl_events v.items type_decl_none))
+    ∙ past _ _ (closed-there NoEnd no_end (λ v. part kinds.Var variable_events v.items) (out-Declarations d).variables (λ v. part_none kinds.Var variable_events v.items variable_none))
 
--- those of the procedures inside, and its own behind them
-pub procedure_ends : (p : ProcDecl) → endings_in (procedure_outline p) ≡ endings_in (declarations_outline (out-ProcDecl p).declarations) ++ ((out-ProcDecl p).name.name, (out-ProcDecl p).end_name) ∷ []
+-- the names after END of the inner procedures, then the procedure's own
+pub procedure_ends : (p : ProcDecl) → endings_in (procedure_events p) ≡ endings_in (declarations_events (out-ProcDecl p).declarations) ++ ((out-ProcDecl p).name.name, (out-ProcDecl p).end_name) ∷ []
 procedure_ends p =
     ap endings_in (procedure_out p) ∙ gathered-construct endings_in gathers constructs.ProcedureDeclaration (procedure_shown (out-ProcDecl p))
     ∙ past _ _ (closed-identdef NoEnd no_end declares (out-ProcDecl p).name)
-    ∙ past _ _ (closed-there NoEnd no_end parameters_outline (out-ProcDecl p).parameters (closed-parameters NoEnd no_end declares))
-    ∙ endings-append (declarations_outline (out-ProcDecl p).declarations) _
-    ∙ ap (λ (es : List (ℕ × ℕ)). endings_in (declarations_outline (out-ProcDecl p).declarations) ++ es) (
-    past _ _ (closed-there NoEnd no_end (λ b. word kinds.Begin ++ block_outline b.value) (out-ProcDecl p).body (λ b. closed-both NoEnd no_end (no_end.a_word kinds.Begin) (closed-block NoEnd no_end b.value)))
-    ∙ past _ _ (closed-there NoEnd no_end (λ e. word kinds.Return ++ expr_outline e.value) (out-ProcDecl p).returned (λ e. closed-both NoEnd no_end (no_end.a_word kinds.Return) (closed-expr NoEnd no_end e.value))))
+    ∙ past _ _ (closed-there NoEnd no_end parameters_events (out-ProcDecl p).parameters (closed-parameters NoEnd no_end declares))
+    ∙ endings-append (declarations_events (out-ProcDecl p).declarations) _
+    ∙ ap (λ (es : List (ℕ × ℕ)). endings_in (declarations_events (out-ProcDecl p).declarations) ++ es) (
+    past _ _ (closed-there NoEnd no_end (λ b. word kinds.Begin ++ block_events b.value) (out-ProcDecl p).body (λ b. closed-both NoEnd no_end (no_end.a_word kinds.Begin) (closed-block NoEnd no_end b.value)))
+    ∙ past _ _ (closed-there NoEnd no_end (λ e. word kinds.Return ++ expr_events e.value) (out-ProcDecl p).returned (λ e. closed-both NoEnd no_end (no_end.a_word kinds.Return) (closed-expr NoEnd no_end e.value))))
 
-pub module_ends : (m : Module) → endings_in (module_outline m) ≡ endings_in (declarations_outline m.declarations) ++ (m.name, m.end_name) ∷ []
-unfolding module_outline
+pub module_ends : (m : Module) → endings_in (module_events m) ≡ endings_in (declarations_events m.declarations) ++ (m.name, m.end_name) ∷ []
+unfolding module_events
 module_ends m =
     gathered-construct endings_in gathers constructs.Module _
-    ∙ past _ _ (closed-there NoEnd no_end (λ l. word kinds.Import ++ (separated kinds.Comma import_outline l ++ word kinds.Semicolon)) m.imports
-    (λ l. closed-both NoEnd no_end (no_end.a_word kinds.Import) (closed-both NoEnd no_end (closed-separated NoEnd no_end kinds.Comma import_outline l import_none) (no_end.a_word kinds.Semicolon))))
-    ∙ endings-append (declarations_outline m.declarations) _
-    ∙ ap (λ (es : List (ℕ × ℕ)). endings_in (declarations_outline m.declarations) ++ es)
-    (past _ _ (closed-there NoEnd no_end (λ b. word kinds.Begin ++ block_outline b) m.body (λ b. closed-both NoEnd no_end (no_end.a_word kinds.Begin) (closed-block NoEnd no_end b))))
+    ∙ past _ _ (closed-there NoEnd no_end (λ l. word kinds.Import ++ (separated kinds.Comma import_events l ++ word kinds.Semicolon)) m.imports
+    (λ l. closed-both NoEnd no_end (no_end.a_word kinds.Import) (closed-both NoEnd no_end (closed-separated NoEnd no_end kinds.Comma import_events l import_none) (no_end.a_word kinds.Semicolon))))
+    ∙ endings-append (declarations_events m.declarations) _
+    ∙ ap (λ (es : List (ℕ × ℕ)). endings_in (declarations_events m.declarations) ++ es)
+    (past _ _ (closed-there NoEnd no_end (λ b. word kinds.Begin ++ block_events b) m.body (λ b. closed-both NoEnd no_end (no_end.a_word kinds.Begin) (closed-block NoEnd no_end b))))
 
 pub ruleset end_walks = (append_assoc, append-nil, endings-append, endings-each_push, take_at_read, take_all, declarations_ends, procedure_ends, module_ends)

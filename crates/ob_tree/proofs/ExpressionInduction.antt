@@ -26,7 +26,7 @@ pub record ExpressionPredicates : Type 1 where
   pub sum : SimpleExpression → Type 0
   pub term : Term → Type 0
 
--- a layer, with a tree for each part
+-- a layer, with a tree for each child
 
 abbrev pub FactorLayer : Type 0
 FactorLayer = Factor-F Factor Selector Designator Element ElementList Expr ExprList SimpleExpression Term
@@ -55,7 +55,7 @@ SumLayer = SimpleExpression-F Factor Selector Designator Element ElementList Exp
 abbrev pub TermLayer : Type 0
 TermLayer = Term-F Factor Selector Designator Element ElementList Expr ExprList SimpleExpression Term
 
--- a layer whose parts have what is shown of them beside them, and the layer itself
+-- a layer whose children carry their proofs, and the layer without them
 
 abbrev pub WithFactor : ExpressionPredicates → Type 0
 WithFactor F = Factor-F (With F.factor) (With F.selector) (With F.designator) (With F.element) (With F.element_list) (With F.expr) (With F.expr_list) (With F.sum) (With F.term)
@@ -138,7 +138,7 @@ term_of F =
     Factor Selector Designator Element ElementList Expr ExprList SimpleExpression Term
     (λ e. e.0) (λ e. e.0) (λ e. e.0) (λ e. e.0) (λ e. e.0) (λ e. e.0) (λ e. e.0) (λ e. e.0) (λ e. e.0)
 
--- the step of each production: from the parts to the tree
+-- the induction step of each production: from the children to the tree
 pub record ExpressionSteps (F : ExpressionPredicates) : Type 0 where
   pub factor : (y : WithFactor F) → F.factor (roll-Factor (factor_of F y))
   pub selector : (y : WithSelector F) → F.selector (roll-Selector (selector_of F y))

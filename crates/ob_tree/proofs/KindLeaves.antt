@@ -1,4 +1,4 @@
--- Each kind of token has its place in a tree.
+-- Each kind of token becomes exactly one kind of leaf.
 use Rattle.std.proofs.Common.{◌≡◌, ℕ, List, Some, ◌⊎◌, inl, inr, refl}
 use Rattle.ob_scan.specs.Kinds.{text_of}
 use Rattle.ob_scan.specs.declared.kind.Kind.{Kind}

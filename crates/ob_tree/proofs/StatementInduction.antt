@@ -15,7 +15,7 @@ pub record StatementPredicates : Type 1 where
   pub for : For → Type 0
   pub block : StatementSequence → Type 0
 
--- a layer, with a tree for each part
+-- a layer, with a tree for each child
 
 abbrev pub CaseLayer : Type 0
 CaseLayer = Case-F Case Stmt Branch For StatementSequence
@@ -32,7 +32,7 @@ ForLayer = For-F Case Stmt Branch For StatementSequence
 abbrev pub BlockLayer : Type 0
 BlockLayer = StatementSequence-F Case Stmt Branch For StatementSequence
 
--- a layer whose parts have what is shown of them beside them, and the layer itself
+-- a layer whose children carry their proofs, and the layer without them
 
 abbrev pub WithCase : StatementPredicates → Type 0
 WithCase F = Case-F (With F.case) (With F.stmt) (With F.branch) (With F.for) (With F.block)
@@ -64,7 +64,7 @@ WithBlock F = StatementSequence-F (With F.case) (With F.stmt) (With F.branch) (W
 abbrev pub block_of : (F : StatementPredicates) → WithBlock F → BlockLayer
 block_of F = map-StatementSequence (With F.case) (With F.stmt) (With F.branch) (With F.for) (With F.block) Case Stmt Branch For StatementSequence (λ e. e.0) (λ e. e.0) (λ e. e.0) (λ e. e.0) (λ e. e.0)
 
--- the step of each production: from the parts to the tree
+-- the induction step of each production: from the children to the tree
 pub record StatementSteps (F : StatementPredicates) : Type 0 where
   pub case : (y : WithCase F) → F.case (roll-Case (case_of F y))
   pub stmt : (y : WithStmt F) → F.stmt (roll-Stmt (stmt_of F y))

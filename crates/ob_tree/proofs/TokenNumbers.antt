@@ -6,12 +6,12 @@ use Rattle.ob_scan.specs.declared.kind.Kind.TheVariants as kinds
 use Rattle.ob_tree.specs.declared.declaration.Module.{Module}
 use Rattle.ob_tree.specs.declared.token.Leaf.{Leaf}
 use Rattle.ob_tree.specs.declared.token.Leaf.TheVariants as leafs
-use Rattle.ob_tree.specs.Declaring.{module_outline}
+use Rattle.ob_tree.specs.Declaring.{module_events}
 use Rattle.ob_tree.specs.Leaves.{leaf_of, leaves_from}
-use Rattle.ob_tree.specs.Marks.{Out, Begins, Ends, Identifier, Value, Word, tokens_of}
+use Rattle.ob_tree.specs.TreeEvents.{Events, Begins, Ends, Identifier, Value, Word, tokens_of}
 use Rattle.ob_tree.specs.Derives.{Derives, numbers_from, yields}
 
--- the number of a leaf in this place
+-- the number of a leaf with this index
 abbrev leaf_at : ℕ → Leaf → ℕ
 leaf_at at (leafs.Name n) = n
 leaf_at at (leafs.Value k n) = n
@@ -21,13 +21,13 @@ abbrev leaves_at : ℕ → List Leaf → List ℕ
 leaves_at at [] = []
 leaves_at at (l ∷ ls) = leaf_at at l ∷ leaves_at (at + 1) ls
 
-outline_numbers : (at : ℕ) (ms : Out) → numbers_from at ms ≡ leaves_at at (tokens_of ms)
-outline_numbers at [] = refl
-outline_numbers at (Begins c n ∷ ms) = outline_numbers at ms
-outline_numbers at (Ends c ∷ ms) = outline_numbers at ms
-outline_numbers at (Identifier r n ∷ ms) = ap (λ (ns : List ℕ). n ∷ ns) (outline_numbers (at + 1) ms)
-outline_numbers at (Value k n ∷ ms) = ap (λ (ns : List ℕ). n ∷ ns) (outline_numbers (at + 1) ms)
-outline_numbers at (Word k ∷ ms) = ap (λ (ns : List ℕ). at ∷ ns) (outline_numbers (at + 1) ms)
+event_numbers : (at : ℕ) (ms : Events) → numbers_from at ms ≡ leaves_at at (tokens_of ms)
+event_numbers at [] = refl
+event_numbers at (Begins c n ∷ ms) = event_numbers at ms
+event_numbers at (Ends c ∷ ms) = event_numbers at ms
+event_numbers at (Identifier r n ∷ ms) = ap (λ (ns : List ℕ). n ∷ ns) (event_numbers (at + 1) ms)
+event_numbers at (Value k n ∷ ms) = ap (λ (ns : List ℕ). n ∷ ns) (event_numbers (at + 1) ms)
+event_numbers at (Word k ∷ ms) = ap (λ (ns : List ℕ). at ∷ ns) (event_numbers (at + 1) ms)
 
 leaf_number : (at : ℕ) (k : Kind) → leaf_at at (leaf_of at k) ≡ at
 leaf_number at kinds.Ident = refl
@@ -41,4 +41,4 @@ leaf_numbers at [] = refl
 leaf_numbers at (k ∷ ks) = rw (leaf_number at k) (ap (λ (ns : List ℕ). at ∷ ns) (leaf_numbers (at + 1) ks))
 
 pub all_numbers : (ks : List Kind) (m : Module) → Derives ks m → yields m ≡ range_with_len 0 (length ks)
-all_numbers ks m e = outline_numbers 0 (module_outline m) ∙ ap (λ (ls : List Leaf). leaves_at 0 ls) (sym e) ∙ leaf_numbers 0 ks
+all_numbers ks m e = event_numbers 0 (module_events m) ∙ ap (λ (ls : List Leaf). leaves_at 0 ls) (sym e) ∙ leaf_numbers 0 ks

@@ -16,7 +16,7 @@ pub record TypePredicates : Type 1 where
   pub record_type : Record → Type 0
   pub var : VarDecl → Type 0
 
--- a layer, with a tree for each part
+-- a layer, with a tree for each child
 
 abbrev pub TypeLayer : Type 0
 TypeLayer = TypeForm-F TypeForm Fields Record VarDecl
@@ -30,7 +30,7 @@ RecordLayer = Record-F TypeForm Fields Record VarDecl
 abbrev pub VarLayer : Type 0
 VarLayer = VarDecl-F TypeForm Fields Record VarDecl
 
--- a layer whose parts have what is shown of them beside them, and the layer itself
+-- a layer whose children carry their proofs, and the layer without them
 
 abbrev pub WithType : TypePredicates → Type 0
 WithType F = TypeForm-F (With F.type) (With F.fields) (With F.record_type) (With F.var)
@@ -66,7 +66,7 @@ fields_in F Q none some (Some f) = some _ f.value.1
 pub record_fields : (F : TypePredicates) (Q : Option (Box Fields Global) → Type 0) → Q None → ((f : Box Fields Global) → F.fields f.value → Q (Some f)) → (y : WithRecord F) → Q (record_of F y).fields
 record_fields F Q none some y = fields_in F Q none some y.fields
 
--- the step of each production: from the parts to the tree
+-- the induction step of each production: from the children to the tree
 pub record TypeSteps (F : TypePredicates) : Type 0 where
   pub type : (y : WithType F) → F.type (roll-TypeForm (type_of F y))
   pub fields : (y : WithFields F) → F.fields (roll-Fields (fields_of F y))

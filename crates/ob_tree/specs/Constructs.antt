@@ -1,4 +1,4 @@
--- The constructs of the grammar that an outline marks (Oberon-07 report, appendix).
+-- The constructs of the grammar whose begin and end are events of a tree's sequence (Oberon-07 report, appendix).
 use Rattle.std.specs.Prelude.{Bool, true, false}
 
 pub data Construct : Type 0 where
@@ -27,7 +27,7 @@ pub data Construct : Type 0 where
   Designator : Construct
   Selector : Construct
 
--- the constructs that count as levels of nesting
+-- whether a construct counts as a level of nesting, for the bound on the depth of a tree
 abbrev pub is_level : Construct → Bool
 is_level Module = false
 is_level Import = false

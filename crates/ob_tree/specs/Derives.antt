@@ -1,27 +1,28 @@
--- What the tree of a list of tokens is, and what stands in it (Oberon-07 report, appendix).
+-- When a tree derives a list of tokens, and what a tree contains (Oberon-07 report, appendix).
 use Rattle.std.specs.Prelude.{◌≡◌, ◌+◌, ℕ, List, [], ◌∷◌}
 use Rattle.ob_scan.specs.declared.kind.Kind.{Kind}
 use Rattle.ob_tree.specs.declared.declaration.Module.{Module}
 use Rattle.ob_tree.specs.declared.role.Role.TheVariants.{Declares, Aliases, Imports, Uses, Completes, Selects, Names, Repeats}
 use Rattle.ob_tree.specs.declared.token.Leaf.{Leaf}
-use Rattle.ob_tree.specs.Declaring.{module_outline}
+use Rattle.ob_tree.specs.Declaring.{module_events}
 use Rattle.ob_tree.specs.Leaves.{leaves_from}
-use Rattle.ob_tree.specs.Marks.{Out, Begins, Ends, Identifier, Value, Word, tokens_of, height}
+use Rattle.ob_tree.specs.TreeEvents.{Events, Begins, Ends, Identifier, Value, Word, tokens_of, height}
 
 -- the tokens of a module's tree, in order
 abbrev pub spelling : Module → List Leaf
-spelling m = tokens_of (module_outline m)
+spelling m = tokens_of (module_events m)
 
--- the tree derives tokens of these kinds: it spells them, and each identifier and literal is its token's number
+-- the tree derives tokens of these kinds: its tokens are those, and each identifier and literal carries the number of its token
 abbrev pub Derives : List Kind → Module → Type 0
 Derives kinds m = leaves_from 0 kinds ≡ spelling m
 
--- how many procedure declarations, types, statements that are not empty, expressions and factors after ~ hold one another
+-- the depth of a tree: the longest chain of nested procedure declarations, types, statements that are not empty, expressions and factors
+-- after ~
 abbrev pub depth : Module → ℕ
-depth m = height (module_outline m)
+depth m = height (module_events m)
 
--- the numbers of an outline's tokens, the first of which stands in this place: a word's number is that of its place
-abbrev pub numbers_from : ℕ → Out → List ℕ
+-- the token numbers of an event sequence whose first token has this number: identifiers and literals carry theirs, a word has its index
+abbrev pub numbers_from : ℕ → Events → List ℕ
 numbers_from at [] = []
 numbers_from at (Begins c n ∷ ms) = numbers_from at ms
 numbers_from at (Ends c ∷ ms) = numbers_from at ms
@@ -29,12 +30,12 @@ numbers_from at (Identifier r n ∷ ms) = n ∷ numbers_from (at + 1) ms
 numbers_from at (Value k n ∷ ms) = n ∷ numbers_from (at + 1) ms
 numbers_from at (Word k ∷ ms) = at ∷ numbers_from (at + 1) ms
 
--- the numbers of the tokens of a tree, in order
+-- the numbers of all tokens of a tree, in order
 abbrev pub yields : Module → List ℕ
-yields m = numbers_from 0 (module_outline m)
+yields m = numbers_from 0 (module_events m)
 
--- the numbers of the identifiers that an outline declares, in order
-abbrev pub declared_in : Out → List ℕ
+-- the token numbers of the identifiers that an event sequence declares, in order
+abbrev pub declared_in : Events → List ℕ
 declared_in [] = []
 declared_in (Identifier (Declares starred) n ∷ ms) = n ∷ declared_in ms
 declared_in (Identifier Aliases n ∷ ms) = n ∷ declared_in ms
@@ -49,8 +50,8 @@ declared_in (Ends c ∷ ms) = declared_in ms
 declared_in (Value k n ∷ ms) = declared_in ms
 declared_in (Word k ∷ ms) = declared_in ms
 
--- the numbers of the identifiers that are looked up, in order
-abbrev pub used_in : Out → List ℕ
+-- the token numbers of the identifiers that the scope rule looks up, in order
+abbrev pub used_in : Events → List ℕ
 used_in [] = []
 used_in (Identifier Uses n ∷ ms) = n ∷ used_in ms
 used_in (Identifier (Declares starred) n ∷ ms) = used_in ms
@@ -65,8 +66,8 @@ used_in (Ends c ∷ ms) = used_in ms
 used_in (Value k n ∷ ms) = used_in ms
 used_in (Word k ∷ ms) = used_in ms
 
--- the names after END in order, each behind the identifier whose name it has to repeat
-abbrev pub endings_in : Out → List (ℕ × ℕ)
+-- the names after END in order, as pairs: the identifier whose name must be repeated, and the name after END
+abbrev pub endings_in : Events → List (ℕ × ℕ)
 endings_in [] = []
 endings_in (Identifier (Repeats name) n ∷ ms) = (name, n) ∷ endings_in ms
 endings_in (Identifier (Declares starred) n ∷ ms) = endings_in ms

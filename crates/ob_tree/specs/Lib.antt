@@ -3,7 +3,7 @@ pub mod Declaring
 pub mod Derives
 pub mod Expressions
 pub mod Leaves
-pub mod Marks
+pub mod TreeEvents
 pub mod Names
 pub mod Statements
 pub mod Types

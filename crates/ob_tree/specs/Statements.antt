@@ -1,4 +1,4 @@
--- The outlines of statements, a step for each production (Oberon-07 report, section 9).
+-- The event sequences of statements, one definition for each production (Oberon-07 report, section 9).
 use Rattle.std.specs.Prelude.{[], ◌∷◌, ◌++◌}
 use Rattle.ob_scan.specs.declared.kind.Kind.{Kind}
 use Rattle.ob_scan.specs.declared.kind.Kind.TheVariants as kinds
@@ -13,31 +13,31 @@ use Rattle.ob_tree.specs.declared.statement.StatementSequence.{StatementSequence
 use Rattle.ob_tree.specs.declared.statement.Branch.{Branch, Branch-F, fold-Branch}
 use Rattle.ob_tree.specs.declared.statement.For.{For, For-F, fold-For}
 use Rattle.ob_tree.specs.Constructs as constructs
-use Rattle.ob_tree.specs.Marks.{Out, Value, construct, word, used, if_there, each_after, separated}
-use Rattle.ob_tree.specs.Names.{qualident_outline}
-use Rattle.ob_tree.specs.Expressions.{expr_outline, designator_outline}
+use Rattle.ob_tree.specs.TreeEvents.{Events, Value, construct, word, used, if_present, each_after, separated}
+use Rattle.ob_tree.specs.Names.{qualident_events}
+use Rattle.ob_tree.specs.Expressions.{expr_events, designator_events}
 
 -- label = integer | string | qualident
-unfoldable pub label_outline : Label → Out
-label_outline (labels.Integer n) = Value literals.Integer n ∷ []
-label_outline (labels.Text n) = Value literals.Text n ∷ []
-label_outline (labels.Name q) = qualident_outline q
+unfoldable pub label_events : Label → Events
+label_events (labels.Integer n) = Value literals.Integer n ∷ []
+label_events (labels.Text n) = Value literals.Text n ∷ []
+label_events (labels.Name q) = qualident_events q
 
 -- LabelRange = label [".." label]
-unfoldable pub label_range_outline : LabelRange → Out
-label_range_outline r = label_outline r.low ++ if_there (λ l. word kinds.DotDot ++ label_outline l) r.high
+unfoldable pub label_range_events : LabelRange → Events
+label_range_events r = label_events r.low ++ if_present (λ l. word kinds.DotDot ++ label_events l) r.high
 
--- Each step below is one layer of a tree, with the outline of each part in its place. A branch waits for the word
--- between its condition and its statements.
-abbrev pub Waits : Type 0
-Waits = Kind → Out
+-- Each step below is one layer of a tree in which every child is replaced by its event sequence. A branch takes the keyword between its
+-- condition and its statements as an argument: THEN in an IF, DO in a WHILE.
+abbrev pub KeywordEvents : Type 0
+KeywordEvents = Kind → Events
 
 -- case = [LabelRange {"," LabelRange} ":" StatementSequence]
-abbrev pub case_parts : Case-F Out Out Waits Out Out → Out
+abbrev pub case_parts : Case-F Events Events KeywordEvents Events Events → Events
 case_parts layers.Nothing = []
-case_parts (layers.Labelled ranges body) = separated kinds.Comma label_range_outline ranges ++ (word kinds.Colon ++ body.value)
+case_parts (layers.Labelled ranges body) = separated kinds.Comma label_range_events ranges ++ (word kinds.Colon ++ body.value)
 
-abbrev pub case_step : Case-F Out Out Waits Out Out → Out
+abbrev pub case_step : Case-F Events Events KeywordEvents Events Events → Events
 case_step c = construct constructs.Case (case_parts c)
 
 -- statement = [designator [":=" expression] | IfStatement | CaseStatement | WhileStatement | RepeatStatement | ForStatement]
@@ -45,46 +45,47 @@ case_step c = construct constructs.Case (case_parts c)
 -- CaseStatement = CASE expression OF case {"|" case} END
 -- WhileStatement = WHILE expression DO StatementSequence {ELSIF expression DO StatementSequence} END
 -- RepeatStatement = REPEAT StatementSequence UNTIL expression
-abbrev pub stmt_step : Stmt-F Out Out Waits Out Out → Out
+abbrev pub stmt_step : Stmt-F Events Events KeywordEvents Events Events → Events
 stmt_step layers.Empty = construct constructs.EmptyStatement []
-stmt_step (layers.Assign d e) = construct constructs.Statement (designator_outline d ++ (word kinds.Assign ++ expr_outline e))
-stmt_step (layers.Call d) = construct constructs.Statement (designator_outline d)
+stmt_step (layers.Assign d e) = construct constructs.Statement (designator_events d ++ (word kinds.Assign ++ expr_events e))
+stmt_step (layers.Call d) = construct constructs.Statement (designator_events d)
 stmt_step (layers.If first rest otherwise) = construct constructs.Statement (
     word kinds.If ++ (first.value kinds.Then ++ (each_after kinds.Elsif (λ b. b kinds.Then) rest.items ++
-    (if_there (λ b. word kinds.Else ++ b.value) otherwise ++ word kinds.End))))
+    (if_present (λ b. word kinds.Else ++ b.value) otherwise ++ word kinds.End))))
 stmt_step (layers.Case e first rest) = construct constructs.Statement (
-    word kinds.Case ++ (expr_outline e ++ (word kinds.Of ++ (first.value ++
+    word kinds.Case ++ (expr_events e ++ (word kinds.Of ++ (first.value ++
     (each_after kinds.Bar (λ c. c) rest.items ++ word kinds.End)))))
 stmt_step (layers.While first rest) = construct constructs.Statement (
     word kinds.While ++ (first.value kinds.Do ++ (each_after kinds.Elsif (λ b. b kinds.Do) rest.items ++ word kinds.End)))
-stmt_step (layers.Repeat body e) = construct constructs.Statement (word kinds.Repeat ++ (body.value ++ (word kinds.Until ++ expr_outline e)))
+stmt_step (layers.Repeat body e) = construct constructs.Statement (word kinds.Repeat ++ (body.value ++ (word kinds.Until ++ expr_events e)))
 stmt_step (layers.For f) = construct constructs.Statement f.value
 
 -- StatementSequence = statement {";" statement}
-abbrev pub block_step : StatementSequence-F Out Out Waits Out Out → Out
+abbrev pub block_step : StatementSequence-F Events Events KeywordEvents Events Events → Events
 block_step b = b.first ++ each_after kinds.Semicolon (λ s. s) b.rest.items
 
--- expression THEN StatementSequence, or with DO
-abbrev pub branch_step : Branch-F Out Out Waits Out Out → Waits
-branch_step b = λ k. expr_outline b.condition ++ (word k ++ b.body)
+-- expression (THEN | DO) StatementSequence
+abbrev pub branch_step : Branch-F Events Events KeywordEvents Events Events → KeywordEvents
+branch_step b = λ k. expr_events b.condition ++ (word k ++ b.body)
 
 -- ForStatement = FOR ident ":=" expression TO expression [BY expression] DO StatementSequence END
-abbrev pub for_step : For-F Out Out Waits Out Out → Out
+abbrev pub for_step : For-F Events Events KeywordEvents Events Events → Events
 for_step f =
-    word kinds.For ++ (used f.variable ++ (word kinds.Assign ++ (expr_outline f.from ++ (word kinds.To ++ (expr_outline f.to ++
-    (if_there (λ e. word kinds.By ++ expr_outline e) f.by ++ (word kinds.Do ++ (f.body ++ word kinds.End))))))))
+    word kinds.For ++ (used f.variable ++ (word kinds.Assign ++ (expr_events f.from ++ (word kinds.To ++ (expr_events f.to ++
+    (if_present (λ e. word kinds.By ++ expr_events e) f.by ++ (word kinds.Do ++ (f.body ++ word kinds.End))))))))
 
-unfoldable pub case_outline : Case → Out
-case_outline = fold-Case Out Out Waits Out Out case_step stmt_step branch_step for_step block_step
+-- Each definition below folds the steps over the trees of one production.
+unfoldable pub case_events : Case → Events
+case_events = fold-Case Events Events KeywordEvents Events Events case_step stmt_step branch_step for_step block_step
 
-unfoldable pub stmt_outline : Stmt → Out
-stmt_outline = fold-Stmt Out Out Waits Out Out case_step stmt_step branch_step for_step block_step
+unfoldable pub stmt_events : Stmt → Events
+stmt_events = fold-Stmt Events Events KeywordEvents Events Events case_step stmt_step branch_step for_step block_step
 
-unfoldable pub block_outline : StatementSequence → Out
-block_outline = fold-StatementSequence Out Out Waits Out Out case_step stmt_step branch_step for_step block_step
+unfoldable pub block_events : StatementSequence → Events
+block_events = fold-StatementSequence Events Events KeywordEvents Events Events case_step stmt_step branch_step for_step block_step
 
-unfoldable pub branch_outline : Branch → Kind → Out
-branch_outline = fold-Branch Out Out Waits Out Out case_step stmt_step branch_step for_step block_step
+unfoldable pub branch_events : Branch → Kind → Events
+branch_events = fold-Branch Events Events KeywordEvents Events Events case_step stmt_step branch_step for_step block_step
 
-unfoldable pub for_outline : For → Out
-for_outline = fold-For Out Out Waits Out Out case_step stmt_step branch_step for_step block_step
+unfoldable pub for_events : For → Events
+for_events = fold-For Events Events KeywordEvents Events Events case_step stmt_step branch_step for_step block_step

@@ -1,10 +1,11 @@
-//! Types, declarations and modules (Oberon-07 report, sections 5, 6, 7, 10 and 11). Numbers are those of tokens, from 0.
+//! Types, declarations and modules (Oberon-07 report, sections 5, 6, 7, 10 and 11). An identifier is represented by its token number,
+//! from 0.
 
 use crate::expression::{Expr, ExprList};
 use crate::name::{Identdef, OneOrMore, Qualident};
 use crate::statement::StatementSequence;
 
-/// A module. `name` and `end_name` are the numbers of the tokens after MODULE and after END.
+/// A module. `name` and `end_name` are the token numbers of the names after MODULE and after END.
 #[derive(Drop)]
 pub struct Module {
     pub name: u32,
@@ -14,14 +15,14 @@ pub struct Module {
     pub end_name: u32,
 }
 
-/// An import. `name` is declared by it; `of` is the imported module's own name, where another stands before `:=`.
+/// An import item. It declares `name`; `of` is the imported module's own name if the item has the form `name := of`.
 #[derive(Clone, Copy, Drop)]
 pub struct ImportItem {
     pub name: u32,
     pub of: Option<u32>,
 }
 
-/// The declarations of a module or a procedure: the sections that stand there, which may be empty, and the procedures.
+/// The declarations of a module or a procedure. A section is `None` if its keyword is absent, and may be empty otherwise.
 #[derive(Drop)]
 #[cycle(declarations)]
 pub struct Declarations {
@@ -31,29 +32,29 @@ pub struct Declarations {
     pub procedures: Vec<ProcDecl>,
 }
 
-/// A constant.
+/// A constant declaration.
 #[derive(Drop)]
 pub struct ConstDecl {
     pub name: Identdef,
     pub value: Expr,
 }
 
-/// A type with its name.
+/// A type declaration.
 #[derive(Drop)]
 pub struct TypeDecl {
     pub name: Identdef,
-    pub form: TypeForm,
+    pub type_expr: TypeForm,
 }
 
-/// Variables, or fields of a record, of one type.
+/// A list of variables, or of record fields, with their common type.
 #[derive(Drop)]
 #[cycle(types)]
 pub struct VarDecl {
     pub names: OneOrMore<Identdef>,
-    pub form: TypeForm,
+    pub type_expr: TypeForm,
 }
 
-/// A procedure. Its name stands after PROCEDURE and after END.
+/// A procedure declaration. `end_name` is the token number of the name after END.
 #[derive(Drop)]
 #[cycle(declarations)]
 pub struct ProcDecl {
@@ -61,28 +62,28 @@ pub struct ProcDecl {
     pub parameters: Option<Parameters>,
     pub declarations: Declarations,
     pub body: Option<Box<StatementSequence>>,
-    /// What stands after RETURN.
+    /// The expression after RETURN.
     pub returned: Option<Box<Expr>>,
     pub end_name: u32,
 }
 
-/// A type.
+/// A type expression.
 #[derive(Drop)]
 #[cycle(types)]
 pub enum TypeForm {
-    /// A type by its name.
+    /// A type denoted by its name.
     Named(Qualident),
-    /// An array, with its lengths.
+    /// An array type: its lengths, one or more, and the type of its elements.
     ArrayOf(Box<ExprList>, Box<TypeForm>),
-    /// RECORD and its fields.
+    /// A record type.
     RecordOf(Record),
-    /// POINTER TO a type.
+    /// A pointer type, with the type of its target.
     PointerTo(Box<TypeForm>),
-    /// A procedure type, with its parameters if they stand there.
+    /// A procedure type, with its formal parameters if it has any list of them.
     ProcOf(Option<Parameters>),
 }
 
-/// A record, with its base in parentheses.
+/// A record type, with the name of its base in parentheses.
 #[derive(Drop)]
 #[cycle(types)]
 pub struct Record {
@@ -90,7 +91,7 @@ pub struct Record {
     pub fields: Option<Box<Fields>>,
 }
 
-/// The field lists of a record, and whether a semicolon stands before its END, which the report's grammar has not.
+/// The field lists of a record. `closing_semicolon`: whether a semicolon precedes END, an extension of the report's grammar.
 #[derive(Drop)]
 #[cycle(types)]
 pub struct Fields {
@@ -99,20 +100,20 @@ pub struct Fields {
     pub closing_semicolon: bool,
 }
 
-/// Formal parameters, and the type of the result.
+/// Formal parameters, and the name of the result type.
 #[derive(Drop)]
 pub struct Parameters {
     pub sections: Option<OneOrMore<ParameterSection>>,
     pub result: Option<Qualident>,
 }
 
-/// Parameters of one formal type (FPSection).
+/// Parameters that share one formal type (FPSection in the report).
 #[derive(Drop)]
 pub struct ParameterSection {
-    /// Whether VAR stands before the names.
+    /// Whether the parameters are variable parameters (VAR).
     pub variable: bool,
     pub names: OneOrMore<u32>,
-    /// How often ARRAY OF stands in front of the type's name.
+    /// How many times ARRAY OF precedes the type's name.
     pub open_arrays: u32,
     pub of: Qualident,
 }

@@ -1,6 +1,6 @@
-//! Expressions and designators (Oberon-07 report, section 8). Numbers are those of tokens, from 0.
+//! Expressions and designators (Oberon-07 report, section 8). An identifier or literal is represented by its token number, from 0.
 
-/// The relations.
+/// A relation between two simple expressions.
 #[derive(Clone, Copy)]
 pub enum Relation {
     Equal,
@@ -13,14 +13,14 @@ pub enum Relation {
     Is,
 }
 
-/// A sign in front of a sum.
+/// The sign before the first term of a simple expression.
 #[derive(Clone, Copy)]
 pub enum Sign {
     Plus,
     Minus,
 }
 
-/// The operators between terms.
+/// An operator between two terms.
 #[derive(Clone, Copy, Debug)]
 pub enum AddOperator {
     Plus,
@@ -28,7 +28,7 @@ pub enum AddOperator {
     Or,
 }
 
-/// The operators between factors.
+/// An operator between two factors.
 #[derive(Clone, Copy, Debug)]
 pub enum MulOperator {
     Times,
@@ -46,7 +46,7 @@ pub enum Literal {
     Text,
 }
 
-/// An expression: one sum, or two with a relation between them.
+/// An expression: a simple expression, or two with a relation between them.
 #[derive(Drop)]
 #[cycle(expressions)]
 pub struct Expr {
@@ -54,7 +54,7 @@ pub struct Expr {
     pub compared: Option<(Relation, Box<SimpleExpression>)>,
 }
 
-/// A simple expression: terms with operators between them.
+/// A simple expression: an optional sign, and terms with operators between them.
 #[derive(Drop)]
 #[cycle(expressions)]
 pub struct SimpleExpression {
@@ -63,7 +63,7 @@ pub struct SimpleExpression {
     pub rest: Vec<(AddOperator, Term)>,
 }
 
-/// Factors with operators between them.
+/// A term: factors with operators between them.
 #[derive(Drop)]
 #[cycle(expressions)]
 pub struct Term {
@@ -71,11 +71,11 @@ pub struct Term {
     pub rest: Vec<(MulOperator, Factor)>,
 }
 
-/// What stands between operators.
+/// A factor, the operand of an operator.
 #[derive(Drop)]
 #[cycle(expressions)]
 pub enum Factor {
-    /// A literal, by the number of its token.
+    /// A literal, by its token number.
     Value(Literal, u32),
     /// `NIL`
     Nil,
@@ -83,7 +83,7 @@ pub enum Factor {
     True,
     /// `FALSE`
     False,
-    /// A set; `None` is the empty one.
+    /// A set constructor; `None` denotes the empty set.
     Set(Option<Box<ElementList>>),
     /// A designator.
     Name(Designator),
@@ -93,7 +93,7 @@ pub enum Factor {
     Not(Box<Factor>),
 }
 
-/// The elements of a set that isn't empty.
+/// The elements of a set constructor that isn't empty.
 #[derive(Drop)]
 #[cycle(expressions)]
 pub struct ElementList {
@@ -101,7 +101,7 @@ pub struct ElementList {
     pub rest: Vec<Element>,
 }
 
-/// One element of a set, or a range of them.
+/// An element of a set constructor: one expression, or the two bounds of a range.
 #[derive(Drop)]
 #[cycle(expressions)]
 pub struct Element {
@@ -109,7 +109,7 @@ pub struct Element {
     pub high: Option<Expr>,
 }
 
-/// A name, by the number of its token, with what is selected from it.
+/// A designator: the token number of its first identifier, and its selectors.
 #[derive(Drop)]
 #[cycle(expressions)]
 pub struct Designator {
@@ -117,21 +117,21 @@ pub struct Designator {
     pub selectors: Vec<Selector>,
 }
 
-/// One step of a designator. A type guard and the parameters of a call are one form: names decide which is meant.
+/// A selector of a designator. A type guard and a call with one argument have the same syntax; name resolution tells them apart.
 #[derive(Drop)]
 #[cycle(expressions)]
 pub enum Selector {
-    /// `.` and a name.
+    /// `.` and a field's name.
     Field(u32),
-    /// `[` list `]`
+    /// `[` one or more expressions `]`
     Index(Box<ExprList>),
-    /// `^`
+    /// `^`, the target of a pointer.
     Target,
-    /// `(` `)`, or a list between the two.
+    /// `(` `)`, or one or more expressions in parentheses.
     Arguments(Option<Box<ExprList>>),
 }
 
-/// One or more expressions with commas between them.
+/// One or more expressions, separated by commas.
 #[derive(Drop)]
 #[cycle(expressions)]
 pub struct ExprList {

@@ -1,10 +1,11 @@
-//! The syntax tree of an Oberon-07 module, its names after END, and the grammar as definitions over it.
-//! Stands on `ob_scan`, for the kinds of tokens and their numbers, which are places in `Tokens` from 0.
-//! Its contract: a tree's names after END, in order, by its outline, and what a tree that derives tokens has of them.
+//! The syntax tree of an Oberon-07 module, and its grammar as definitions over event sequences of the tree.
+//! Depends on `ob_scan` for the kinds of tokens; token numbers are indexes in its `Tokens`, from 0.
+//! Main call: `walkers::endings` returns the names after END in order. `laws::all_numbers` promises that a tree that derives tokens
+//! contains each of them exactly once.
 #![tactic(auto)]
 
 pub mod declaration;
-mod ends;
+mod end_names;
 pub mod expression;
 pub mod laws;
 pub mod name;

@@ -1,20 +1,20 @@
-//! Names, and what stands once or more often (Oberon-07 report, section 4). Numbers are those of tokens, from 0.
+//! Names, and lists of one or more elements (Oberon-07 report, section 4). An identifier is represented by its token number, from 0.
 
-/// One or more of a kind; what parts them in the text depends on where they stand.
+/// A list of one or more elements; the separator depends on the production that contains it.
 #[derive(Drop)]
 pub struct OneOrMore<T: Drop> {
     pub first: T,
     pub rest: Vec<T>,
 }
 
-/// A name, or a name in an imported module, by the numbers of their tokens.
+/// A qualified identifier: a name, or `head.member` with a name exported by the imported module `head`. Both are token numbers.
 #[derive(Clone, Copy)]
 pub struct Qualident {
     pub head: u32,
     pub member: Option<u32>,
 }
 
-/// A declaring identifier, with a star where it is exported.
+/// A declaring identifier, with whether an export mark follows.
 #[derive(Clone, Copy)]
 pub struct Identdef {
     pub name: u32,

@@ -1,22 +1,22 @@
-//! What an identifier of a tree does where it stands.
+//! The roles of identifiers in a tree.
 
-/// What an identifier does where it stands.
+/// The role of an identifier at its location in a tree.
 #[derive(Clone, Copy, Drop)]
 pub enum Role {
-    /// It is declared here, with a star behind it or without. A parameter's name has none.
+    /// It is declared here; `starred` tells whether it has the export mark. A parameter never has one.
     Declares { starred: bool },
-    /// It is declared here too: the first name of an import.
+    /// The first name of an import item, which declares the alias.
     Aliases,
-    /// The name of an imported module behind `:=`.
+    /// The name after `:=` in an import item: the imported module's own name.
     Imports,
-    /// It is looked up: the head of a designator or the first of a qualident, a label's name too, or the variable of a FOR.
+    /// It is looked up by the scope rule: the head of a designator, qualident or label, or the variable of a FOR.
     Uses,
-    /// The second of a qualident.
+    /// The second identifier of a qualident.
     Completes,
-    /// A name that is selected in a designator.
+    /// A field name in a selector.
     Selects,
     /// The module's own name.
     Names,
-    /// The name after END, which has to be that of the identifier of this number.
+    /// The name after END, which must equal the identifier with this token number.
     Repeats(u32),
 }

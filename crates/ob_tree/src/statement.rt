@@ -1,9 +1,9 @@
-//! Statements (Oberon-07 report, section 9). Numbers are those of tokens, from 0.
+//! Statements (Oberon-07 report, section 9). An identifier or literal is represented by its token number, from 0.
 
 use crate::expression::{Designator, Expr};
 use crate::name::{OneOrMore, Qualident};
 
-/// A statement sequence: one statement or more, with semicolons between them.
+/// A statement sequence: one or more statements, separated by semicolons.
 #[derive(Drop)]
 #[cycle(statements)]
 pub struct StatementSequence {
@@ -15,25 +15,25 @@ pub struct StatementSequence {
 #[derive(Drop)]
 #[cycle(statements)]
 pub enum Stmt {
-    /// No token at all.
+    /// The empty statement, which has no token.
     Empty,
-    /// An assignment, with what stands on both sides of `:=`.
+    /// An assignment: its left side and its right side.
     Assign(Designator, Expr),
-    /// A designator alone: a call of a procedure.
+    /// A procedure call, which is a designator without `:=`.
     Call(Designator),
-    /// IF, with the branches after ELSIF and what stands after ELSE.
+    /// IF: its first branch, the branches after ELSIF, and the statements after ELSE.
     If(Box<Branch>, Vec<Branch>, Option<Box<StatementSequence>>),
-    /// CASE, with what it looks at, and one case or more.
+    /// CASE: the selecting expression, and one or more cases.
     Case(Expr, Box<Case>, Vec<Case>),
-    /// WHILE, with the branches after ELSIF.
+    /// WHILE: its first branch, and the branches after ELSIF.
     While(Box<Branch>, Vec<Branch>),
-    /// REPEAT, with the condition after UNTIL.
+    /// REPEAT: its statements, and the condition after UNTIL.
     Repeat(Box<StatementSequence>, Expr),
     /// FOR.
     For(Box<For>),
 }
 
-/// A condition, and the statements where it holds.
+/// A condition, and the statements that it guards.
 #[derive(Drop)]
 #[cycle(statements)]
 pub struct Branch {
@@ -45,9 +45,9 @@ pub struct Branch {
 #[derive(Drop)]
 #[cycle(statements)]
 pub enum Case {
-    /// No token at all.
+    /// The empty case, which has no token.
     Nothing,
-    /// Labels, and the statements after their colon.
+    /// Labels, and the statements after the colon.
     Labelled(OneOrMore<LabelRange>, Box<StatementSequence>),
 }
 
@@ -55,7 +55,7 @@ pub enum Case {
 #[derive(Drop)]
 #[cycle(statements)]
 pub struct For {
-    /// The variable, by the number of its token.
+    /// The control variable, by its token number.
     pub variable: u32,
     pub from: Expr,
     pub to: Expr,
@@ -63,14 +63,14 @@ pub struct For {
     pub body: StatementSequence,
 }
 
-/// One label, or a range of them.
+/// One label, or the two bounds of a range.
 #[derive(Clone, Copy, Drop)]
 pub struct LabelRange {
     pub low: Label,
     pub high: Option<Label>,
 }
 
-/// A label; an integer and a string by the numbers of their tokens.
+/// A label. Integers and strings are represented by their token numbers.
 #[derive(Clone, Copy, Drop)]
 pub enum Label {
     Integer(u32),

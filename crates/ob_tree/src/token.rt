@@ -1,4 +1,4 @@
-//! A token as a tree keeps it.
+//! The leaves of a tree.
 
 ghost use Rattle.std.specs.Prelude.{◌≡◌};
 ghost use Rattle.ob_tree.specs.Leaves.{leaf_of};
@@ -6,7 +6,7 @@ ghost use Rattle.ob_tree.specs.Leaves.{leaf_of};
 use crate::expression::Literal;
 use ob_scan::Kind;
 
-/// A token as a tree keeps it: an identifier or a literal by its number, any other by its kind.
+/// A token as a leaf: an identifier or a literal by its token number, any other token by its kind.
 #[derive(Clone, Copy)]
 pub enum Leaf {
     /// An identifier.
@@ -17,7 +17,7 @@ pub enum Leaf {
     Word(Kind),
 }
 
-/// The token of this number and kind.
+/// The leaf of the token with this number and kind.
 #[inline(always)]
 pub fn leaf_at(number: u32, kind: Kind) -> Leaf
     ensures { result ≡ leaf_of number kind }

@@ -1,4 +1,4 @@
--- The place of a name among names that ascend.
+-- The index of a name in a strictly increasing list of names.
 use Rattle.std.proofs.Common.{◌≡◌, ℕ, zero, suc, ◌+◌, ◌<◌, inl, inr, List, [], ◌∷◌, length, map, get_or, Bool, cond, not, Option, Some, None, Result, Ok, Err, refl, sym, ap, ◌∙◌, subst, arith, nat_lt}
 use Rattle.std.specs.Prelude.{position, slice_get}
 use Rattle.std.specs.Option.{option_and_then, option_map}
@@ -21,10 +21,10 @@ use Rattle.std.specs.Arc.{arc_value}
 use Rattle.std.specs.declared.sync.Arc.{Arc}
 use Rattle.std.proofs.lemmas.List.{get_or-map}
 use Rattle.ob_interface.specs.Interfaces.{ModuleInterface}
-use Rattle.ob_types.specs.Homes.{home_in, AreByName}
+use Rattle.ob_types.specs.ModuleNumbers.{module_number_in, AreByName}
 use Rattle.ob_types.proofs.Firsts.{position_is, position_not}
 
--- ---- places in a list of images
+-- ---- indexes in a mapped list
 
 first_of_images : {X Y : Type 0} (p : Y → Bool) (f : X → Y) (xs : List X) → position_or_len p (map f xs) ≡ position_or_len (λ (x : X). p (f x)) xs
 first_of_images p f [] = refl
@@ -95,12 +95,12 @@ ascends reached s k d h =
 
 -- what a binary search by name answers
 pub among_modules : (reached : List Shared) (key : List ℕ) (r : Result ℕ ℕ) → AreByName (map arc_value reached) → IsSearchInRange r (length reached)
-    → IsBinarySearchResult (λ (a : Shared). slice_cmp nat_cmp (name_of a) key) reached r → result_ok r ≡ home_in (map arc_value reached) key
+    → IsBinarySearchResult (λ (a : Shared). slice_cmp nat_cmp (name_of a) key) reached r → result_ok r ≡ module_number_in (map arc_value reached) key
 among_modules reached key r s bound at = searched name_of reached key r (ascends reached s) bound at ∙ sym (place_of_images (λ (m : ModuleInterface). bytes_eq m.name key) arc_value reached)
 
 -- ---- import items
 
--- the place of the module of an item, where there is such an item, and where there is none
+-- the index of the module of an item, if there is an item with this index or not
 pub item_home : {X : Type 0} (f : X → Option ℕ) (xs : List X) (i : ℕ) (o : Option (Option ℕ)) (p : Option ℕ) → o ≡ slice_get (map f xs) i → o ≡ Some p → p ≡ option_and_then f (slice_get xs i)
 item_home {X} f xs i o p e is = at (slice_get xs i) (sym is ∙ e ∙ slice_get-map f xs i)
   where

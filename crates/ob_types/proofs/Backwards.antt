@@ -1,4 +1,4 @@
--- Rows from the last to the first.
+-- A pass over entries from the last to the first.
 use Rattle.std.proofs.Common.{◌≡◌, ℕ, ◌+◌, ◌<◌, List, ◌∷◌, length, drop, get_or, Bool, true, false, cond, Option, Some, refl, sym, ap, ◌∙◌, add-one, drop-cons}
 use Rattle.std.specs.Prelude.{find}
 use Rattle.std.specs.Option.{option_map}
@@ -14,7 +14,7 @@ map_cond : {X Y : Type 0} (f : X → Y) (b : Bool) (x : X) (o : Option X) → op
 map_cond f true x o = refl
 map_cond f false x o = refl
 
--- one more row
+-- one more entry
 pub row_before : {X : Type 0} (p : X → Bool) (f : X → ℕ) (xs : List X) (m n : ℕ) (d : X) (old new : Option ℕ) → n ≡ m + 1 → m < length xs → new ≡ cond (p (get_or xs m d)) (Some (f (get_or xs m d))) old
     → old ≡ option_map f (find p (drop n xs)) → new ≡ option_map f (find p (drop m xs))
 row_before p f xs m n d old new next within more before =

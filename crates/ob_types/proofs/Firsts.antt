@@ -1,4 +1,4 @@
--- The first row of a number.
+-- The first entry with a key.
 use Rattle.std.proofs.Common.{◌≡◌, ℕ, ◌-◌, ◌<◌, ◌≤◌, List, [], ◌∷◌, length, get_or, Bool, true, false, Option, Some, None, Bor, refl, sym, ap, ◌∙◌, subst, arith, ◌⊎◌, inl, inr}
 use Rattle.std.specs.Prelude.{Contains, IfSome, IfNone, position, find, slice_get, nat_eq, nat_lt}
 use Rattle.std.specs.List.{position_or_len}
@@ -10,7 +10,7 @@ use Rattle.std.proofs.lemmas.List.Elements.{Contains-get_or}
 use Rattle.std.proofs.lemmas.List.Folds.{find_at}
 use Rattle.std.proofs.lemmas.List.Sums.{position_or_len_is}
 use Rattle.std.proofs.lemmas.Option.{slice_get-get_or, slice_get_past, slice_get_within, get_or_from_slice_get}
-use Rattle.ob_rows.specs.Order.{AscendBy, RiseBy}
+use Rattle.module_table.specs.Order.{IsIncreasingBy, IsMonotoneBy}
 use Rattle.ob_scope.specs.Scoped.{Meaning}
 
 not_true : (b : Bool) → (b ≡ true → ⊥) → b ≡ false
@@ -18,7 +18,7 @@ not_true true h = absurd (h refl)
 not_true false h = refl
 
 module _ {X : Type 0} (p : X → Bool) where
-  -- where the first passes, and where none does
+  -- the first element passes the test, and the case that none does
   first_at : (xs : List X) (i : ℕ) (d : X) → i < length xs → ((j : ℕ) → j < i → p (get_or xs j d) ≡ false) → p (get_or xs i d) ≡ true → position_or_len p xs ≡ i
   first_at xs i d l before here = position_or_len_is p xs i d (omega (arith, l)) before (λ _. here)
 
@@ -64,9 +64,9 @@ below : (a k : ℕ) → nat_lt a k ≡ true → nat_eq a k ≡ false
 below a k e = grind (arith, nat_tests)
 
 module _ {X : Type 0} (n : X → ℕ) (xs : List X) (k : ℕ) where
-  -- ---- rows of which each has a number of its own
+  -- ---- entries with distinct keys
 
-  found : AscendBy n xs → (x : X) → Contains xs x → n x ≡ k → find (λ y. nat_eq (n y) k) xs ≡ Some x
+  found : IsIncreasingBy n xs → (x : X) → Contains xs x → n x ≡ k → find (λ y. nat_eq (n y) k) xs ≡ Some x
   found a x (i, l, is) e =
       let here : n (get_or xs i x) ≡ k = ap n is ∙ e in
       find_is (λ y. nat_eq (n y) k) xs i x l (λ j h.
@@ -74,20 +74,20 @@ module _ {X : Type 0} (n : X → ℕ) (xs : List X) (k : ℕ) where
       differ (n (get_or xs j x)) k (omega (arith, less, here))) (equal (n (get_or xs i x)) k here)
       ∙ ap (λ (y : X). Some y) is
 
-  pub found_here : AscendBy n xs → (x : X) (i : ℕ) → slice_get xs i ≡ Some x → n x ≡ k → find (λ y. nat_eq (n y) k) xs ≡ Some x
-  found_here a x i there here = found a x (i, slice_get_within xs i x there, get_or_from_slice_get xs i x x there) here
+  pub found_here : IsIncreasingBy n xs → (x : X) (i : ℕ) → slice_get xs i ≡ Some x → n x ≡ k → find (λ y. nat_eq (n y) k) xs ≡ Some x
+  found_here a x i external here = found a x (i, slice_get_within xs i x external, get_or_from_slice_get xs i x x external) here
 
   none_found : ((y : X) → Contains xs y → n y ≡ k → ⊥) → find (λ y. nat_eq (n y) k) xs ≡ None
   none_found none = find_not (λ y. nat_eq (n y) k) xs (λ j d l. not_true _ (λ t. none (get_or xs j d) (Contains-get_or xs j d l) (eqb-true (n (get_or xs j d)) k t)))
 
-  -- what a look-up by the number tells
-  pub told : (o : Option (Bor X)) → AscendBy n xs → IfSome o (λ r. Contains xs r.now) → IfSome o (λ r. n r.now ≡ k) → IfNone o ((y : X) → Contains xs y → n y ≡ k → ⊥) → option_copied o ≡ find (λ y. nat_eq (n y) k) xs
-  told None a c e none = sym (none_found none)
-  told (Some r) a c e none = sym (found a r.now c e)
+  -- the result of a look-up by key
+  pub listed : (o : Option (Bor X)) → IsIncreasingBy n xs → IfSome o (λ r. Contains xs r.now) → IfSome o (λ r. n r.now ≡ k) → IfNone o ((y : X) → Contains xs y → n y ≡ k → ⊥) → option_copied o ≡ find (λ y. nat_eq (n y) k) xs
+  listed None a c e none = sym (none_found none)
+  listed (Some r) a c e none = sym (found a r.now c e)
 
-  -- ---- rows whose numbers don't fall
+  -- ---- entries with keys that never decrease
 
-  module _ (i : ℕ) (rise : RiseBy n xs) (point : IsPartitionPoint (λ y. nat_lt (n y) k ≡ true) (λ y. nat_lt (n y) k ≡ false) xs i) where
+  module _ (i : ℕ) (rise : IsMonotoneBy n xs) (point : IsPartitionPoint (λ y. nat_lt (n y) k ≡ true) (λ y. nat_lt (n y) k ≡ false) xs i) where
     pub placed : (d : X) → i < length xs → nat_eq (n (get_or xs i d)) k ≡ true → position (λ y. nat_eq (n y) k) xs ≡ Some i
     placed d l here = position_is (λ y. nat_eq (n y) k) xs i d l (λ j h. below (n (get_or xs j d)) k (point.0 j d (omega arith) h)) here
 
@@ -110,15 +110,15 @@ module _ {X : Type 0} (n : X → ℕ) (xs : List X) (k : ℕ) where
             let one : get_or xs j d ≡ get_or xs i e = ap (λ (m : ℕ). get_or xs m d) same ∙ get_or_same xs i d e l in
             ap (λ (y : X). nat_eq (n y) k) one ∙ other
 
-  -- the first of the rows of a number
+  -- the first of the entries with a key
   pub placed_first : (i : ℕ) (x : X) → slice_get xs i ≡ Some x → n x ≡ k → ((j : ℕ) (y : X) → j < i → slice_get xs j ≡ Some y → n y < k) → position (λ y. nat_eq (n y) k) xs ≡ Some i
-  placed_first i x there here before =
-      let l = slice_get_within xs i x there in
+  placed_first i x external here before =
+      let l = slice_get_within xs i x external in
       position_is (λ y. nat_eq (n y) k) xs i x l (λ j h. differ (n (get_or xs j x)) k (before j (get_or xs j x) h (slice_get-get_or xs j x (omega (arith, h, l)))))
-      (equal (n (get_or xs i x)) k (ap n (get_or_from_slice_get xs i x x there) ∙ here))
+      (equal (n (get_or xs i x)) k (ap n (get_or_from_slice_get xs i x x external) ∙ here))
 
-  -- where the last row's number is smaller, or there is no row, none has it
-  pub placed_before : RiseBy n xs → (x : X) → slice_get xs (length xs - 1) ≡ Some x → nat_lt (n x) k ≡ true → position (λ y. nat_eq (n y) k) xs ≡ None
+  -- if the last key is smaller, or the list is empty, no entry has the key
+  pub placed_before : IsMonotoneBy n xs → (x : X) → slice_get xs (length xs - 1) ≡ Some x → nat_lt (n x) k ≡ true → position (λ y. nat_eq (n y) k) xs ≡ None
   placed_before rise x last test = position_not (λ y. nat_eq (n y) k) xs (λ j d l. at j d l (cases_lt j (length xs - 1)))
     where
       less : n x < k
@@ -135,14 +135,14 @@ module _ {X : Type 0} (n : X → ℕ) (xs : List X) (k : ℕ) where
 
   pub placed_none : slice_get xs (length xs - 1) ≡ None → position (λ y. nat_eq (n y) k) xs ≡ None
   placed_none e = position_not (λ y. nat_eq (n y) k) xs (λ j d l. absurd (
-      let there : slice_get xs (length xs - 1) ≡ Some (get_or xs (length xs - 1) d) = slice_get-get_or xs (length xs - 1) d (omega (arith, l)) in
-      let f : None ≡ Some (get_or xs (length xs - 1) d) = sym e ∙ there in
+      let external : slice_get xs (length xs - 1) ≡ Some (get_or xs (length xs - 1) d) = slice_get-get_or xs (length xs - 1) d (omega (arith, l)) in
+      let f : None ≡ Some (get_or xs (length xs - 1) d) = sym e ∙ external in
       cc))
 
--- what a look-up of a use tells
-pub meant : (ms : List Meaning) (used : ℕ) (o : Option ℕ) → AscendBy (λ (m : Meaning). m.used) ms → IfSome o (λ d. Contains ms (record { used = used; declared = d })) → IfNone o ((d : ℕ) → Contains ms (record { used = used; declared = d }) → ⊥)
+-- the result of a look-up of a use
+pub meant : (ms : List Meaning) (used : ℕ) (o : Option ℕ) → IsIncreasingBy (λ (m : Meaning). m.used) ms → IfSome o (λ d. Contains ms (record { used = used; declared = d })) → IfNone o ((d : ℕ) → Contains ms (record { used = used; declared = d }) → ⊥)
     → o ≡ option_map (λ (m : Meaning). m.declared) (find (λ (m : Meaning). nat_eq m.used used) ms)
 meant ms used None a c none =
-    ap (option_map (λ (m : Meaning). m.declared)) (sym (none_found (λ (m : Meaning). m.used) ms used (λ y there e.
-    none y.declared (subst (λ (u : ℕ). Contains ms (record { used = u; declared = y.declared })) e there))))
+    ap (option_map (λ (m : Meaning). m.declared)) (sym (none_found (λ (m : Meaning). m.used) ms used (λ y external e.
+    none y.declared (subst (λ (u : ℕ). Contains ms (record { used = u; declared = y.declared })) e external))))
 meant ms used (Some d) a c none = ap (option_map (λ (m : Meaning). m.declared)) (sym (found (λ (m : Meaning). m.used) ms used a (record { used = used; declared = d }) c refl))

@@ -1,20 +1,20 @@
--- What is told of all modules of a tree, told of what one of them reaches.
+-- Results for all modules of a tree, translated to the modules that one of them reaches.
 use Rattle.std.proofs.Common.{◌≡◌, ℕ, List, Bool, Option, Some, None, sym, ap, ◌∙◌, subst}
 use Rattle.std.specs.Prelude.{slice_get, IfSome}
 use Rattle.ob_interface.specs.Interfaces.{ModuleInterface}
-use Rattle.type_search.specs.declared.hop.Hop.{Hop}
-use Rattle.type_search.specs.declared.hop.Hop.TheVariants as hops
-use Rattle.type_search.specs.Leading.{IsTypeEnd}
-use Rattle.type_search.specs.Lines.{IsHop}
-use Rattle.ob_types.specs.Alike.{part_alike, record_alike, AreNodesAlike, AreRecordsAlike, IsTwin}
+use Rattle.type_graph.specs.declared.jump.Jump.{Jump}
+use Rattle.type_graph.specs.declared.jump.Jump.TheVariants as jumps
+use Rattle.type_graph.specs.Link.{IsTypeEnd}
+use Rattle.type_graph.specs.PathOrder.{IsJump}
+use Rattle.ob_types.specs.Alike.{part_alike, record_alike, AreNodesCommon, AreRecordsCommon, IsCommonModule}
 use Rattle.ob_types.specs.declared.nodes.Node.{Node}
 use Rattle.ob_types.specs.declared.nodes.Node.TheVariants as nodes
 use Rattle.ob_types.specs.declared.nodes.Record.{Record}
 use Rattle.ob_types.specs.declared.nodes.Record.TheVariants as records
-use Rattle.ob_types.specs.Homes.{home_in}
+use Rattle.ob_types.specs.ModuleNumbers.{module_number_in}
 use Rattle.ob_types.specs.Shapes.{base_of, field_of, shape}
 use Rattle.ob_types.specs.Within.{AreWithin}
-use Rattle.ob_types.specs.World.{World, home}
+use Rattle.ob_types.specs.World.{World, module_number}
 use Rattle.ob_types.proofs.Alike.{end_known, hop_from, hop_onto, lacks_field, no_end_known}
 use Rattle.ob_types.proofs.Within.{imports_alike, number_is, place_is}
 
@@ -23,41 +23,41 @@ module _ (w v : World) (modules : List ModuleInterface) (same : v.reached ≡ mo
   within : AreWithin v.reached w.reached
   within = subst (λ (ms : List ModuleInterface). AreWithin ms w.reached) (sym same) among
 
-  home_there : (name : List ℕ) (o : Option ℕ) → o ≡ home_in modules name → home v name ≡ o
-  unfolding home
-  home_there name o e = ap (λ (ms : List ModuleInterface). home_in ms name) same ∙ sym e
+  home_there : (name : List ℕ) (o : Option ℕ) → o ≡ module_number_in modules name → module_number v name ≡ o
+  unfolding module_number
+  home_there name o e = ap (λ (ms : List ModuleInterface). module_number_in ms name) same ∙ sym e
 
-  pub number_told : (i k : ℕ) (m : ModuleInterface) (name : List ℕ) (o : Option ℕ) → slice_get w.reached i ≡ Some m → name ≡ m.name → home w name ≡ Some k → k ≡ i → o ≡ home_in modules name → IfSome o (IsTwin w v i)
-  number_told i k m name None at named here is there = tt
-  number_told i k m name (Some j) at named here is there =
-      number_is w v within i j m at (ap (home w) (sym named) ∙ here ∙ ap (λ (n : ℕ). Some n) is) (ap (home v) (sym named) ∙ home_there name (Some j) there)
+  pub number_told : (i k : ℕ) (m : ModuleInterface) (name : List ℕ) (o : Option ℕ) → slice_get w.reached i ≡ Some m → name ≡ m.name → module_number w name ≡ Some k → k ≡ i → o ≡ module_number_in modules name → IfSome o (IsCommonModule w v i)
+  number_told i k m name None at named here is external = tt
+  number_told i k m name (Some j) at named here is external =
+      number_is w v within i j m at (ap (module_number w) (sym named) ∙ here ∙ ap (λ (n : ℕ). Some n) is) (ap (module_number v) (sym named) ∙ home_there name (Some j) external)
 
-  pub place_told : (j : ℕ) (m : ModuleInterface) (name : List ℕ) (o : Option ℕ) → slice_get modules j ≡ Some m → name ≡ m.name → o ≡ home w name → IfSome o (λ i. IsTwin w v i j)
+  pub place_told : (j : ℕ) (m : ModuleInterface) (name : List ℕ) (o : Option ℕ) → slice_get modules j ≡ Some m → name ≡ m.name → o ≡ module_number w name → IfSome o (λ i. IsCommonModule w v i j)
   place_told j m name None at named here = tt
-  place_told j m name (Some i) at named here = place_is w v within i j m (ap (λ (ms : List ModuleInterface). slice_get ms j) same ∙ at) (ap (home w) (sym named) ∙ sym here)
+  place_told j m name (Some i) at named here = place_is w v within i j m (ap (λ (ms : List ModuleInterface). slice_get ms j) same ∙ at) (ap (module_number w) (sym named) ∙ sym here)
 
-  module _ (name : List ℕ) (r : Record) (i j k : ℕ) (is : r ≡ records.Other i k) (twin : IsTwin w v i j) where
-    alike : AreRecordsAlike w v r (records.Other j k)
-    alike = subst (λ (x : Record). AreRecordsAlike w v x (records.Other j k)) (sym is) (record_alike twin)
+  module _ (name : List ℕ) (r : Record) (i j k : ℕ) (is : r ≡ records.Other i k) (common : IsCommonModule w v i j) where
+    alike : AreRecordsCommon w v r (records.Other j k)
+    alike = subst (λ (x : Record). AreRecordsCommon w v x (records.Other j k)) (sym is) (record_alike common)
 
     pub lacks_told : field_of w r name ≡ None → field_of v (records.Other j k) name ≡ None
     lacks_told lacks = lacks_field w v (imports_alike w v within) name r (records.Other j k) alike lacks
 
-    abbrev IsHopIn : World → Record → Hop Record → Type 0
-    IsHopIn t s h = IsHop (shape t) (base_of t) (λ (q : Record). field_of t q name) s h
+    abbrev IsHopIn : World → Record → Jump Record → Type 0
+    IsHopIn t s h = IsJump (shape t) (base_of t) (λ (q : Record). field_of t q name) s h
 
-    pub onto_told : (here above : Record) → IsHopIn v (records.Other j k) (hops.Onto above) → AreRecordsAlike w v here above → IsHopIn w r (hops.Onto here)
+    pub onto_told : (here above : Record) → IsHopIn v (records.Other j k) (jumps.Onto above) → AreRecordsCommon w v here above → IsHopIn w r (jumps.Onto here)
     onto_told here above h a = hop_onto w v (imports_alike w v within) name r (records.Other j k) alike here above h a
 
-    pub from_told : (here last : Record) → IsHopIn v (records.Other j k) (hops.From last) → AreRecordsAlike w v here last → IsHopIn w r (hops.From here)
+    pub from_told : (here last : Record) → IsHopIn v (records.Other j k) (jumps.From last) → AreRecordsCommon w v here last → IsHopIn w r (jumps.From here)
     from_told here last h a = hop_from w v (imports_alike w v within) name r (records.Other j k) alike here last h a
 
-  module _ (pointers : Bool) (node : Node) (i j d : ℕ) (is : node ≡ nodes.Other i d 0) (twin : IsTwin w v i j) where
-    part : AreNodesAlike w v node (nodes.Other j d 0)
-    part = subst (λ (n : Node). AreNodesAlike w v n (nodes.Other j d 0)) (sym is) (part_alike twin)
+  module _ (pointers : Bool) (node : Node) (i j d : ℕ) (is : node ≡ nodes.Other i d 0) (common : IsCommonModule w v i j) where
+    part : AreNodesCommon w v node (nodes.Other j d 0)
+    part = subst (λ (n : Node). AreNodesCommon w v n (nodes.Other j d 0)) (sym is) (part_alike common)
 
     pub no_end_told : IsTypeEnd (shape v) pointers (nodes.Other j d 0) None → IsTypeEnd (shape w) pointers node None
     no_end_told is_end = no_end_known w v (imports_alike w v within) pointers node (nodes.Other j d 0) part is_end
 
-    pub end_told : (here last : Node) → IsTypeEnd (shape v) pointers (nodes.Other j d 0) (Some last) → AreNodesAlike w v here last → IsTypeEnd (shape w) pointers node (Some here)
+    pub end_told : (here last : Node) → IsTypeEnd (shape v) pointers (nodes.Other j d 0) (Some last) → AreNodesCommon w v here last → IsTypeEnd (shape w) pointers node (Some here)
     end_told here last is_end a = end_known w v (imports_alike w v within) pointers node (nodes.Other j d 0) here last part is_end a

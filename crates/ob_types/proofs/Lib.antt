@@ -5,5 +5,5 @@ pub mod Backwards
 pub mod Telling
 pub mod Alike
 pub mod Within
-pub mod Known
+pub mod PrecomputedEnds
 pub mod Lending

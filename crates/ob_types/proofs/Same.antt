@@ -1,4 +1,4 @@
--- The derived == of declarations of types is `same`.
+-- The derived `==` of type declarations is `same`.
 use Rattle.std.proofs.Common.{◌≡◌, refl}
 use Rattle.ob_types.specs.contracts.nodes.NamedPartialEq.TheImpl as derived
 use Rattle.ob_types.specs.declared.nodes.Named.{Named}

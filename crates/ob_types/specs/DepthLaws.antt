@@ -1,28 +1,28 @@
--- Types are less deep behind a pointer and at a base.
+-- The target of a pointer and the base of a record are less deep than the pointer and the record.
 use Rattle.std.proofs.Common.{◌≡◌, ℕ, suc, ◌<◌, ◌≤◌, List, length, get_or, Bool, true, false, Option, Some, None, refl, sym, ap, ◌∙◌, subst, arith}
 use Rattle.std.specs.Prelude.{slice_get, if◌then◌else◌}
 use Rattle.std.specs.List.{sum_by}
 use Rattle.std.specs.Option.{option_map, option_and_then, unwrap_or}
 use Rattle.std.proofs.lemmas.List.Sums.{get_or-le-sum_by}
 use Rattle.std.proofs.lemmas.Option.{slice_get_within, get_or_from_slice_get}
-use Rattle.ob_rows.specs.declared.rows.FormPart.{FormPart}
-use Rattle.ob_rows.specs.declared.rows.Part.{Part as PartRow}
-use Rattle.ob_rows.specs.declared.rows.Part.TheVariants as parts
-use Rattle.ob_rows.specs.declared.rows.Record.{Record as RecordRow}
-use Rattle.ob_rows.specs.declared.rows.Sort.{Sort}
-use Rattle.ob_rows.specs.declared.rows.TypeName.{TypeName as NameRow}
-use Rattle.ob_interface.specs.Interfaces.{Alone, Qualified, Array, Pointer, Record as RecordPart, Procedure, Named as NamedPart, Base, Declaration, ModuleInterface, Part, TypeName}
-use Rattle.ob_interface.specs.Placed.{declaration_at, form_part}
-use Rattle.type_search.specs.declared.shape.Shape.TheVariants as shapes
+use Rattle.module_table.specs.declared.rows.TypePart.{TypePart}
+use Rattle.module_table.specs.declared.rows.Part.{Part as PartRow}
+use Rattle.module_table.specs.declared.rows.Part.TheVariants as parts
+use Rattle.module_table.specs.declared.rows.Record.{Record as RecordRow}
+use Rattle.module_table.specs.declared.rows.DeclKind.{DeclKind}
+use Rattle.module_table.specs.declared.rows.TypeName.{TypeName as NameRow}
+use Rattle.ob_interface.specs.Interfaces.{Simple, Qualified, Array, Pointer, Record as RecordPart, Procedure, Named as NamedPart, Base, Declaration, ModuleInterface, Part, TypeName}
+use Rattle.ob_interface.specs.Placed.{declaration_at, type_part}
+use Rattle.type_graph.specs.declared.shape.Shape.TheVariants as shapes
 use Rattle.ob_types.specs.declared.nodes.Node.{Node}
 use Rattle.ob_types.specs.declared.nodes.Node.TheVariants as nodes
 use Rattle.ob_types.specs.declared.nodes.Record.{Record}
 use Rattle.ob_types.specs.declared.nodes.Record.TheVariants as records
-use Rattle.ob_types.specs.Depths.{parts_of, parts_there, depth, all_parts, height}
-use Rattle.ob_types.specs.Shapes.{TypeShape, known, is_type, type_by, type_there, exported_type, type_as, own_type, home_meant, named_here, seen_by, seen_type, may_mean, named_there, own_shape, part_there, based_there, shape, base_name, base_of}
-use Rattle.ob_types.specs.World.{World, text, meaning, sort_of, form_at, record_at, home, exported, declaration_there, declared_there, named_by_alias, base_there, part_there as part_row_there}
+use Rattle.ob_types.specs.Depths.{part_count, imported_part_count, depth, all_parts, height}
+use Rattle.ob_types.specs.Shapes.{TypeShape, known, is_type, type_by, imported_type, exported_type, type_as, local_type, module_of_alias, resolve_type_name, type_if_visible, visible_type, may_mean, resolve_imported_name, local_shape, imported_part, imported_base_shape, shape, base_name, base_of}
+use Rattle.ob_types.specs.World.{World, text, meaning, decl_kind_of, type_index_of, record_at, module_number, exported, imported_declaration, named_declaration, named_by_alias, imported_base, imported_part as part_row_there}
 
--- ---- names stand for names
+-- ---- a type's name denotes a name or nothing known
 
 abbrev IsNameShape : TypeShape → Type 0
 IsNameShape (shapes.Array n) = ⊥
@@ -53,100 +53,100 @@ map_name f None h = tt
 map_name f (Some p) h = h p
 
 by_name : (i d : ℕ) (it : Declaration) → IsNameIf (type_by i d it)
-by_name i d it = if_name (is_type it.sort) _ tt
+by_name i d it = if_name (is_type it.decl_kind) _ tt
 
-there_name : (w : World) (i d : ℕ) → IsNameIf (type_there w i d)
-unfolding type_there
-there_name w i d = then_name (type_by i d) (declaration_there w i d) (by_name i d)
+there_name : (w : World) (i d : ℕ) → IsNameIf (imported_type w i d)
+unfolding imported_type
+there_name w i d = then_name (type_by i d) (imported_declaration w i d) (by_name i d)
 
 exported_name : (w : World) (name : List ℕ) (i : ℕ) → IsNameIf (exported_type w name i)
 unfolding exported_type
-exported_name w name i = then_name (type_there w i) (exported w i name) (there_name w i)
+exported_name w name i = then_name (imported_type w i) (exported w i name) (there_name w i)
 
-as_name : (w : World) (k : ℕ) (s : Sort) → IsNameIf (type_as w k s)
-as_name w k s = if_name (is_type s) _ (map_name _ (form_at w k) (λ p. tt))
+as_name : (w : World) (k : ℕ) (s : DeclKind) → IsNameIf (type_as w k s)
+as_name w k s = if_name (is_type s) _ (map_name _ (type_index_of w k) (λ p. tt))
 
-own_name : (w : World) (k : ℕ) → IsNameIf (own_type w k)
-unfolding own_type
-own_name w k = then_name (type_as w k) (sort_of w k) (as_name w k)
+module_name_token : (w : World) (k : ℕ) → IsNameIf (local_type w k)
+unfolding local_type
+module_name_token w k = then_name (type_as w k) (decl_kind_of w k) (as_name w k)
 
-here_name : (w : World) (head : ℕ) (member : Option ℕ) → IsNameShape (named_here w head member)
-unfolding named_here
-here_name w head None = known_name _ (then_name (own_type w) (meaning w head) (own_name w))
-here_name w head (Some m) = known_name _ (then_name (exported_type w (text w m)) (home_meant w head) (exported_name w (text w m)))
+here_name : (w : World) (head : ℕ) (member : Option ℕ) → IsNameShape (resolve_type_name w head member)
+unfolding resolve_type_name
+here_name w head None = known_name _ (then_name (local_type w) (meaning w head) (module_name_token w))
+here_name w head (Some m) = known_name _ (then_name (exported_type w (text w m)) (module_of_alias w head) (exported_name w (text w m)))
 
-seen_by_name : (i d start : ℕ) (is_target : Bool) (it : Declaration) → IsNameIf (seen_by i d start is_target it)
+seen_by_name : (i d start : ℕ) (is_target : Bool) (it : Declaration) → IsNameIf (type_if_visible i d start is_target it)
 seen_by_name i d start is_target it = if_name (may_mean start is_target it) _ (by_name i d it)
 
-seen_name : (w : World) (i start : ℕ) (is_target : Bool) (d : ℕ) → IsNameIf (seen_type w i start is_target d)
-unfolding seen_type
-seen_name w i start is_target d = then_name (seen_by i d start is_target) (declaration_there w i d) (seen_by_name i d start is_target)
+seen_name : (w : World) (i start : ℕ) (is_target : Bool) (d : ℕ) → IsNameIf (visible_type w i start is_target d)
+unfolding visible_type
+seen_name w i start is_target d = then_name (type_if_visible i d start is_target) (imported_declaration w i d) (seen_by_name i d start is_target)
 
-that_name : (w : World) (i start : ℕ) (is_target : Bool) (n : TypeName) → IsNameShape (named_there w i start is_target n)
-unfolding named_there
-that_name w i start is_target (Alone name) = known_name _ (then_name (seen_type w i start is_target) (declared_there w i name) (seen_name w i start is_target))
-that_name w i start is_target (Qualified alias name) = known_name _ (then_name (exported_type w name) (option_and_then (home w) (named_by_alias w i alias)) (exported_name w name))
+that_name : (w : World) (i start : ℕ) (is_target : Bool) (n : TypeName) → IsNameShape (resolve_imported_name w i start is_target n)
+unfolding resolve_imported_name
+that_name w i start is_target (Simple name) = known_name _ (then_name (visible_type w i start is_target) (named_declaration w i name) (seen_name w i start is_target))
+that_name w i start is_target (Qualified alias name) = known_name _ (then_name (exported_type w name) (option_and_then (module_number w) (named_by_alias w i alias)) (exported_name w name))
 
--- a name is no other type
+-- a name is no other kind of type
 not_name : (s t : TypeShape) → IsNameShape s → s ≡ t → (IsNameShape t → ⊥) → ⊥
 not_name s t h e none = none (subst (λ (x : TypeShape). IsNameShape x) e h)
 
--- ---- what stands at a place
+-- ---- types at an index
 
--- what isn't a name stands at a place, with this type
-here_at : (w : World) (k : ℕ) (o : Option FormPart) (s : TypeShape) → slice_get w.rows.parts k ≡ o → known (option_map (own_shape w k) o) ≡ s → (IsNameShape s → ⊥) → k < length w.rows.parts
+-- a type that isn't a name is a component within the list
+here_at : (w : World) (k : ℕ) (o : Option TypePart) (s : TypeShape) → slice_get w.rows.parts k ≡ o → known (option_map (local_shape w k) o) ≡ s → (IsNameShape s → ⊥) → k < length w.rows.parts
 here_at w k None s e h none = absurd (none (subst (λ (x : TypeShape). IsNameShape x) h tt))
 here_at w k (Some p) s e h none = slice_get_within w.rows.parts k p e
 
-part_by : (d j : ℕ) (o : Option ModuleInterface) → option_and_then (λ (m : ModuleInterface). form_part m d j) o ≡ option_and_then (λ (it : Declaration). slice_get it.form j) (option_and_then (λ (m : ModuleInterface). declaration_at m d) o)
+part_by : (d j : ℕ) (o : Option ModuleInterface) → option_and_then (λ (m : ModuleInterface). type_part m d j) o ≡ option_and_then (λ (it : Declaration). slice_get it.type_expr j) (option_and_then (λ (m : ModuleInterface). declaration_at m d) o)
 part_by d j None = refl
 part_by d j (Some m) = refl
 
-within_form : (j : ℕ) (p : Part) (o : Option Declaration) → option_and_then (λ (it : Declaration). slice_get it.form j) o ≡ Some p → j < unwrap_or (option_map parts_of o) 0
+within_form : (j : ℕ) (p : Part) (o : Option Declaration) → option_and_then (λ (it : Declaration). slice_get it.type_expr j) o ≡ Some p → j < unwrap_or (option_map part_count o) 0
 within_form j p None e = cc
-within_form j p (Some it) e = slice_get_within it.form j p e
+within_form j p (Some it) e = slice_get_within it.type_expr j p e
 
-row_at : (w : World) (i d j : ℕ) (p : Part) → part_row_there w i d j ≡ Some p → j < parts_there w i d
-unfolding part_row_there declaration_there parts_there
+row_at : (w : World) (i d j : ℕ) (p : Part) → part_row_there w i d j ≡ Some p → j < imported_part_count w i d
+unfolding part_row_there imported_declaration imported_part_count
 row_at w i d j p e = within_form j p (option_and_then (λ (m : ModuleInterface). declaration_at m d) (slice_get w.reached i)) (sym (part_by d j (slice_get w.reached i)) ∙ e)
 
-there_at : (w : World) (i d j : ℕ) (o : Option Part) (s : TypeShape) → part_row_there w i d j ≡ o → known (option_map (part_there w i d j) o) ≡ s → (IsNameShape s → ⊥) → j < parts_there w i d
+there_at : (w : World) (i d j : ℕ) (o : Option Part) (s : TypeShape) → part_row_there w i d j ≡ o → known (option_map (imported_part w i d j) o) ≡ s → (IsNameShape s → ⊥) → j < imported_part_count w i d
 there_at w i d j None s e h none = absurd (none (subst (λ (x : TypeShape). IsNameShape x) h tt))
 there_at w i d j (Some p) s e h none = row_at w i d j p e
 
-based_name : (w : World) (i : ℕ) (o : Option Base) → IsNameShape (known (option_map (based_there w i) o))
+based_name : (w : World) (i : ℕ) (o : Option Base) → IsNameShape (known (option_map (imported_base_shape w i) o))
 based_name w i None = tt
 based_name w i (Some b) = that_name w i b.start false b.name
 
--- what isn't a name is deep
+-- a type that isn't a name has a positive depth
 rooted : (w : World) (n : Node) (s : TypeShape) → shape w n ≡ s → (IsNameShape s → ⊥) → 0 < depth w n
 unfolding shape depth
 rooted w (nodes.Own k) s e none = let l : k < length w.rows.parts = here_at w k (slice_get w.rows.parts k) s refl e none in omega arith
 rooted w (nodes.Name head member) s e none = absurd (not_name _ s (here_name w head member) e none)
-rooted w (nodes.Other i d j) s e none = let l : j < parts_there w i d = there_at w i d j (part_row_there w i d j) s refl e none in omega arith
-rooted w (nodes.OtherBase i r) s e none = absurd (not_name _ s (based_name w i (base_there w i r)) e none)
+rooted w (nodes.Other i d j) s e none = let l : j < imported_part_count w i d = there_at w i d j (part_row_there w i d j) s refl e none in omega arith
+rooted w (nodes.OtherBase i r) s e none = absurd (not_name _ s (based_name w i (imported_base w i r)) e none)
 
 -- ---- pointers
 
-here_pointer : (w : World) (k b x : ℕ) (q : PartRow) (m : Node) → own_shape w k (record { declared_by = b; number = x; part = q }) ≡ shapes.Pointer m → m ≡ nodes.Own (suc k)
+here_pointer : (w : World) (k b x : ℕ) (q : PartRow) (m : Node) → local_shape w k (record { declared_by = b; number = x; part = q }) ≡ shapes.Pointer m → m ≡ nodes.Own (suc k)
 here_pointer w k b x parts.Array m e = cc
 here_pointer w k b x parts.Pointer m e = cc
 here_pointer w k b x parts.Record m e = cc
 here_pointer w k b x parts.Procedure m e = cc
 here_pointer w k b x (parts.Named member) m e = absurd (not_name _ (shapes.Pointer m) (here_name w x member) e (λ h. h))
 
-there_pointer : (w : World) (i d j : ℕ) (p : Part) (m : Node) → part_there w i d j p ≡ shapes.Pointer m → m ≡ nodes.Other i d (suc j)
+there_pointer : (w : World) (i d j : ℕ) (p : Part) (m : Node) → imported_part w i d j p ≡ shapes.Pointer m → m ≡ nodes.Other i d (suc j)
 there_pointer w i d j Array m e = cc
 there_pointer w i d j Pointer m e = cc
 there_pointer w i d j (RecordPart k) m e = cc
 there_pointer w i d j Procedure m e = cc
 there_pointer w i d j (NamedPart start name) m e = absurd (not_name _ (shapes.Pointer m) (that_name w i start _ name) e (λ h. h))
 
-behind_here : (w : World) (k : ℕ) (o : Option FormPart) (m : Node) → known (option_map (own_shape w k) o) ≡ shapes.Pointer m → m ≡ nodes.Own (suc k)
+behind_here : (w : World) (k : ℕ) (o : Option TypePart) (m : Node) → known (option_map (local_shape w k) o) ≡ shapes.Pointer m → m ≡ nodes.Own (suc k)
 behind_here w k None m e = cc
 behind_here w k (Some p) m e = here_pointer w k p.declared_by p.number p.part m e
 
-behind_there : (w : World) (i d j : ℕ) (o : Option Part) (m : Node) → known (option_map (part_there w i d j) o) ≡ shapes.Pointer m → m ≡ nodes.Other i d (suc j)
+behind_there : (w : World) (i d j : ℕ) (o : Option Part) (m : Node) → known (option_map (imported_part w i d j) o) ≡ shapes.Pointer m → m ≡ nodes.Other i d (suc j)
 behind_there w i d j None m e = cc
 behind_there w i d j (Some p) m e = there_pointer w i d j p m e
 
@@ -154,7 +154,7 @@ next_here : (w : World) (k : ℕ) → k < length w.rows.parts → depth w (nodes
 unfolding depth
 next_here w k l = omega arith
 
-next_there : (w : World) (i d j : ℕ) → j < parts_there w i d → depth w (nodes.Other i d (suc j)) < depth w (nodes.Other i d j)
+next_there : (w : World) (i d j : ℕ) → j < imported_part_count w i d → depth w (nodes.Other i d (suc j)) < depth w (nodes.Other i d j)
 unfolding depth
 next_there w i d j l = omega arith
 
@@ -165,9 +165,9 @@ pointed w (nodes.Own k) m e =
     subst (λ (x : Node). depth w x < depth w (nodes.Own k)) (sym (behind_here w k (slice_get w.rows.parts k) m e)) (next_here w k l)
 pointed w (nodes.Name head member) m e = absurd (not_name _ (shapes.Pointer m) (here_name w head member) e (λ h. h))
 pointed w (nodes.Other i d j) m e =
-    let l : j < parts_there w i d = there_at w i d j (part_row_there w i d j) (shapes.Pointer m) refl e (λ h. h) in
+    let l : j < imported_part_count w i d = there_at w i d j (part_row_there w i d j) (shapes.Pointer m) refl e (λ h. h) in
     subst (λ (x : Node). depth w x < depth w (nodes.Other i d j)) (sym (behind_there w i d j (part_row_there w i d j) m e)) (next_there w i d j l)
-pointed w (nodes.OtherBase i r) m e = absurd (not_name _ (shapes.Pointer m) (based_name w i (base_there w i r)) e (λ h. h))
+pointed w (nodes.OtherBase i r) m e = absurd (not_name _ (shapes.Pointer m) (based_name w i (imported_base w i r)) e (λ h. h))
 
 -- ---- bases
 
@@ -188,7 +188,7 @@ other_flat w i r (Some b) m e = let h : nodes.OtherBase i r ≡ m = cc in ap (de
 base_flat : (w : World) (r : Record) (m : Node) → base_of w r ≡ Some m → depth w m ≡ 0
 unfolding base_of
 base_flat w (records.Own r) m e = row_flat w (record_at w r) m e
-base_flat w (records.Other i r) m e = other_flat w i r (base_there w i r) m e
+base_flat w (records.Other i r) m e = other_flat w i r (imported_base w i r) m e
 
 pub based : (w : World) (n m : Node) (r : Record) → shape w n ≡ shapes.Record r → base_of w r ≡ Some m → depth w m < depth w n
 based w n m r e f =
@@ -205,24 +205,24 @@ member_le f xs i x e =
     let same : f (get_or xs i x) ≡ f x = ap f (get_or_from_slice_get xs i x x e) in
     omega (arith, s, same)
 
-some_le : (m : ModuleInterface) (d : ℕ) (o : Option Declaration) → slice_get m.declarations d ≡ o → unwrap_or (option_map parts_of o) 0 ≤ all_parts m
+some_le : (m : ModuleInterface) (d : ℕ) (o : Option Declaration) → slice_get m.declarations d ≡ o → unwrap_or (option_map part_count o) 0 ≤ all_parts m
 some_le m d None e = omega arith
-some_le m d (Some it) e = member_le parts_of m.declarations d it e
+some_le m d (Some it) e = member_le part_count m.declarations d it e
 
-all_le : (w : World) (i d : ℕ) (o : Option ModuleInterface) → slice_get w.reached i ≡ o → unwrap_or (option_map parts_of (option_and_then (λ (m : ModuleInterface). declaration_at m d) o)) 0 ≤ sum_by all_parts w.reached
+all_le : (w : World) (i d : ℕ) (o : Option ModuleInterface) → slice_get w.reached i ≡ o → unwrap_or (option_map part_count (option_and_then (λ (m : ModuleInterface). declaration_at m d) o)) 0 ≤ sum_by all_parts w.reached
 all_le w i d None e = omega arith
 all_le w i d (Some m) e =
-    let a : unwrap_or (option_map parts_of (slice_get m.declarations d)) 0 ≤ all_parts m = some_le m d (slice_get m.declarations d) refl in
+    let a : unwrap_or (option_map part_count (slice_get m.declarations d)) 0 ≤ all_parts m = some_le m d (slice_get m.declarations d) refl in
     let b : all_parts m ≤ sum_by all_parts w.reached = member_le all_parts w.reached i m e in
     omega (arith, a, b)
 
-there_le : (w : World) (i d : ℕ) → parts_there w i d ≤ sum_by all_parts w.reached
-unfolding parts_there declaration_there
+there_le : (w : World) (i d : ℕ) → imported_part_count w i d ≤ sum_by all_parts w.reached
+unfolding imported_part_count imported_declaration
 there_le w i d = all_le w i d (slice_get w.reached i) refl
 
 pub deep : (w : World) (n : Node) → depth w n < height w
 unfolding depth height
 deep w (nodes.Own k) = omega arith
 deep w (nodes.Name head member) = omega arith
-deep w (nodes.Other i d j) = let l : parts_there w i d ≤ sum_by all_parts w.reached = there_le w i d in omega (arith, l)
+deep w (nodes.Other i d j) = let l : imported_part_count w i d ≤ sum_by all_parts w.reached = there_le w i d in omega (arith, l)
 deep w (nodes.OtherBase i r) = omega arith

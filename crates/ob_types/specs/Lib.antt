@@ -1,12 +1,12 @@
 pub mod World
 pub mod Shapes
 pub mod Same
-pub mod Homes
+pub mod ModuleNumbers
 pub mod Parted
-pub mod Told
+pub mod Listed
 pub mod Depths
 pub mod DepthLaws
 pub mod NameLaws
 pub mod Alike
 pub mod Within
-pub mod Known
+pub mod PrecomputedEnds

@@ -1,47 +1,47 @@
-//! Where rows are likely to stand. No answer depends on these places: a row is taken there only if it is the one that is asked for.
+//! Hints for the indexes of entries. They serve speed alone: an entry is used only after a test that it is the right one.
 
-use ob_rows::{Declared, Declarer, FormPart, Table};
+use module_table::{DeclGroup, Declared, Table, TypePart};
 use std::alloc::{AllocError, Global};
 
-/// At most so many tokens, and parts of forms, stand for each declared identifier in a table whose places are kept. So what is made of a
-/// table takes time by its rows.
+/// Hints are stored only if a table has at most this many tokens, and components of type expressions, for each declared identifier. So
+/// building them takes time linear in the number of declared identifiers.
 const MOST_EACH: usize = 256;
 
-/// Of a declared identifier the places of its construct and of the first part of its form.
+/// The hints of a declared identifier: the indexes of its declaration group and of the outermost component of its type.
 #[derive(Clone, Copy, Drop)]
 pub(crate) struct Hint {
-    pub(crate) declarer: u32,
-    pub(crate) form: u32,
+    pub(crate) decl_group: u32,
+    pub(crate) type_expr: u32,
 }
 
-/// Places of rows, so that most are found without a search; or none.
+/// The hints of a table, which make most searches superfluous; empty if they aren't stored.
 #[derive(Drop)]
 pub(crate) struct Hints {
-    /// For each token the place of the identifier that it declares, if it declares one.
+    /// For each token the index of the identifier that it declares; 0 if it declares none.
     pub(crate) declared: Vec<u32>,
-    /// For each of these places those of the construct and the form.
+    /// For each declared identifier the hints of its group and its type.
     pub(crate) of_declared: Vec<Hint>,
 }
 
-/// A place as a number of 32 bits, or another place.
-fn small(place: usize) -> u32 {
-    match u32::try_from(place) {
-        Ok(place) => place,
+/// The index as a `u32`; 0 if it is too large, as a hint needn't be right.
+fn index_u32(index: usize) -> u32 {
+    match u32::try_from(index) {
+        Ok(index) => index,
         Err(_) => 0,
     }
 }
 
-/// The first place from this one on whose construct begins with this token or a later one.
-fn next_declarer(declarers: &[Declarer], from: usize, first: u32) -> usize {
+/// The first index, from `from` on, of a declaration group that begins with this token or a later one.
+fn decl_group_index(decl_groups: &[DeclGroup], from: usize, first: u32) -> usize {
     let mut at = from;
-    'declarers: while at < declarers.len() && declarers[at].first < first {
+    'decl_groups: while at < decl_groups.len() && decl_groups[at].first < first {
         at += 1;
     }
     at
 }
 
-/// The first place from this one on whose part is of a construct that begins with this token or a later one.
-fn next_form(parts: &[FormPart], from: usize, first: u32) -> usize {
+/// The first index, from `from` on, of a component whose declaration group begins with this token or a later one.
+fn type_index(parts: &[TypePart], from: usize, first: u32) -> usize {
     let mut at = from;
     'parts: while at < parts.len() && parts[at].declared_by < first {
         at += 1;
@@ -49,42 +49,41 @@ fn next_form(parts: &[FormPart], from: usize, first: u32) -> usize {
     at
 }
 
-/// The places of constructs and forms. Both stand in the order of the identifiers that they declare.
+/// The hints of all declared identifiers, in one pass: groups and components are in the order of the identifiers.
 fn hints_of_declared(alloc: Global, table: &Table) -> Result<Vec<Hint>, AllocError> {
     let rows = table.declared();
     let mut hints = Vec::with_capacity(alloc, rows.len())?;
-    let (mut declarer, mut form) = (0, 0);
+    let (mut decl_group, mut type_expr) = (0, 0);
     for row in rows {
-        declarer = next_declarer(table.declarers(), declarer, row.declared_by);
-        form = next_form(table.parts(), form, row.declared_by);
+        decl_group = decl_group_index(table.decl_groups(), decl_group, row.declared_by);
+        type_expr = type_index(table.parts(), type_expr, row.declared_by);
         hints.push(Hint {
-            declarer: small(declarer),
-            form: small(form),
+            decl_group: index_u32(decl_group),
+            type_expr: index_u32(type_expr),
         })?;
     }
     Ok(hints)
 }
 
-/// Notes the places of declared identifiers at their tokens.
-fn note_places(places: &mut [u32], rows: &[Declared]) {
+/// Stores the index of each declared identifier at its token.
+fn note_indexes(indexes: &mut [u32], rows: &[Declared]) {
     for at in 0..rows.len() {
         let token = rows[at].number as usize;
-        if token < places.len() {
-            places[token] = small(at);
+        if token < indexes.len() {
+            indexes[token] = index_u32(at);
         }
     }
 }
 
-/// Whether a table, which is of so many tokens, has enough declared identifiers that it is worth going over its tokens and parts of forms
-/// to keep their places.
-fn are_worth(table: &Table, tokens: usize) -> bool {
+/// Whether a table with this number of tokens has enough declared identifiers to store hints.
+fn is_worthwhile(table: &Table, tokens: usize) -> bool {
     let most = table.declared().len().saturating_mul(MOST_EACH);
     tokens <= most && table.parts().len() <= most
 }
 
-/// The places of the rows of a table, which is of so many tokens. None are kept where they aren't worth it; then rows are searched.
+/// The hints of a table with this number of tokens. If they aren't stored, entries are found by binary search.
 pub(crate) fn hints_of(alloc: Global, table: &Table, tokens: usize) -> Result<Hints, AllocError> {
-    if !are_worth(table, tokens) {
+    if !is_worthwhile(table, tokens) {
         return Ok(Hints {
             declared: Vec::new(alloc),
             of_declared: Vec::new(alloc),
@@ -92,7 +91,7 @@ pub(crate) fn hints_of(alloc: Global, table: &Table, tokens: usize) -> Result<Hi
     }
     let of_declared = hints_of_declared(alloc, table)?;
     let mut declared = vec![in alloc; 0u32; tokens]?;
-    note_places(declared.as_mut_slice(), table.declared());
+    note_indexes(declared.as_mut_slice(), table.declared());
     Ok(Hints {
         declared,
         of_declared,
@@ -100,21 +99,21 @@ pub(crate) fn hints_of(alloc: Global, table: &Table, tokens: usize) -> Result<Hi
 }
 
 impl Hints {
-    /// The likely place of the identifier that a token declares.
-    pub(crate) fn place(&self, token: u32) -> usize {
+    /// The hint for the index of the identifier that a token declares.
+    pub(crate) fn index(&self, token: u32) -> usize {
         match self.declared.as_slice().get(token as usize) {
-            Some(place) => *place as usize,
+            Some(index) => *index as usize,
             None => 0,
         }
     }
 
-    /// The likely places of the construct and the form of the identifier at a place.
-    pub(crate) fn at(&self, place: usize) -> Hint {
-        match self.of_declared.as_slice().get(place) {
+    /// The hints for the declaration group and the type of the identifier with this index.
+    pub(crate) fn at(&self, index: usize) -> Hint {
+        match self.of_declared.as_slice().get(index) {
             Some(hint) => *hint,
             None => Hint {
-                declarer: 0,
-                form: 0,
+                decl_group: 0,
+                type_expr: 0,
             },
         }
     }

@@ -1,25 +1,27 @@
-//! The types of a module and of those that it reaches, as one graph.
-//! Stands on `ob_scope` for what names mean, on `ob_rows` and `ob_interface` for what this module and others declare, on `type_search` and `text_hash`.
-//! Its contract: what a name, a place in a form, a record and a field stand for is exactly what the rows and the interfaces say. What is known
-//! ahead of all modules of a tree is where a search in one of them comes to.
+//! The types of a module and of the modules that it imports directly or indirectly, as one graph, with look-ups of names and
+//! declarations.
+//! Depends on `ob_scope` for the meanings of names, on `module_table` and `ob_interface` for the declarations of this module and of others, on
+//! `type_graph` for searches in the graph, and on `text_hash`.
+//! Main type: `Types`, a `TypeGraph`; each look-up returns exactly what the module's table and the interfaces contain. `precompute_types`
+//! precomputes long chains of types once for all modules of a tree; results are equal with and without it.
 #![tactic(auto)]
 
-mod ahead;
+mod chain_lengths;
+mod external;
 mod hints;
-mod homes;
 mod indexed;
+mod indexes;
+mod listed;
+mod module_numbers;
 mod names;
 mod nodes;
 mod parts;
-mod places;
+mod precompute;
+mod precomputed;
 mod shapes;
-mod shortcuts;
-mod there;
-mod told;
 mod types;
-mod ways;
 
-pub use ahead::shortcuts_of;
 pub use nodes::{Field, Named, Node, Record};
-pub use shortcuts::Shortcuts;
+pub use precompute::precompute_types;
+pub use precomputed::PrecomputedTypes;
 pub use types::Types;

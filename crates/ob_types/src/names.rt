@@ -1,53 +1,53 @@
-//! The modules of import items by their places, and fields by their records and names.
+//! Builds the indexes over a module: the modules of its import items, and its fields by record and name.
 ghost use Rattle.std.specs.Prelude.{◌≡◌, ◌&&◌, Some, IfOk, OnOk, if◌then◌else◌, map};
 ghost use Rattle.std.specs.Option.{option_and_then};
 ghost use Rattle.std.specs.Str.{bytes_eq};
 ghost use Rattle.indexmap.specs.IndexMap.{get};
-ghost use Rattle.ob_rows.specs.declared.rows.Declarer.{Declarer as Construct};
+ghost use Rattle.module_table.specs.declared.rows.DeclGroup.{DeclGroup as Construct};
 ghost use Rattle.ob_scan.specs.Spelling.{AreInText};
-ghost use Rattle.ob_types.specs.Homes.{AreHomes};
-ghost use Rattle.ob_types.specs.Parted.{home_by, same_field, world_of, AreFields, FieldKey};
-ghost use Rattle.ob_types.specs.World.{declarer_from, is_of_record, text};
+ghost use Rattle.ob_types.specs.ModuleNumbers.{AreNumberedModules};
+ghost use Rattle.ob_types.specs.Parted.{module_by_item, field_key_eq, world_of, AreFields, FieldKey};
+ghost use Rattle.ob_types.specs.World.{decl_group_from, is_of_record, text};
 
-use crate::homes::place_of;
+use crate::module_numbers::index_of;
 use crate::parts::Parts;
 use indexmap::IndexMap;
-use ob_rows::Declared;
+use module_table::Declared;
 use std::alloc::{AllocError, Global};
 use text_hash::{Name, Seed};
 
-/// The places of the modules that import items name, item by item.
-pub(crate) fn item_homes(alloc: Global, parts: &Parts<'_>) -> Result<Vec<Option<u32>>, AllocError>
+/// The indexes of the modules that the import items name, one for each item; `None` for a module that isn't reached.
+pub(crate) fn item_modules(alloc: Global, parts: &Parts<'_>) -> Result<Vec<Option<u32>>, AllocError>
     requires in_text { AreInText parts.now.bytes.now parts.now.tokens.now }
-    requires homes { AreHomes (world_of parts.now).reached }
-    ensures { IfOk result (λ places. places.items ≡ map (home_by (world_of parts.now)) (world_of parts.now).rows.imports) }
+    requires module_numbers { AreNumberedModules (world_of parts.now).reached }
+    ensures { IfOk result (λ indexes. indexes.items ≡ map (module_by_item (world_of parts.now)) (world_of parts.now).rows.imports) }
 {
-    let mut places = Vec::new(alloc);
+    let mut indexes = Vec::new(alloc);
     for item in parts.table.imports() {
-        places.push(place_of(parts.reached, parts.text(item.imported)))?;
+        indexes.push(index_of(parts.reached, parts.text(item.imported)))?;
     }
-    Ok(places)
+    Ok(indexes)
 }
 
-/// The record in which the identifiers of the construct are fields that begins with this token; it is likely to declare the identifier at
-/// this place.
-pub(crate) fn record_of(parts: &Parts<'_>, place: usize, first: u32) -> Option<u32>
-    ensures { result ≡ option_and_then (λ (c : Construct). c.of_record) (declarer_from (world_of parts.now) first) }
+/// The record of a declaration group of fields, by the group's first token; `None` for a group of any other kind. `index` is a hint, the
+/// index of an identifier of the group.
+pub(crate) fn record_of(parts: &Parts<'_>, index: usize, first: u32) -> Option<u32>
+    ensures { result ≡ option_and_then (λ (c : Construct). c.of_record) (decl_group_from (world_of parts.now) first) }
 {
-    parts.declarer(place, first)?.of_record
+    parts.decl_group(index, first)?.of_record
 }
 
-/// Puts a declared identifier before the others, if it is a field.
+/// Inserts an identifier if it is a field. A later insertion replaces an earlier one of equal key.
 fn add_field<'a>(
     parts: &Parts<'a>,
     fields: &mut IndexMap<(u32, Name<'a>), u32, Seed>,
-    place: usize,
+    index: usize,
     row: Declared,
 ) -> Result<(), AllocError>
     requires { AreInText parts.now.bytes.now parts.now.tokens.now }
-    ensures { OnOk result ((key : FieldKey) → get same_field fields.new key ≡ (if is_of_record (world_of parts.now) key.0 row && bytes_eq (text (world_of parts.now) row.number) key.1.bytes.now then Some row.number else get same_field fields.old key)) }
+    ensures { OnOk result ((key : FieldKey) → get field_key_eq fields.new key ≡ (if is_of_record (world_of parts.now) key.0 row && bytes_eq (text (world_of parts.now) row.number) key.1.bytes.now then Some row.number else get field_key_eq fields.old key)) }
 {
-    match record_of(parts, place, row.declared_by) {
+    match record_of(parts, index, row.declared_by) {
         None => Ok(()),
         Some(record) => {
             let bytes = parts.text(row.number);
@@ -57,8 +57,8 @@ fn add_field<'a>(
     }
 }
 
-/// The fields by their records and names; of several of one name in one record the first. They are boxed, so that they are handed on as one
-/// pointer.
+/// The fields by record and name. Inserting from the last to the first keeps the first of several with one name. The map is boxed, so
+/// that moving it copies one pointer.
 pub(crate) fn fields_of<'a>(
     alloc: Global,
     parts: &Parts<'a>,

@@ -1,43 +1,43 @@
-//! Types, by the places where they are written.
+//! The nodes of the graph of types.
 
-/// A type, by where it is written.
+/// A type, by its location in the source.
 #[derive(Clone, Copy, Drop)]
 pub enum Node {
-    /// The part of a form at this place of the module's own.
+    /// The component with this index, among those of the module itself.
     Own(usize),
-    /// A name of a type in the module, by its tokens: a record's base, or a guard.
+    /// A type's name in the module, by its tokens: the base of a record, or a type guard.
     Name {
         head: u32,
         member: Option<u32>,
     },
-    /// Of the module at this place of those that are reached the part at this place of the form of the declaration at this place.
+    /// A component of a declaration of a reached module, by the three indexes.
     Other {
         reached: u32,
         declaration: u32,
         part: usize,
     },
-    /// Of that module the base of the record of this RECORD.
+    /// The base of a record of a reached module, by the record's RECORD keyword.
     OtherBase {
         reached: u32,
         record: u32,
     },
 }
 
-/// A declaration of a type, by the token that it declares, or by its place in the interface of a module that is reached.
+/// A type declaration: the token that it declares, or the indexes of a reached module and a declaration in its interface.
 #[derive(Clone, Copy, PartialEq, Eq, Hash, Drop)]
 pub enum Named {
     Own(u32),
     Other { reached: u32, declaration: u32 },
 }
 
-/// A record type, by its RECORD.
+/// A record type, by its RECORD keyword, in the module itself or in a reached one.
 #[derive(Clone, Copy, PartialEq, Eq, Hash, Drop)]
 pub enum Record {
     Own(u32),
     Other { reached: u32, record: u32 },
 }
 
-/// A field, by the token that it declares, or by its place in the interface of a module that is reached.
+/// A field: the token that declares it, or the indexes of a reached module and of a declaration in that module's interface.
 #[derive(Clone, Copy, Drop)]
 pub enum Field {
     Own(u32),

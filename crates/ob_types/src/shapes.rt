@@ -1,23 +1,23 @@
-//! What types are, by the places where they are written.
-#![tactic(auto, unfolding(crate::specs::Shapes::seen_type, crate::specs::Shapes::named_there, crate::specs::Shapes::behind_pointer, crate::specs::Shapes::shape, crate::specs::Shapes::field_of, crate::specs::Shapes::base_of, crate::specs::Shapes::type_of_field))]
+//! The types at the nodes of the graph.
+#![tactic(auto, unfolding(crate::specs::Shapes::visible_type, crate::specs::Shapes::resolve_imported_name, crate::specs::Shapes::is_pointer_target, crate::specs::Shapes::shape, crate::specs::Shapes::field_of, crate::specs::Shapes::base_of, crate::specs::Shapes::type_of_field))]
 
 ghost use Rattle.std.specs.Prelude.{◌≡◌, ◌+◌, ◌<◌, ◌^◌};
 ghost use Rattle.std.specs.Option.{option_and_then, option_map};
-ghost use Rattle.ob_interface.specs.Answered.{name_told, part_told};
+ghost use Rattle.ob_interface.specs.Views.{name_value, part_value};
 ghost use Rattle.ob_types.specs.Parted.{world_of};
-ghost use Rattle.ob_types.specs.Shapes.{base_of, behind_pointer, exported_type, field_of, is_pointer, named_there, own_shape, part_there, seen_type, shape, type_of_field};
-ghost use Rattle.ob_types.specs.World.{declared_there, home, named_by_alias};
+ghost use Rattle.ob_types.specs.Shapes.{base_of, is_pointer_target, exported_type, field_of, is_pointer, resolve_imported_name, local_shape, imported_part, visible_type, shape, type_of_field};
+ghost use Rattle.ob_types.specs.World.{named_declaration, module_number, named_by_alias};
 ghost use Rattle.ob_types.specs.declared.nodes.Node.TheVariants as nodes;
 
 use crate::indexed::{Indexed, is_type, known, type_by};
 use crate::nodes::{Field, Named, Node, Record};
+use module_table::{Part as PartRow, TypePart};
 use ob_interface::{Part, TypeName};
-use ob_rows::{FormPart, Part as PartRow};
-use type_search::Shape;
+use type_graph::Shape;
 
-/// Whether a part is a pointer.
+/// Whether there is a component and it is a pointer.
 fn is_pointer(part: Option<Part<'_>>) -> bool
-    ensures { result ≡ is_pointer (option_map part_told part.entry) }
+    ensures { result ≡ is_pointer (option_map part_value part.entry) }
 {
     match part {
         Some(Part::Pointer) => true,
@@ -26,95 +26,97 @@ fn is_pointer(part: Option<Part<'_>>) -> bool
 }
 
 impl<'a> Indexed<'a> {
-    /// The type that a declaration of another module gives, where a name that begins at this offset may mean it.
-    fn seen_type(
+    /// The type that a declaration of a reached module gives, if a name at this offset may mean it.
+    fn visible_type(
         &self,
         reached: u32,
         start: u32,
         is_target: bool,
         declaration: u32,
     ) -> Option<Shape<Node, Named, Record>>
-        ensures { result ≡ seen_type (world_of self.now.parts) reached start is_target declaration }
+        ensures { result ≡ visible_type (world_of self.now.parts) reached start is_target declaration }
     {
-        let there = self.parts.declaration_there(reached, declaration)?;
-        if there.start < start || (is_target && is_type(there.sort)) {
-            type_by(reached, declaration, there.sort)
+        let external = self.parts.imported_declaration(reached, declaration)?;
+        if external.start < start || (is_target && is_type(external.decl_kind)) {
+            type_by(reached, declaration, external.decl_kind)
         } else {
             None
         }
     }
 
-    /// The type that one identifier means in the text of another module.
-    fn seen_alone(
+    /// The type that an unqualified name denotes in the source of a reached module.
+    fn imported_simple(
         &self,
         reached: u32,
         start: u32,
         is_target: bool,
         name: &[u8],
     ) -> Option<Shape<Node, Named, Record>>
-        ensures { result ≡ option_and_then (seen_type (world_of self.now.parts) reached start is_target) (declared_there (world_of self.now.parts) reached name.now) }
+        ensures { result ≡ option_and_then (visible_type (world_of self.now.parts) reached start is_target) (named_declaration (world_of self.now.parts) reached name.now) }
     {
-        let declaration = self.parts.declared_there(reached, name)?;
-        self.seen_type(reached, start, is_target, declaration)
+        let declaration = self.parts.named_declaration(reached, name)?;
+        self.visible_type(reached, start, is_target, declaration)
     }
 
-    /// The type that a name behind an alias means in the text of another module.
-    fn seen_behind(
+    /// The type that a qualified name denotes in the source of a reached module.
+    fn imported_qualified(
         &self,
         reached: u32,
         alias: &[u8],
         name: &[u8],
     ) -> Option<Shape<Node, Named, Record>>
-        ensures { result ≡ option_and_then (exported_type (world_of self.now.parts) name.now) (option_and_then (home (world_of self.now.parts)) (named_by_alias (world_of self.now.parts) reached alias.now)) }
+        ensures { result ≡ option_and_then (exported_type (world_of self.now.parts) name.now) (option_and_then (module_number (world_of self.now.parts)) (named_by_alias (world_of self.now.parts) reached alias.now)) }
     {
-        let own_name = self.parts.named_by_alias(reached, alias)?;
-        let home = self.home(own_name)?;
-        self.exported_type(name, home)
+        let module_name_token = self.parts.named_by_alias(reached, alias)?;
+        let module_number = self.module_number(module_name_token)?;
+        self.exported_type(name, module_number)
     }
 
-    /// What a name of a type that begins at this offset stands for in the text of another module.
-    fn named_there(
+    /// The type that a name at this offset denotes in the source of a reached module.
+    fn resolve_imported_name(
         &self,
         reached: u32,
         start: u32,
         is_target: bool,
         name: TypeName<'_>,
     ) -> Shape<Node, Named, Record>
-        ensures { result ≡ named_there (world_of self.now.parts) reached start is_target (name_told name.entry) }
+        ensures { result ≡ resolve_imported_name (world_of self.now.parts) reached start is_target (name_value name.entry) }
     {
         match name {
-            TypeName::Alone(name) => known(self.seen_alone(reached, start, is_target, name)),
-            TypeName::Qualified(alias, name) => known(self.seen_behind(reached, alias, name)),
+            TypeName::Simple(name) => known(self.imported_simple(reached, start, is_target, name)),
+            TypeName::Qualified(alias, name) => known(self.imported_qualified(
+                reached, alias, name,
+            )),
         }
     }
 
-    /// A part of the module's own, at its place.
-    fn own_shape(&self, place: usize, row: FormPart) -> Shape<Node, Named, Record>
-        requires { place + 1 < 2 ^ 64 }
-        ensures { result ≡ own_shape (world_of self.now.parts) place row }
+    /// A component of the module itself, with its index.
+    fn local_shape(&self, index: usize, row: TypePart) -> Shape<Node, Named, Record>
+        requires { index + 1 < 2 ^ 64 }
+        ensures { result ≡ local_shape (world_of self.now.parts) index row }
     {
         match row.part {
-            PartRow::Array => Shape::Array(Node::Own(place + 1)),
-            PartRow::Pointer => Shape::Pointer(Node::Own(place + 1)),
+            PartRow::Array => Shape::Array(Node::Own(index + 1)),
+            PartRow::Pointer => Shape::Pointer(Node::Own(index + 1)),
             PartRow::Record => Shape::Record(Record::Own(row.number)),
             PartRow::Procedure => Shape::Procedure,
-            PartRow::Named(member) => self.named_here(row.number, member),
+            PartRow::Named(member) => self.resolve_type_name(row.number, member),
         }
     }
 
-    /// Whether a part of a declaration of another module stands right behind POINTER.
-    fn behind_pointer(&self, reached: u32, declaration: u32, at: usize) -> bool
-        ensures { result ≡ behind_pointer (world_of self.now.parts) reached declaration at }
+    /// Whether the component before index `at` is a pointer, so that the component itself is a pointer's target.
+    fn is_pointer_target(&self, reached: u32, declaration: u32, at: usize) -> bool
+        ensures { result ≡ is_pointer_target (world_of self.now.parts) reached declaration at }
     {
         if at == 0 {
             false
         } else {
-            is_pointer(self.parts.part_there(reached, declaration, at - 1))
+            is_pointer(self.parts.imported_part(reached, declaration, at - 1))
         }
     }
 
-    /// A part of a declaration of another module, at its place.
-    fn part_there(
+    /// A component of a declaration of a reached module, with its index.
+    fn imported_part(
         &self,
         reached: u32,
         declaration: u32,
@@ -122,7 +124,7 @@ impl<'a> Indexed<'a> {
         part: Part<'_>,
     ) -> Shape<Node, Named, Record>
         requires { at + 1 < 2 ^ 64 }
-        ensures { result ≡ part_there (world_of self.now.parts) reached declaration at (part_told part.entry) }
+        ensures { result ≡ imported_part (world_of self.now.parts) reached declaration at (part_value part.entry) }
     {
         let next = Node::Other {
             reached,
@@ -135,59 +137,64 @@ impl<'a> Indexed<'a> {
             Part::Record(record) => Shape::Record(Record::Other { reached, record }),
             Part::Procedure => Shape::Procedure,
             Part::Named { start, name } => {
-                let is_target = self.behind_pointer(reached, declaration, at);
-                self.named_there(reached, start, is_target, name)
+                let is_target = self.is_pointer_target(reached, declaration, at);
+                self.resolve_imported_name(reached, start, is_target, name)
             }
         }
     }
 
-    /// What stands at a place of the module's own forms.
-    fn shape_here(&self, place: usize) -> Shape<Node, Named, Record>
-        ensures { result ≡ shape (world_of self.now.parts) (nodes.Own place) }
+    /// The type at an index of the module's own components.
+    fn shape_at(&self, index: usize) -> Shape<Node, Named, Record>
+        ensures { result ≡ shape (world_of self.now.parts) (nodes.Own index) }
     {
-        match self.parts.part(place) {
+        match self.parts.part(index) {
             None => Shape::Unknown,
-            Some(row) => self.own_shape(place, row),
+            Some(row) => self.local_shape(index, row),
         }
     }
 
-    /// What stands at a place of a form of another module.
-    fn shape_there(&self, reached: u32, declaration: u32, at: usize) -> Shape<Node, Named, Record>
+    /// The type at an index of a type expression of a reached module.
+    fn imported_shape(
+        &self,
+        reached: u32,
+        declaration: u32,
+        at: usize,
+    ) -> Shape<Node, Named, Record>
         ensures { result ≡ shape (world_of self.now.parts) (nodes.Other reached declaration at) }
     {
-        match self.parts.part_there(reached, declaration, at) {
+        match self.parts.imported_part(reached, declaration, at) {
             None => Shape::Unknown,
-            Some(part) => self.part_there(reached, declaration, at, part),
+            Some(part) => self.imported_part(reached, declaration, at, part),
         }
     }
 
-    /// What the base of a record of another module is.
+    /// The base of a record of a reached module.
     fn shape_of_base(&self, reached: u32, record: u32) -> Shape<Node, Named, Record>
         ensures { result ≡ shape (world_of self.now.parts) (nodes.OtherBase reached «record») }
     {
-        match self.parts.base_there(reached, record) {
+        match self.parts.imported_base(reached, record) {
             None => Shape::Unknown,
-            Some(base) => self.named_there(reached, base.start, false, base.name),
+            Some(base) => self.resolve_imported_name(reached, base.start, false, base.name),
         }
     }
 
-    /// What a type is.
+    /// The type at a node.
     pub(crate) fn shape(&self, node: Node) -> Shape<Node, Named, Record>
         ensures { result ≡ shape (world_of self.now.parts) node }
     {
         match node {
-            Node::Own(place) => self.shape_here(place),
-            Node::Name { head, member } => self.named_here(head, member),
+            Node::Own(index) => self.shape_at(index),
+            Node::Name { head, member } => self.resolve_type_name(head, member),
             Node::Other {
                 reached,
                 declaration,
                 part,
-            } => self.shape_there(reached, declaration, part),
+            } => self.imported_shape(reached, declaration, part),
             Node::OtherBase { reached, record } => self.shape_of_base(reached, record),
         }
     }
 
-    /// The field of a name in a record itself.
+    /// The field of a name that a record declares itself; of a reached module only exported fields count.
     pub(crate) fn field(&self, record: Record, name: &[u8]) -> Option<Field>
         ensures { result ≡ field_of (world_of self.now.parts) «record» name.now }
     {
@@ -203,7 +210,7 @@ impl<'a> Indexed<'a> {
         }
     }
 
-    /// A record's base, by the name that it gives it.
+    /// The base of a record, by its name.
     pub(crate) fn base(&self, record: Record) -> Option<Node>
         ensures { result ≡ base_of (world_of self.now.parts) «record» }
     {
@@ -216,18 +223,18 @@ impl<'a> Indexed<'a> {
                 })
             }
             Record::Other { reached, record } => {
-                self.parts.base_there(reached, record)?;
+                self.parts.imported_base(reached, record)?;
                 Some(Node::OtherBase { reached, record })
             }
         }
     }
 
-    /// The type of a field, as it is declared.
+    /// The type of a field, as declared.
     pub(crate) fn type_of_field(&self, field: Field) -> Option<Node>
         ensures { result ≡ type_of_field (world_of self.now.parts) field }
     {
         match field {
-            Field::Own(declared) => self.form(declared),
+            Field::Own(declared) => self.type_expr(declared),
             Field::Other {
                 reached,
                 declaration,

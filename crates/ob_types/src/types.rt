@@ -1,42 +1,42 @@
-//! The types of a module and of those that it reaches.
+//! The types of a module and of the modules that it reaches, as a `TypeGraph`.
 #![tactic(auto)]
 
 ghost use Rattle.std.specs.Prelude.{◌≡◌, ◌≤◌, ◌^◌, IfOk, IfSome, length, map, slice_get};
 ghost use Rattle.std.specs.Option.{option_map};
 ghost use Rattle.std.specs.Arc.{arc_value};
-ghost use Rattle.ob_rows.specs.Tables.{rows_in};
+ghost use Rattle.module_table.specs.Tables.{rows_in};
 ghost use Rattle.ob_scan.specs.Spelling.{AreInText};
-ghost use Rattle.ob_types.specs.Homes.{AreByName};
-ghost use Rattle.ob_types.specs.World.{exported, form_of, home_of, item_of, meaning, owner_at, owner_there, sort_of, sort_there, text, world};
-ghost use Rattle.ob_types.specs.Shapes.{named_here, type_of_field};
+ghost use Rattle.ob_types.specs.ModuleNumbers.{AreByName};
+ghost use Rattle.ob_types.specs.World.{exported, type_node_of, module_of_item, item_of, meaning, owner_at, imported_owner, decl_kind_of, imported_kind, text, world};
+ghost use Rattle.ob_types.specs.Shapes.{resolve_type_name, type_of_field};
 ghost use Rattle.ob_types.specs.Within.{AreWithin};
 
 use crate::hints::hints_of;
 use crate::indexed::Indexed;
+use crate::listed::{list_records, size_estimate};
 use crate::nodes::{Field, Named, Node, Record};
 use crate::parts::Parts;
-use crate::shortcuts::Shortcuts;
-use crate::told::{records_told, size_told};
+use crate::precomputed::PrecomputedTypes;
+use module_table::{DeclKind, Table};
 use ob_interface::Interface;
-use ob_rows::{Sort, Table};
 use ob_scan::Token;
 use ob_scope::Scopes;
 use std::alloc::{AllocError, Global};
 use std::marker::Model;
 use std::sync::Arc;
-use type_search::{Hop, OwnField, Shape, TypeGraph};
+use type_graph::{Jump, RecordField, Shape, TypeGraph};
 
-/// A module with the interfaces of the modules of its tree that it reaches, by what names and types mean in it. A contract sees it as the
-/// `World`. It borrows all that it is made of, and has indexes of its own.
+/// A module with the interfaces of the modules of its tree that it reaches, the ones it imports directly or indirectly. Its value in
+/// contracts is the `World`. It borrows its parts and owns indexes over them.
 ///
-/// A token is told by its number, an import item, a part of a form and a module that is reached by its place, a declaration of such a
-/// module by its place in the interface, a record by the number of its RECORD's token; all from 0. Of several that would do, the first
-/// in the file is answered.
+/// A token is represented by its number; an import item, a component of a type expression and a reached module by its index; a
+/// declaration of a reached module by its index in the interface; a record by the token number of its RECORD keyword. All count from 0.
+/// If several entries match a look-up, it returns the first one in file order.
 #[derive(Drop)]
 pub struct Types<'a> {
     pub(crate) indexed: Indexed<'a>,
-    /// What is known of all modules of the tree.
-    shortcuts: Option<&'a Shortcuts>,
+    /// Precomputed results for all modules of the tree.
+    precomputed: Option<&'a PrecomputedTypes>,
 }
 
 impl<'a> Model for Types<'a> {
@@ -49,12 +49,12 @@ impl<'a> Model for Types<'a> {
 
     ghost view = { λ t. world_of t.indexed.parts };
 
-    ghost invariant = { λ t. IfSome t.shortcuts (λ s. AreWithin s.now (world_of t.indexed.parts).reached) };
+    ghost invariant = { λ t. IfSome t.precomputed (λ s. AreWithin s.now (world_of t.indexed.parts).reached) };
 }
 
 impl<'a> Types<'a> {
-    /// The types of the module of these tokens in these bytes, this table and these scopes, which reaches these modules, in the order of
-    /// their names. AllocError is answered where a growth of memory is refused.
+    /// Builds the types of the module with these tokens, bytes, table and scopes. `reached` must be sorted by name. Returns `AllocError`
+    /// if an allocation fails.
     pub fn new(
         alloc: Global,
         bytes: &'a [u8],
@@ -63,8 +63,11 @@ impl<'a> Types<'a> {
         scopes: &'a Scopes,
         reached: &'a [Arc<Interface>],
     ) -> Result<Types<'a>, AllocError>
+        // Every token is a range of the bytes.
         requires in_text { AreInText bytes.now tokens.now }
+        // Indexes of modules fit 32 bits.
         requires few { length reached.now ≤ 2 ^ 32 }
+        // The reached modules are sorted by name.
         requires by_name { AreByName (map arc_value reached.now) }
         ensures { IfOk result (λ t. t ≡ world bytes.now tokens.now (rows_in table.now) scopes.now (map arc_value reached.now)) }
     {
@@ -79,117 +82,118 @@ impl<'a> Types<'a> {
         let indexed = Indexed::new(alloc, parts)?;
         Ok(Types {
             indexed,
-            shortcuts: None,
+            precomputed: None,
         })
     }
 
-    /// The same, with what is known of all modules of the tree: it is for speed alone.
-    pub fn with_shortcuts(mut self, shortcuts: Option<&'a Shortcuts>) -> Types<'a>
-        requires { IfSome shortcuts (λ s. AreWithin s.now self.reached) }
+    /// Adds precomputed results for all modules of the tree, which serve speed alone.
+    pub fn with_precomputed(mut self, precomputed: Option<&'a PrecomputedTypes>) -> Types<'a>
+        // The reached modules are modules of the tree that the results are for, closed under imports.
+        requires { IfSome precomputed (λ s. AreWithin s.now self.reached) }
         ensures { result ≡ self.entry }
     {
-        self.shortcuts = shortcuts;
+        self.precomputed = precomputed;
         self
     }
 
-    /// What every value keeps: the tokens stand in the bytes.
-    pub fn keeps(&self)
+    /// States the invariant: the tokens are ranges of the bytes.
+    pub fn invariants(&self)
         ensures { AreInText self.now.bytes self.now.tokens }
     {
-        // Using a field makes the facts of the type known here.
+        // Using a field makes the type's invariant known to the prover here.
         let _ = &self.indexed;
     }
 
-    /// The bytes of a token; there are none beyond the last.
+    /// The bytes of a token; empty if the number is beyond the last token.
     pub fn text(&self, token: u32) -> &'a [u8]
         ensures { result.now ≡ text self.now token }
     {
         self.indexed.text(token)
     }
 
-    /// The token that declares what the use of this token means.
+    /// The token of the declaration that this use means.
     pub fn meaning(&self, used: u32) -> Option<u32>
         ensures { result ≡ meaning self.now used }
     {
         self.indexed.parts.meaning(used)
     }
 
-    /// What `meaning` answers, without a search where uses are asked for in order: the row at this place is looked at first, and the place
-    /// behind that of the answer is left there. A walk begins with 0.
-    pub fn meaning_near(&self, near: &mut usize, used: u32) -> Option<u32>
+    /// Equals `meaning`, in constant time if uses are asked for in order: `cursor` is a hint, 0 for the first use, and is left at the next
+    /// use.
+    pub fn meaning_by_hint(&self, cursor: &mut usize, used: u32) -> Option<u32>
         ensures { result ≡ meaning self.now used }
     {
-        self.indexed.parts.meaning_near(near, used)
+        self.indexed.parts.meaning_by_hint(cursor, used)
     }
 
-    /// What this token is declared as.
-    pub fn sort(&self, declared: u32) -> Option<Sort>
-        ensures { result ≡ sort_of self.now declared }
+    /// The kind of declaration of the identifier with this token.
+    pub fn decl_kind(&self, declared: u32) -> Option<DeclKind>
+        ensures { result ≡ decl_kind_of self.now declared }
     {
-        self.indexed.parts.sort(declared)
+        self.indexed.parts.decl_kind(declared)
     }
 
-    /// The place of the import item whose alias this token declares.
+    /// The index of the import item whose alias this token declares.
     pub fn item(&self, declared: u32) -> Option<u32>
         ensures { result ≡ item_of self.now declared }
     {
         self.indexed.parts.item(declared)
     }
 
-    /// The place of the module that the import item at this place names; a module that isn't reached has none.
-    pub fn home(&self, item: u32) -> Option<u32>
-        ensures { result ≡ home_of self.now item }
+    /// The index of the reached module that the import item with this index names; `None` if that module isn't in the tree.
+    pub fn module_number(&self, item: u32) -> Option<u32>
+        ensures { result ≡ module_of_item self.now item }
     {
-        self.indexed.home_of(item)
+        self.indexed.module_of_item(item)
     }
 
-    /// The place of the exported declaration of a name in the block of a module that is reached.
+    /// The index of the exported declaration of a name in the block of a reached module.
     pub fn exported(&self, reached: u32, name: &[u8]) -> Option<u32>
         ensures { result ≡ exported self.now reached name.now }
     {
         self.indexed.parts.exported(reached, name)
     }
 
-    /// What a declaration of a module that is reached is declared as.
-    pub fn sort_there(&self, reached: u32, declaration: u32) -> Option<Sort>
-        ensures { result ≡ sort_there self.now reached declaration }
+    /// The kind of a declaration of a reached module.
+    pub fn imported_kind(&self, reached: u32, declaration: u32) -> Option<DeclKind>
+        ensures { result ≡ imported_kind self.now reached declaration }
     {
-        self.indexed.parts.sort_there(reached, declaration)
+        self.indexed.parts.imported_kind(reached, declaration)
     }
 
-    /// The type of what this token declares, by where it is written.
-    pub fn form(&self, declared: u32) -> Option<Node>
-        ensures { result ≡ form_of self.now declared }
+    /// The type of the identifier with this token, as a node.
+    pub fn type_expr(&self, declared: u32) -> Option<Node>
+        ensures { result ≡ type_node_of self.now declared }
     {
-        self.indexed.form(declared)
+        self.indexed.type_expr(declared)
     }
 
-    /// The type of a field, as it is declared.
+    /// The type of a field, as declared.
     pub fn type_of_field(&self, field: Field) -> Option<Node>
         ensures { result ≡ type_of_field self.now field }
     {
         self.indexed.type_of_field(field)
     }
 
-    /// What a name of a type stands for in the module: one identifier, or an alias with a name behind the dot, by their tokens.
+    /// The type that a name denotes in the module: one identifier, or an alias with the name after the dot, by their tokens.
     pub fn named(&self, head: u32, member: Option<u32>) -> Shape<Node, Named, Record>
-        ensures { result ≡ named_here self.now head member }
+        ensures { result ≡ resolve_type_name self.now head member }
     {
-        self.indexed.named_here(head, member)
+        self.indexed.resolve_type_name(head, member)
     }
 
-    /// The first identifier of the declaration whose type holds a record, directly or through arrays and pointers.
+    /// The first identifier of the declaration whose type is this record, directly or through arrays and pointers.
     pub fn owner(&self, record: u32) -> Option<u32>
         ensures { result ≡ owner_at self.now «record» }
     {
         self.indexed.parts.owner(record)
     }
 
-    /// The place of the declaration of a module that is reached whose type holds a record, directly or through arrays and pointers.
-    pub fn owner_there(&self, reached: u32, record: u32) -> Option<u32>
-        ensures { result ≡ owner_there self.now reached «record» }
+    /// The index of the declaration of a reached module whose type is this record, directly or through arrays and pointers.
+    pub fn imported_owner(&self, reached: u32, record: u32) -> Option<u32>
+        ensures { result ≡ imported_owner self.now reached «record» }
     {
-        self.indexed.parts.owner_there(reached, record)
+        self.indexed.parts.imported_owner(reached, record)
     }
 
     /// The module's bytes.
@@ -206,28 +210,28 @@ impl<'a> Types<'a> {
         self.indexed.parts.tokens
     }
 
-    /// What the module declares.
+    /// The module's table.
     pub fn table(&self) -> &'a Table
         ensures { rows_in result.now ≡ self.now.rows }
     {
         self.indexed.parts.table
     }
 
-    /// What its names mean.
+    /// The module's scopes.
     pub fn scopes(&self) -> &'a Scopes
         ensures { result.now ≡ self.now.scopes }
     {
         self.indexed.parts.scopes
     }
 
-    /// The interfaces of the modules that it reaches.
+    /// The interfaces of the reached modules, sorted by name.
     pub fn reached(&self) -> &'a [Arc<Interface>]
         ensures { map arc_value result.now ≡ self.now.reached }
     {
         self.indexed.parts.reached
     }
 
-    /// The interface of the module at this place among those that it reaches.
+    /// The interface of the reached module with this index.
     pub fn interface(&self, reached: u32) -> Option<&'a Interface>
         ensures { option_map (λ m. m.now) result ≡ slice_get self.now.reached reached }
     {
@@ -247,7 +251,7 @@ impl TypeGraph for Types<'_> {
     ghost use Rattle.ob_types.specs.Depths.{depth, height};
     ghost use Rattle.ob_types.specs.Shapes.{base_of, field_of, shape};
     ghost use Rattle.ob_types.specs.DepthLaws.{based, deep, pointed};
-    ghost use Rattle.ob_types.specs.NameLaws.{named_once, told_apart};
+    ghost use Rattle.ob_types.specs.NameLaws.{named_once, eq_is_identity};
 
     ghost shape = { shape };
 
@@ -272,23 +276,23 @@ impl TypeGraph for Types<'_> {
     }
 
     fn size(&self) -> u64 {
-        size_told(&self.indexed.parts)
+        size_estimate(&self.indexed.parts)
     }
 
     fn records(&self, alloc: Global) -> Result<Vec<Record>, AllocError> {
-        records_told(alloc, &self.indexed.parts)
+        list_records(alloc, &self.indexed.parts)
     }
 
-    fn fields(&self, alloc: Global) -> Result<Vec<OwnField<'_, Record>>, AllocError> {
+    fn fields(&self, alloc: Global) -> Result<Vec<RecordField<'_, Record>>, AllocError> {
         self.indexed.all_fields(alloc)
     }
 
-    fn known_end(&self, pointers: bool, node: Node) -> Option<Option<Node>> {
-        self.shortcuts?.end(&self.indexed, pointers, node)
+    fn precomputed_end(&self, pointers: bool, node: Node) -> Option<Option<Node>> {
+        self.precomputed?.end(&self.indexed, pointers, node)
     }
 
-    fn known_hop(&self, record: Record, name: &[u8]) -> Option<Hop<Record>> {
-        self.shortcuts?.hop(&self.indexed, record, name)
+    fn precomputed_jump(&self, record: Record, name: &[u8]) -> Option<Jump<Record>> {
+        self.precomputed?.jump(&self.indexed, record, name)
     }
 
     ghost deep = { deep };
@@ -299,5 +303,5 @@ impl TypeGraph for Types<'_> {
 
     ghost named = { named_once };
 
-    ghost told_apart = { told_apart };
+    ghost eq_is_identity = { eq_is_identity };
 }

@@ -1,21 +1,21 @@
--- The items of names, by their parts.
+-- The items of names, from those of their tokens.
 use Rattle.std.proofs.Common.{◌≡◌, ◌∷◌, refl}
 use Rattle.ob_scan.specs.declared.kind.Kind.TheVariants as kinds
 use Rattle.ob_walk.specs.declared.item.Item.TheVariants as items
 use Rattle.ob_tree.specs.declared.role.Role.TheVariants as roles
 use Rattle.ob_tree.specs.declared.name.Qualident.{Qualident}
 use Rattle.ob_tree.specs.declared.name.Identdef.{Identdef}
-use Rattle.ob_tree.specs.Marks.{word, completed, if_there, if_so}
+use Rattle.ob_tree.specs.TreeEvents.{word, completed, if_present, if_true}
 use Rattle.std.proofs.Common.{◌++◌}
 use Rattle.ob_walk.specs.Items.{items_of}
-use Rattle.ob_tree.specs.Names.{qualident_outline, identdef_outline}
+use Rattle.ob_tree.specs.Names.{qualident_events, identdef_events}
 use Rattle.ob_tree.proofs.NameLayers.{qualident_out, identdef_out}
 use Rattle.ob_walk.proofs.Walks.{walks}
 
-pub qualident_items : (q : Qualident) → items_of (qualident_outline q) ≡ items.Identifier roles.Uses q.head ∷ items_of (if_there (λ m. word kinds.Dot ++ completed m) q.member)
+pub qualident_items : (q : Qualident) → items_of (qualident_events q) ≡ items.Identifier roles.Uses q.head ∷ items_of (if_present (λ m. word kinds.Dot ++ completed m) q.member)
 qualident_items q = rw (qualident_out q) refl
 
-pub identdef_items : (i : Identdef) → items_of (identdef_outline i) ≡ items.Identifier (roles.Declares i.starred) i.name ∷ items_of (if_so i.starred (word kinds.Star))
+pub identdef_items : (i : Identdef) → items_of (identdef_events i) ≡ items.Identifier (roles.Declares i.starred) i.name ∷ items_of (if_true i.starred (word kinds.Star))
 identdef_items i = rw (identdef_out i) refl
 
 pub ruleset name_items = (walks, qualident_items, identdef_items)

@@ -1,11 +1,12 @@
--- The tokens of an outline, each with what it does where it stands.
+-- The tokens of an event sequence, each with its role.
 use Rattle.std.specs.Prelude.{ℕ, ◌+◌, min, List, [], ◌∷◌, Option, Some, None, slice_set}
 use Rattle.ob_walk.specs.declared.item.Item.{Item}
 use Rattle.ob_walk.specs.declared.item.Item.TheVariants as items
 use Rattle.ob_tree.specs.declared.role.Role.TheVariants.{Declares, Aliases, Imports, Uses, Completes, Selects, Names, Repeats}
-use Rattle.ob_tree.specs.Marks.{Out, Begins, Ends, Identifier, Value, Word}
+use Rattle.ob_tree.specs.TreeEvents.{Events, Begins, Ends, Identifier, Value, Word}
 
-abbrev pub items_of : Out → List Item
+-- the items of an event sequence, in order
+abbrev pub items_of : Events → List Item
 items_of [] = []
 items_of (Begins c n ∷ ms) = items_of ms
 items_of (Ends c ∷ ms) = items_of ms
@@ -13,13 +14,13 @@ items_of (Identifier r n ∷ ms) = items.Identifier r n ∷ items_of ms
 items_of (Value k n ∷ ms) = items.Value n ∷ items_of ms
 items_of (Word k ∷ ms) = items.Word ∷ items_of ms
 
--- the number of a token: a word's is that of its place
+-- the number of a token; a word has no number of its own, so its index is passed
 abbrev pub number_at : ℕ → Item → ℕ
 number_at at (items.Identifier r n) = n
 number_at at (items.Value n) = n
 number_at at items.Word = at
 
--- the number of an identifier that is declared, and of one that is looked up
+-- the number of an identifier if the item declares it, and if the item is looked up
 abbrev pub declared_by : Item → Option ℕ
 declared_by (items.Identifier (Declares starred) n) = Some n
 declared_by (items.Identifier Aliases n) = Some n
@@ -44,11 +45,12 @@ used_by (items.Identifier (Repeats name) n) = None
 used_by (items.Value n) = None
 used_by items.Word = None
 
--- places in order, and how many items came: one more stands in the next place, if there is one
+-- slots with the count of emitted items: the item is written to the slot with the index of the count, if there is one; the count
+-- saturates
 abbrev pub with_item : List Item × ℕ → Item → List Item × ℕ
 with_item s i = (slice_set s.0 s.1 i, min (s.1 + 1) 18446744073709551615)
 
--- the same with these items
-unfoldable pub more : List Item × ℕ → List Item → List Item × ℕ
-more s [] = s
-more s (i ∷ is) = more (with_item s i) is
+-- the slots after these items
+unfoldable pub with_items : List Item × ℕ → List Item → List Item × ℕ
+with_items s [] = s
+with_items s (i ∷ is) = with_items (with_item s i) is

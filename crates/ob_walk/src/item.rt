@@ -1,11 +1,11 @@
-//! A token of a tree, with what it does where it stands.
+//! Tokens of a tree with their roles.
 
 use ob_tree::role::Role;
 
-/// A token of a tree, with what it does where it stands. An identifier and a literal are told by the number of their token.
+/// A token of a tree with its role. Identifiers and literals carry their token number.
 #[derive(Clone, Copy, Drop)]
 pub(crate) enum Item {
-    /// An identifier of this role.
+    /// An identifier with its role.
     Identifier(Role, u32),
     /// A literal.
     Value(u32),

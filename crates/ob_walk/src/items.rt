@@ -1,13 +1,13 @@
-//! The items that a walk gives, one after the other.
+//! The sink of a walk.
 
 use crate::item::Item;
 use std::marker::Model;
 
-/// Places for the items of a walk, which are put into them in order. An item past the last place is only counted, so a walk
-/// asks for no memory: with no place it tells how many items there are, and with so many places it gives them.
+/// Slots that a walk fills in order. An item after the last slot is only counted, so a walk never allocates: with no slots it counts the
+/// items, with as many slots as items it stores them all.
 #[derive(Drop)]
 pub(crate) struct Items {
-    places: Vec<Item>,
+    slots: Vec<Item>,
     count: usize,
 }
 
@@ -17,42 +17,42 @@ impl Model for Items {
 
     ghost Value = { List Item × ℕ };
 
-    ghost view = { λ s. (s.places.items, s.count) };
+    ghost view = { λ s. (s.slots.items, s.count) };
 }
 
 impl Items {
     ghost use Rattle.std.specs.Prelude.{◌≡◌, [], ◌∷◌};
-    ghost use Rattle.ob_walk.specs.Items.{more};
+    ghost use Rattle.ob_walk.specs.Items.{with_items};
 
-    /// These places, none of which has its item yet.
-    pub(crate) fn over(places: Vec<Item>) -> Items
-        ensures { result ≡ (places.items, 0) }
+    /// An empty sink over these slots.
+    pub(crate) fn over(slots: Vec<Item>) -> Items
+        ensures { result ≡ (slots.items, 0) }
     {
-        Items { places, count: 0 }
+        Items { slots, count: 0 }
     }
 
-    /// One item more.
-    #[tactic(auto, using(crate::proofs::Walks::set_past), unfolding(crate::specs::Items::more))]
-    pub(crate) fn put(&mut self, item: Item)
-        ensures { self.new ≡ more self.old (item ∷ []) }
+    /// Stores the next item, if a slot is left, and counts it.
+    #[tactic(auto, using(crate::proofs::Walks::set_past), unfolding(crate::specs::Items::with_items))]
+    pub(crate) fn emit(&mut self, item: Item)
+        ensures { self.new ≡ with_items self.old (item ∷ []) }
     {
-        if self.count < self.places.len() {
-            self.places[self.count] = item;
+        if self.count < self.slots.len() {
+            self.slots[self.count] = item;
         }
         self.count = self.count.saturating_add(1);
     }
 
-    /// How many items were put; the greatest number stands for more than there is a number of, and so many places are more than memory has.
+    /// The number of items emitted. It saturates at the largest `usize`, more slots than memory can hold.
     pub(crate) fn count(&self) -> usize
         ensures { result ≡ self.now.1 }
     {
         self.count
     }
 
-    /// The places.
-    pub(crate) fn places(self) -> Vec<Item>
+    /// The slots, after the walk.
+    pub(crate) fn slots(self) -> Vec<Item>
         ensures { result.items ≡ self.0 }
     {
-        self.places
+        self.slots
     }
 }

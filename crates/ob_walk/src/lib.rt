@@ -1,6 +1,7 @@
-//! Walkers of the syntax tree of an Oberon-07 module: what stands in it, by the numbers of its tokens. No command of the program calls them.
-//! Stands on `ob_tree`, and on `ob_scan` below it.
-//! Its contract: a tree's tokens in order, those that it declares and those that are looked up, by its outline.
+//! Walkers of the syntax tree of an Oberon-07 module, for users of the library; no command of the program calls them.
+//! Depends on `ob_tree`, and through it on `ob_scan`.
+//! Main calls: `yield_of` returns the numbers of all tokens in order, `declarations` those of declared identifiers, `uses` those of
+//! identifiers that are looked up, each exactly as the definitions over the tree's event sequence.
 #![tactic(auto)]
 
 mod item;

@@ -1,4 +1,4 @@
-//! The tokens of a tree in order, each with what it does where it stands.
+//! Walks over a tree that emit each token with its role, in order: one function for each production.
 
 pub(crate) mod declarations;
 mod expressions;

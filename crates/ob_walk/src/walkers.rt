@@ -1,10 +1,10 @@
-//! What stands in a module's tree, by the numbers of its tokens. The walkers recurse a few calls for each level of nesting; lists
-//! are loops. Each call answers AllocError where a growth of memory is refused.
+//! The public walkers. They recurse a few calls for each level of nesting; lists are loops. Each returns `AllocError` if an allocation
+//! fails.
 
 ghost use Rattle.std.specs.Prelude.{◌≡◌, ◌<◌, ◌^◌, List, length, IfOk};
 ghost use Rattle.std.specs.List.{range_with_len};
 ghost use Rattle.ob_scan.specs.declared.kind.Kind.{Kind};
-ghost use Rattle.ob_tree.specs.Declaring.{module_outline};
+ghost use Rattle.ob_tree.specs.Declaring.{module_events};
 ghost use Rattle.ob_tree.specs.Derives.{Derives, declared_in, spelling, used_in, yields};
 ghost use Rattle.ob_walk.specs.Items.{items_of, number_at};
 
@@ -15,51 +15,52 @@ use ob_tree::declaration::Module;
 use ob_tree::role::Role;
 use std::alloc::{AllocError, Global};
 
-/// The tokens of a module's tree in order, each with what it does. It walks twice: for how many there are, and for them.
+/// The tokens of a module's tree in order, each with its role. Walks twice: to count the tokens, and to store them.
 fn items(alloc: Global, module: &Module) -> Result<Vec<Item>, AllocError>
-    ensures { IfOk result (λ v. v.items ≡ items_of (module_outline «module».now)) }
+    ensures { IfOk result (λ v. v.items ≡ items_of (module_events «module».now)) }
 {
     let mut counted = Items::over(Vec::new(alloc));
     walk_module(&mut counted, module);
     let mut filled = Items::over(vec![in alloc; Item::Word; counted.count()]?);
     walk_module(&mut filled, module);
-    Ok(filled.places())
+    Ok(filled.slots())
 }
 
-/// The number of a token, which stands in this place.
-fn number_of(item: Item, place: u32) -> u32
-    ensures { result ≡ number_at place item }
+/// The number of a token with this index.
+fn number_of(item: Item, position: u32) -> u32
+    ensures { result ≡ number_at position item }
 {
     match item {
         Item::Identifier(_, number) | Item::Value(number) => number,
-        Item::Word => place,
+        Item::Word => position,
     }
 }
 
-/// The number of each token of a module's tree, in order: of an identifier or a literal the number that the tree
-/// carries, of a word its place from 0. The tree has fewer than 2^32 tokens. Of a tree that derives a file's tokens they are 0, 1, 2 and so on to the last.
-/// A stack of 2 MiB is enough for a tree of 200 levels, and a deeper one needs more in proportion.
+/// The number of each token of a module's tree, in order: an identifier or literal carries its number, a word has its index from 0. The
+/// tree has fewer than 2^32 tokens. A stack of 2 MiB suffices for a tree of 200 levels; the need grows linearly with the depth.
 #[tactic(auto, using(crate::proofs::Passes::passes))]
 pub fn yield_of(alloc: Global, module: &Module) -> Result<Vec<u32>, AllocError>
+    // Token numbers have 32 bits.
     requires { length (spelling «module».now) < 2 ^ 32 }
+    // The numbers are those of the tokens of the tree, in order.
     ensures exact { IfOk result (λ v. v.items ≡ yields «module».now) }
-    ensures whole { IfOk result (λ v. (kinds : List Kind) → Derives kinds «module».now → v.items ≡ range_with_len 0 (length kinds)) }
+    // If the tree derives the tokens of a file, the numbers are 0, 1, 2 and so on to the last token.
+    ensures complete { IfOk result (λ v. (kinds : List Kind) → Derives kinds «module».now → v.items ≡ range_with_len 0 (length kinds)) }
 {
     let items = items(alloc, module)?;
     let mut numbers = Vec::new(alloc);
     for item in &items {
-        let place = numbers.len() as u32;
-        numbers.push(number_of(*item, place))?;
+        let position = numbers.len() as u32;
+        numbers.push(number_of(*item, position))?;
     }
     Ok(numbers)
 }
 
-/// The numbers of the identifiers that a module declares, in order: those of its imports, constants, types, variables,
-/// fields, procedures and parameters, at every depth. A stack of 2 MiB is enough for a tree of 200 levels, and a deeper one needs
-/// more in proportion.
+/// The token numbers of the identifiers that a module declares, in order and at every depth: imports, constants, types, variables,
+/// fields, procedures and parameters. A stack of 2 MiB suffices for a tree of 200 levels; the need grows linearly with the depth.
 #[tactic(auto, using(crate::proofs::Passes::passes))]
 pub fn declarations(alloc: Global, module: &Module) -> Result<Vec<u32>, AllocError>
-    ensures { IfOk result (λ v. v.items ≡ declared_in (module_outline «module».now)) }
+    ensures { IfOk result (λ v. v.items ≡ declared_in (module_events «module».now)) }
 {
     let items = items(alloc, module)?;
     let mut numbers = Vec::new(alloc);
@@ -74,12 +75,12 @@ pub fn declarations(alloc: Global, module: &Module) -> Result<Vec<u32>, AllocErr
     Ok(numbers)
 }
 
-/// The numbers of the identifiers that are looked up in a module, in order: the heads of designators and of qualified
-/// names, the names among labels, and the variables of FOR statements. A stack of 2 MiB is enough for a tree of 200 levels, and a
-/// deeper one needs more in proportion.
+/// The token numbers of the identifiers that the scope rule looks up in a module, in order: heads of designators and of qualified names,
+/// names among labels, and variables of FOR statements. A stack of 2 MiB suffices for a tree of 200 levels; the need grows linearly with
+/// the depth.
 #[tactic(auto, using(crate::proofs::Passes::passes))]
 pub fn uses(alloc: Global, module: &Module) -> Result<Vec<u32>, AllocError>
-    ensures { IfOk result (λ v. v.items ≡ used_in (module_outline «module».now)) }
+    ensures { IfOk result (λ v. v.items ≡ used_in (module_events «module».now)) }
 {
     let items = items(alloc, module)?;
     let mut numbers = Vec::new(alloc);

@@ -5,8 +5,8 @@
 #![tactic(auto)]
 
 ghost use Rattle.std.specs.String.{string_bytes};
-ghost use Rattle.oscip_tree.specs.Sources.{ArePathsInOrder};
-ghost use Rattle.oscip_job.specs.Jobs.{HasPackage, HasWorkers, IsPackage, MayWork};
+ghost use Rattle.source_tree.specs.Sources.{ArePathsInOrder};
+ghost use Rattle.oscip_job.specs.Jobs.{HasPackage, HasWorkers, IsPackage, IsWorkerCount};
 
 use atomic_file::{ContentFault, ReplaceFault, StdFile, StdFiles, replace_file};
 use byte_sink::{Sink, ToWrite};
@@ -16,7 +16,7 @@ use oscip_run::{
     Reader, RunFault, Stream, SystemFiles, TreeRun, end_of, end_of_tree, end_without_job,
     line_of_run, run_net, run_question, run_tree, style_of_job, tree_files,
 };
-use oscip_tree::{PartedFiles, Source};
+use source_tree::{PartitionedFiles, Source};
 use std::alloc::Global;
 use std::fs::File;
 use std::io::ErrorKind;
@@ -25,7 +25,7 @@ use std::rt::{Env, Files};
 use std::sync::Wait;
 use std::thread::Threads;
 use std::{env, fs, io};
-use text_escape::PlaceStyle;
+use text_escape::LocationStyle;
 
 /// The fault that the file of this path can't be written, or `Memory`.
 fn cannot_write(alloc: Global, path: &str) -> RunFault {
@@ -45,7 +45,7 @@ fn index_to_file<R: Files + AllocGlobal + Threads + Wait + Sync>(
 ) -> Result<(), RunFault>
     requires in_order { ArePathsInOrder sources.now }
     requires package { IsPackage (string_bytes indexing.now.package) }
-    requires workers { MayWork indexing.now.workers }
+    requires workers { IsWorkerCount indexing.now.workers }
 {
     let Ok(file) = fs::create(rt, path) else {
         return Err(cannot_write(rt.alloc(), path));
@@ -67,13 +67,13 @@ fn replace_index<R: Files<File = File> + AllocGlobal + Threads + Wait + Sync>(
 ) -> Result<(), RunFault>
     requires in_order { ArePathsInOrder sources.now }
     requires package { IsPackage (string_bytes indexing.now.package) }
-    requires workers { MayWork indexing.now.workers }
+    requires workers { IsWorkerCount indexing.now.workers }
 {
     let alloc = rt.alloc();
     let write = |file: &mut StdFile| -> Result<(), ContentFault<RunFault>>
         requires in_order { ArePathsInOrder sources.now }
         requires package { IsPackage (string_bytes indexing.now.package) }
-        requires workers { MayWork indexing.now.workers }
+        requires workers { IsWorkerCount indexing.now.workers }
     {
         match answer_index(rt, alloc, indexing, sources, &OpenBoard, file) {
             Ok(()) => Ok(()),
@@ -99,7 +99,7 @@ fn write_index<R: Files<File = File> + AllocGlobal + Threads + Wait + Sync, S: S
 ) -> Result<(), RunFault>
     requires in_order { ArePathsInOrder sources.now }
     requires package { IsPackage (string_bytes indexing.now.package) }
-    requires workers { MayWork indexing.now.workers }
+    requires workers { IsWorkerCount indexing.now.workers }
 {
     match &indexing.output {
         Output::File(path) if indexing.is_atomic => {
@@ -118,11 +118,11 @@ fn run_index<R: Files<File = File> + AllocGlobal + Threads + Wait + Sync, F: Rea
     sink: &mut S,
 ) -> Result<TreeRun, RunFault>
     requires package { IsPackage (string_bytes indexing.now.package) }
-    requires workers { MayWork indexing.now.workers }
+    requires workers { IsWorkerCount indexing.now.workers }
 {
     let tree = &indexing.tree;
     let files = tree_files(rt, rt.alloc(), reader, tree, indexing.workers)?;
-    let PartedFiles { accepted, faults } = files;
+    let PartitionedFiles { accepted, faults } = files;
     let ended = write_index(rt, indexing, accepted.as_slice(), sink);
     Ok(TreeRun {
         faults,
@@ -134,7 +134,7 @@ fn run_index<R: Files<File = File> + AllocGlobal + Threads + Wait + Sync, F: Rea
 fn run_job<
     R: Files<File = File> + AllocGlobal + Print + Threads + Wait + Sync + Clone + Drop,
     E: Sink,
->(rt: &R, job: &Job, style: PlaceStyle<'_>, stderr: &mut Stream<E>) -> Result<bool, RunFault>
+>(rt: &R, job: &Job, style: LocationStyle<'_>, stderr: &mut Stream<E>) -> Result<bool, RunFault>
     requires workers { HasWorkers job.now }
     requires package { HasPackage job.now }
 {

@@ -1,21 +1,21 @@
-//! Modules of shapes that nobody writes by hand: nested deeply, and with fields behind long chains of bases.
+//! Modules of unusual shapes: deeply nested ones, and ones whose fields are inherited through long chains of bases.
 
 use crate::random::{Random, push_number};
-use oscip_tree::Source;
+use source_tree::Source;
 use std::alloc::{AllocError, Global};
 
-/// Procedures, statements and expressions are nested to so many levels each: in all that is less than the limit of 200.
+/// The nesting depth of procedures, of statements and of expressions. Their sum is below the limit of 200.
 const LEVELS: u64 = 60;
 
 const OPENS: &[&[u8]] = &[b"(", b"y * (", b"a[", b"F(x, ", b"(~"];
 
 const CLOSES: &[&[u8]] = &[b") + x", b")", b"] - z", b")", b") DIV 3"];
 
-const FRONTS: &[&[u8]] = &[b"IF x > 0 THEN\n", b"WHILE y # x DO\n", b"REPEAT\n"];
+const PREFIXES: &[&[u8]] = &[b"IF x > 0 THEN\n", b"WHILE y # x DO\n", b"REPEAT\n"];
 
-const BACKS: &[&[u8]] = &[b"ELSE x := 0 END;\n", b"y := z END;\n", b"UNTIL x < z;\n"];
+const SUFFIXES: &[&[u8]] = &[b"ELSE x := 0 END;\n", b"y := z END;\n", b"UNTIL x < z;\n"];
 
-/// One of the texts by a number.
+/// The element at this index, or an empty string beyond the end.
 fn nth(texts: &[&'static [u8]], at: u64) -> &'static [u8] {
     texts.get(at as usize).copied().unwrap_or(b"")
 }
@@ -29,27 +29,27 @@ struct Nest {
 }
 
 impl Nest {
-    /// Puts so many fronts around what is in the middle, and the backs of these.
+    /// Appends one prefix for each level, the middle, and the matching suffixes.
     fn around(
         &mut self,
-        fronts: &[&'static [u8]],
-        backs: &[&'static [u8]],
+        prefixes: &[&'static [u8]],
+        suffixes: &[&'static [u8]],
         middle: &[u8],
     ) -> Result<(), AllocError> {
         let depth = self.random.below(LEVELS);
         let mut open = Vec::new(self.alloc);
         for _ in 0..depth {
-            let kind = if fronts.is_empty() {
+            let kind = if prefixes.is_empty() {
                 0
             } else {
-                self.random.below(fronts.len() as u64)
+                self.random.below(prefixes.len() as u64)
             };
-            self.text.extend_from_slice(nth(fronts, kind))?;
+            self.text.extend_from_slice(nth(prefixes, kind))?;
             open.push(kind)?;
         }
         self.text.extend_from_slice(middle)?;
         for kind in open.iter().rev() {
-            self.text.extend_from_slice(nth(backs, *kind))?;
+            self.text.extend_from_slice(nth(suffixes, *kind))?;
         }
         Ok(())
     }
@@ -58,10 +58,10 @@ impl Nest {
         self.around(OPENS, CLOSES, b"x")
     }
 
-    /// The end of a procedure: statements in one another, two with deep expressions, and what it returns.
+    /// Appends the end of a procedure: nested statements, two of them with deep expressions, and its result.
     fn body(&mut self, number: u64) -> Result<(), AllocError> {
         self.text.extend_from_slice(b"BEGIN\n")?;
-        self.around(FRONTS, BACKS, b"a[x] := y;\n")?;
+        self.around(PREFIXES, SUFFIXES, b"a[x] := y;\n")?;
         self.text.extend_from_slice(b"x := ")?;
         self.expression()?;
         self.text.extend_from_slice(b";\na[z] := ")?;
@@ -73,7 +73,7 @@ impl Nest {
         self.text.extend_from_slice(b";\n")
     }
 
-    /// Procedures in one another.
+    /// Appends nested procedures.
     fn procedures(&mut self) -> Result<(), AllocError> {
         let (first, depth) = (self.procedures, 1 + self.random.below(LEVELS));
         for level in 0..depth {
@@ -91,15 +91,15 @@ impl Nest {
     }
 }
 
-/// A tree of one file.
-fn alone(alloc: Global, path: &str, bytes: Vec<u8>) -> Result<Vec<Source>, AllocError> {
+/// A tree with this one file.
+fn single_file(alloc: Global, path: &str, bytes: Vec<u8>) -> Result<Vec<Source>, AllocError> {
     let mut sources = Vec::new(alloc);
     let path = String::from_str(alloc, path)?;
     sources.push(Source { path, bytes })?;
     Ok(sources)
 }
 
-/// A module of about so many bytes, of procedures, statements and expressions in one another.
+/// A module of about this many bytes with nested procedures, statements and expressions.
 pub fn nested(alloc: Global, seed: u64, bytes: usize) -> Result<Vec<Source>, AllocError> {
     let mut nest = Nest {
         alloc,
@@ -117,18 +117,18 @@ pub fn nested(alloc: Global, seed: u64, bytes: usize) -> Result<Vec<Source>, All
         nest.procedures()?;
     }
     nest.text.extend_from_slice(b"END Nested.\n")?;
-    alone(alloc, "Nested.Mod", nest.text)
+    single_file(alloc, "Nested.Mod", nest.text)
 }
 
-/// Puts a word and a number.
-fn numbered(text: &mut Vec<u8>, word: &[u8], number: u64, behind: &[u8]) -> Result<(), AllocError> {
+/// Appends a word, a number, and what follows them.
+fn numbered(text: &mut Vec<u8>, word: &[u8], number: u64, after: &[u8]) -> Result<(), AllocError> {
     text.extend_from_slice(word)?;
     push_number(text, number)?;
-    text.extend_from_slice(behind)
+    text.extend_from_slice(after)
 }
 
-/// Puts so many fields, and uses of them behind so many bases.
-fn put_fields(text: &mut Vec<u8>, seed: u64, fields: u64, bases: u64) -> Result<(), AllocError> {
+/// Appends this many fields, and uses of them through this many bases.
+fn write_fields(text: &mut Vec<u8>, seed: u64, fields: u64, bases: u64) -> Result<(), AllocError> {
     text.extend_from_slice(b"MODULE Fields;\nTYPE\n  T0 = RECORD first")?;
     for field in 0..fields {
         numbered(text, b", f", field, b"")?;
@@ -149,14 +149,14 @@ fn put_fields(text: &mut Vec<u8>, seed: u64, fields: u64, bases: u64) -> Result<
     text.extend_from_slice(b"END Fields.\n")
 }
 
-/// A module with so many fields of one record, each used behind so many bases.
-pub fn fields_behind_bases(
+/// A module with this many fields of one record, each used through this many bases.
+pub fn inherited_fields(
     alloc: Global,
     seed: u64,
     fields: u64,
     bases: u64,
 ) -> Result<Vec<Source>, AllocError> {
     let mut text = Vec::new(alloc);
-    put_fields(&mut text, seed, fields, bases)?;
-    alone(alloc, "Fields.Mod", text)
+    write_fields(&mut text, seed, fields, bases)?;
+    single_file(alloc, "Fields.Mod", text)
 }

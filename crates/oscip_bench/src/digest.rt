@@ -1,9 +1,9 @@
-//! A sink that keeps a sum of what it takes.
+//! A sink that hashes what it takes.
 ghost use Rattle.std.specs.Prelude.{None};
 
 use byte_sink::{Sink, SinkFault};
 
-/// Multiplies and adds for each byte (the hash of Fowler, Noll and Vo, 1a).
+/// A 64-bit FNV-1a hash (Fowler, Noll and Vo) of the bytes and exit statuses, with the number of jobs.
 #[derive(Drop)]
 pub struct Digest {
     sum: u64,
@@ -24,17 +24,17 @@ impl Digest {
         self.sum
     }
 
-    /// How many jobs ended.
+    /// The number of jobs that ended.
     pub fn jobs(&self) -> u64 {
         self.jobs
     }
 
-    /// How many of them didn't end with status 0.
+    /// The number of jobs with an exit status other than 0.
     pub fn refused(&self) -> u64 {
         self.refused
     }
 
-    /// Adds the status of the end of a job.
+    /// Adds the exit status of a job.
     pub fn end(&mut self, status: u8) {
         self.add(&[status]);
         self.jobs = self.jobs.saturating_add(1);

@@ -1,9 +1,9 @@
-//! Texts by a grammar: a `$` and a letter stand for one of several texts, or for a name.
+//! Generated Oberon source: `$` and a letter denote one of several templates, or a name.
 
 use crate::random::{Random, name_of, push_number};
 use std::alloc::{AllocError, Global};
 
-/// So many signs at most are replaced in one text. The grammar comes to its end long before.
+/// The maximum number of letters that are expanded in one template. Expansion ends long before.
 const MOST: u64 = 1_000_000;
 
 const STATEMENTS: &[&[u8]] = &[
@@ -105,31 +105,31 @@ const WORDS: &[&[u8]] = &[
     b"each", b"is", b"read", b"before", b"others",
 ];
 
-/// A procedure has so many variables, and a record so many fields by turns.
+/// The number of variables of a procedure. The number of fields of a record cycles up to it.
 pub const VARIABLES: usize = 5;
 
-/// Writes a text. Names are those of one module.
+/// A builder of the source of one module.
 #[derive(Drop)]
-pub struct Maker {
+pub struct SourceBuilder {
     alloc: Global,
     pub text: Vec<u8>,
     pub random: Random,
-    /// How many constants, types and variables the module has of its own, each.
+    /// The number of constants, of types and of variables that the module declares.
     pub width: u64,
-    /// What stands behind the module's own names, and nothing where it is 0: so names are shared with other modules or not.
-    pub apart: u64,
-    /// Whether some of its procedures use names that nothing declares.
+    /// The number after each of the module's own names, none for 0. With different numbers modules share no names.
+    pub suffix: u64,
+    /// Whether some of its procedures use undeclared names.
     pub undeclared: bool,
-    /// The numbers of the modules that it imports.
+    /// The numbers of the imported modules.
     pub imports: Vec<u64>,
-    /// How many procedures there are so far.
+    /// The number of procedures so far.
     pub procedures: u64,
-    /// Where the variables of the procedure begin among `LOCALS`, and the number of the type of its pointers.
+    /// The index of the procedure's first variable in `LOCALS`, and the number of its pointers' type.
     pub own: usize,
     pub at: u64,
 }
 
-/// One of the texts, by a number that goes round.
+/// The element at this index, modulo the number of elements.
 fn round(texts: &[&'static [u8]], at: usize) -> &'static [u8] {
     if texts.is_empty() {
         return b"";
@@ -137,14 +137,14 @@ fn round(texts: &[&'static [u8]], at: usize) -> &'static [u8] {
     texts[at % texts.len()]
 }
 
-impl Maker {
-    pub fn new(alloc: Global, seed: u64, width: u64, apart: u64) -> Maker {
-        Maker {
+impl SourceBuilder {
+    pub fn new(alloc: Global, seed: u64, width: u64, suffix: u64) -> SourceBuilder {
+        SourceBuilder {
             alloc,
             text: Vec::new(alloc),
             random: Random::new(seed),
             width,
-            apart,
+            suffix,
             undeclared: false,
             imports: Vec::new(alloc),
             procedures: 0,
@@ -161,12 +161,12 @@ impl Maker {
         push_number(&mut self.text, number)
     }
 
-    /// A name of the module's own: two words, and what sets it apart.
+    /// Appends a name of the module itself: two words and the module's number.
     pub fn name(&mut self, first: &[u8], second: &[u8]) -> Result<(), AllocError> {
         self.put(first)?;
         self.put(second)?;
-        if self.apart != 0 {
-            self.number(self.apart)?;
+        if self.suffix != 0 {
+            self.number(self.suffix)?;
         }
         Ok(())
     }
@@ -192,7 +192,7 @@ impl Maker {
         self.put(round(LOCALS, self.own.wrapping_add(number)))
     }
 
-    /// The name of a procedure. The numbers of later ones stand behind it.
+    /// Appends the name of a procedure. Later procedures have a number at the end.
     pub fn procedure(&mut self, number: u64) -> Result<(), AllocError> {
         let (verb, noun) = (number as usize, number as usize / VERBS.len());
         self.name(round(VERBS, verb), round(NOUNS, noun))?;
@@ -203,7 +203,7 @@ impl Maker {
         Ok(())
     }
 
-    /// The name under which an import is used: that of its module, or an alias.
+    /// Appends the name of an import in this module: that of the imported module, or an alias.
     pub fn alias(&mut self, module: u64) -> Result<(), AllocError> {
         let name = name_of(module);
         if module % 5 == 0 {
@@ -223,7 +223,7 @@ impl Maker {
         self.alias(module)
     }
 
-    /// One of the last procedures, or a predeclared one where there is none.
+    /// Appends the name of one of the last procedures, or of a predeclared one if there is none.
     fn any_procedure(&mut self) -> Result<(), AllocError> {
         if self.procedures == 0 {
             return self.put(b"ABS");
@@ -239,7 +239,7 @@ impl Maker {
         self.random.below(self.width)
     }
 
-    /// Puts what a letter for a name or a number stands for.
+    /// Appends the name or the number that a letter denotes.
     fn word(&mut self, letter: u8) -> Result<(), AllocError> {
         match letter {
             b'v' => {
@@ -274,7 +274,7 @@ impl Maker {
         }
     }
 
-    /// Puts a name that the module declares.
+    /// Appends a name that the module declares.
     fn declared(&mut self, letter: u8) -> Result<(), AllocError> {
         match letter {
             b'k' => {
@@ -290,23 +290,23 @@ impl Maker {
         }
     }
 
-    /// One of the texts that a letter stands for, and none where it is a word's.
+    /// One of the templates that a letter denotes, or `None` if it denotes a name or a number.
     fn rule(&mut self, letter: u8) -> Option<&'static [u8]> {
-        let alone = self.imports.is_empty();
+        let single_file = self.imports.is_empty();
         match letter {
             b'S' => Some(self.random.pick(SIMPLE)),
             b'C' => Some(self.random.pick(CONDITIONS)),
             b'E' => Some(self.random.pick(EXPRESSIONS)),
             b'L' => Some(self.random.pick(LEAVES)),
-            b'X' if alone => Some(b"$v := $v + $n"),
+            b'X' if single_file => Some(b"$v := $v + $n"),
             b'X' => Some(self.random.pick(CALLS)),
-            b'Y' if alone => Some(b"$k"),
+            b'Y' if single_file => Some(b"$k"),
             b'Y' => Some(self.random.pick(VALUES)),
             _ => None,
         }
     }
 
-    /// Puts a text with all that its letters stand for.
+    /// Appends a template with its letters expanded.
     pub fn expand(&mut self, text: &'static [u8]) -> Result<(), AllocError> {
         let mut open = Vec::new(self.alloc);
         let mut rest = text;
@@ -323,15 +323,15 @@ impl Maker {
             let Some(letter) = rest.get(at + 1).copied() else {
                 return Ok(());
             };
-            let behind = &rest[at + 2..];
+            let after = &rest[at + 2..];
             match self.rule(letter) {
                 Some(rule) => {
-                    open.push(behind)?;
+                    open.push(after)?;
                     rest = rule;
                 }
                 None => {
                     self.word(letter)?;
-                    rest = behind;
+                    rest = after;
                 }
             }
         }

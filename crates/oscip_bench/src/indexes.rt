@@ -1,18 +1,18 @@
-//! Indexes in the style of two other producers, in the encoding of Protocol Buffers.
+//! Encoded indexes in the style of two other producers (Protocol Buffers encoding).
 
 use crate::random::{Random, push_number};
 use std::alloc::{AllocError, Global};
 
-/// In whose style an index is.
+/// The style of an index.
 #[derive(Clone, Copy, PartialEq, Eq)]
 pub enum Style {
-    /// Columns in units of UTF-16, symbols with backticks.
+    /// Columns in UTF-16 code units, symbols with backticks.
     TypeScript,
     /// Columns in bytes, long symbols with disambiguators.
     Java,
 }
 
-/// Puts a number in groups of seven bits, the lowest first.
+/// Appends a number as a varint.
 fn push_varint(bytes: &mut Vec<u8>, number: u64) -> Result<(), AllocError> {
     let mut rest = number;
     for _ in 0..10 {
@@ -26,14 +26,14 @@ fn push_varint(bytes: &mut Vec<u8>, number: u64) -> Result<(), AllocError> {
     Ok(())
 }
 
-/// Puts a field of bytes.
+/// Appends a length-delimited field.
 fn push_field(bytes: &mut Vec<u8>, field: u64, payload: &[u8]) -> Result<(), AllocError> {
     push_varint(bytes, (field % 1000) * 8 + 2)?;
     push_varint(bytes, payload.len() as u64)?;
     bytes.extend_from_slice(payload)
 }
 
-/// Puts a field of a number.
+/// Appends a field with a number.
 fn push_value(bytes: &mut Vec<u8>, field: u64, value: u64) -> Result<(), AllocError> {
     push_varint(bytes, (field % 1000) * 8)?;
     push_varint(bytes, value)
@@ -52,13 +52,13 @@ pub fn path_of(alloc: Global, style: Style, document: u64) -> Result<Vec<u8>, Al
     Ok(path)
 }
 
-/// The first column of the occurrence in a line of a document.
+/// The start column of the occurrence in a line of a document.
 pub fn column_of(seed: u64, document: u64, line: u64) -> u64 {
     let mut random = Random::new(seed ^ (document << 24) ^ (line << 4));
     random.below(60)
 }
 
-/// Makes an index record by record, in buffers that are used again.
+/// A producer of an index, record by record, with reused buffers.
 #[derive(Drop)]
 struct Producer {
     style: Style,
@@ -72,7 +72,7 @@ struct Producer {
 }
 
 impl Producer {
-    /// Makes the text of a symbol: every fifth number is local.
+    /// Makes the symbol string: every fifth number gives a local symbol.
     fn make_symbol(&mut self, document: u64, number: u64) -> Result<(), AllocError> {
         self.symbol.clear();
         if number % 5 == 4 {
@@ -104,7 +104,7 @@ impl Producer {
         self.symbol.extend_from_slice(b").")
     }
 
-    /// Puts an occurrence of the symbol that was made: at a line, with five columns.
+    /// Appends an occurrence of the current symbol in a line, five columns wide.
     fn push_occurrence(&mut self, line: u64, column: u64, defines: bool) -> Result<(), AllocError> {
         self.range.clear();
         push_varint(&mut self.range, line)?;
@@ -118,7 +118,7 @@ impl Producer {
         push_field(&mut self.document, 2, self.part.as_slice())
     }
 
-    /// Puts what the index says of the symbol that was made.
+    /// Appends the symbol information of the current symbol.
     fn push_information(&mut self, number: u64) -> Result<(), AllocError> {
         self.part.clear();
         push_field(&mut self.part, 1, self.symbol.as_slice())?;
@@ -131,7 +131,7 @@ impl Producer {
         push_field(&mut self.document, 3, self.part.as_slice())
     }
 
-    /// The occurrence of a line: each tenth defines a symbol of its own.
+    /// Appends the occurrence of a line. Each tenth defines a symbol.
     fn push_line(&mut self, at: u64, lines: u64, line: u64) -> Result<(), AllocError> {
         let column = column_of(self.seed, at, line);
         let symbols = lines / 10 + 1;
@@ -163,7 +163,7 @@ impl Producer {
     }
 }
 
-/// The bytes of an index of so many documents, each with so many occurrences, one a line.
+/// An index of this many documents, each with this many occurrences, one in a line.
 pub fn index_of(
     alloc: Global,
     seed: u64,
@@ -189,12 +189,12 @@ pub fn index_of(
     for at in 0..documents {
         producer.push_document(alloc, at, lines)?;
     }
-    // what a later version of the format might add
+    // an unknown field, as a later version of the format may have
     push_value(&mut producer.index, 99, 7)?;
     Ok(producer.index)
 }
 
-/// The bytes of an index with one document of a path, of so many empty occurrences, between empty documents.
+/// An index with one document that has a path and this many empty occurrences, between empty documents.
 pub fn empty_records(alloc: Global, records: u64) -> Result<Vec<u8>, AllocError> {
     let (mut index, mut document) = (Vec::new(alloc), Vec::new(alloc));
     push_field(&mut document, 1, b"empty")?;

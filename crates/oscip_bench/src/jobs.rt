@@ -1,4 +1,4 @@
-//! Jobs of the program, run on what is in memory, with what they put and how they end in a digest.
+//! The jobs of the program, run on data in memory. The digest takes their output and exit statuses.
 
 use crate::digest::Digest;
 use cut_solve::OpenGate;
@@ -9,31 +9,31 @@ use oscip_run::{
     RunFault, answer_question, check_net_bytes, check_tree, cut_net_bytes, cut_tree, status_of,
     status_of_run,
 };
-use oscip_tree::{Source, in_order};
+use source_tree::{Source, in_order};
 use std::alloc::{AllocError, Global};
 use std::sync::Wait;
 use std::thread::Threads;
-use text_escape::PlaceStyle;
+use text_escape::LocationStyle;
 
-/// Why a workload stopped.
+/// Why a workload failed.
 #[derive(Clone, Copy, Debug)]
-pub enum Stopped {
-    /// Memory ran out.
+pub enum WorkloadFault {
+    /// An allocation failed.
     Memory,
-    /// There is no workload of the name.
+    /// No workload has the name.
     Words,
-    /// The files of a tree don't stand in order.
+    /// The files of a tree aren't sorted by path.
     Order,
 }
 
-impl From<AllocError> for Stopped {
-    fn from(_error: AllocError) -> Stopped {
-        Stopped::Memory
+impl From<AllocError> for WorkloadFault {
+    fn from(_error: AllocError) -> WorkloadFault {
+        WorkloadFault::Memory
     }
 }
 
-/// The status of a run that only puts something.
-fn status_of_puts(ended: &Result<(), RunFault>) -> u8 {
+/// The exit status of a run without a yes or no.
+fn status_of_write(ended: &Result<(), RunFault>) -> u8 {
     match ended {
         Ok(()) => 0,
         Err(fault) => status_of(fault),
@@ -45,49 +45,49 @@ pub fn index<R: Threads + Wait + AllocGlobal + Sync>(
     rt: &R,
     sources: &[Source],
     digest: &mut Digest,
-) -> Result<(), Stopped> {
+) -> Result<(), WorkloadFault> {
     if !in_order(sources) {
-        return Err(Stopped::Order);
+        return Err(WorkloadFault::Order);
     }
     let alloc = rt.alloc();
     let (package, root) = (String::new(alloc), String::new(alloc));
     let options = IndexOptions { package, root };
     let ended = index_to(rt, alloc, sources, &options, 1, &OpenBoard, digest);
-    digest.end(status_of_puts(&ended));
+    digest.end(status_of_write(&ended));
     Ok(())
 }
 
-/// Tells what means nothing in a tree.
+/// Lists the unresolved identifiers of a tree.
 pub fn unresolved<R: Threads + AllocGlobal + Sync>(
     rt: &R,
     sources: &[Source],
     digest: &mut Digest,
-) -> Result<(), Stopped> {
+) -> Result<(), WorkloadFault> {
     if !in_order(sources) {
-        return Err(Stopped::Order);
+        return Err(WorkloadFault::Order);
     }
-    let ended = unresolved_to(rt, rt.alloc(), sources, PlaceStyle::Plain, digest);
-    digest.end(status_of_puts(&ended));
+    let ended = unresolved_to(rt, rt.alloc(), sources, LocationStyle::Plain, digest);
+    digest.end(status_of_write(&ended));
     Ok(())
 }
 
-/// Checks a report on a tree.
+/// Checks a report for a tree.
 fn check_in_tree<R: Threads + AllocGlobal + Sync>(
     rt: &R,
     sources: &[Source],
     report: &[u8],
     prices: Option<&[u8]>,
     digest: &mut Digest,
-) -> Result<(), Stopped> {
+) -> Result<(), WorkloadFault> {
     if !in_order(sources) {
-        return Err(Stopped::Order);
+        return Err(WorkloadFault::Order);
     }
     let ended = check_tree(rt, rt.alloc(), sources, report, prices, digest);
     digest.end(status_of_run(&ended));
     Ok(())
 }
 
-/// Cuts a tree between two modules with one worker, and checks the report.
+/// Computes a cut of a tree between two modules with one worker, and checks the report.
 pub fn cut_in_tree<R: Threads + Wait + AllocGlobal + Sync>(
     rt: &R,
     sources: &[Source],
@@ -95,9 +95,9 @@ pub fn cut_in_tree<R: Threads + Wait + AllocGlobal + Sync>(
     b: &str,
     prices: Option<&[u8]>,
     digest: &mut Digest,
-) -> Result<(), Stopped> {
+) -> Result<(), WorkloadFault> {
     if !in_order(sources) {
-        return Err(Stopped::Order);
+        return Err(WorkloadFault::Order);
     }
     let mut report = Vec::new(rt.alloc());
     let ended = cut_tree(
@@ -111,12 +111,12 @@ pub fn cut_in_tree<R: Threads + Wait + AllocGlobal + Sync>(
         prices,
         &mut report,
     );
-    digest.end(status_of_puts(&ended));
+    digest.end(status_of_write(&ended));
     digest.add(report.as_slice());
     check_in_tree(rt, sources, report.as_slice(), prices, digest)
 }
 
-/// Cuts a network between two modules with one worker, and checks the report.
+/// Computes a cut of a network between two modules with one worker, and checks the report.
 pub fn cut_in_net<R: Threads + Wait + AllocGlobal + Sync>(
     rt: &R,
     network: &[u8],
@@ -127,14 +127,14 @@ pub fn cut_in_net<R: Threads + Wait + AllocGlobal + Sync>(
     let alloc = rt.alloc();
     let mut report = Vec::new(alloc);
     let ended = cut_net_bytes(rt, alloc, network, a, b, 1, &OpenGate, None, &mut report);
-    digest.end(status_of_puts(&ended));
+    digest.end(status_of_write(&ended));
     digest.add(report.as_slice());
     let ended = check_net_bytes(alloc, network, report.as_slice(), None, digest);
     digest.end(status_of_run(&ended));
 }
 
-/// Asks an index for the places of the symbol at a position.
+/// Runs a query on an index, for the locations of the symbol at a position.
 pub fn ask(alloc: Global, question: &IndexQuestion, index: &[u8], digest: &mut Digest) {
-    let ended = answer_question(alloc, question, index, PlaceStyle::Plain, digest);
-    digest.end(status_of_puts(&ended));
+    let ended = answer_question(alloc, question, index, LocationStyle::Plain, digest);
+    digest.end(status_of_write(&ended));
 }

@@ -1,6 +1,8 @@
-//! Times the program: runs one of six workloads on inputs that it makes from a seed, and prints the digest of what their jobs put.
-//! Stands on `oscip_run` and `index_run` for the jobs, and on `oscip_job`, `oscip_tree`, `ob_board`, `cut_solve` and `byte_sink` for what these take.
-//! Its contract: none but safety. The same words print the same digest.
+//! A benchmark of the program: runs one of six workloads on inputs that are generated from a seed, and prints the digest of the jobs'
+//! output.
+//! Depends on `oscip_run` and `index_run` for the jobs, and on `oscip_job`, `source_tree`, `ob_board`, `cut_solve` and `byte_sink` for their
+//! inputs.
+//! Nothing but safety is proved. Equal arguments give equal digests.
 #![tactic(auto)]
 
 ghost use Rattle.std.specs.Prelude.{◌≤◌};
@@ -16,7 +18,7 @@ mod random;
 mod workloads;
 
 use crate::digest::Digest;
-use crate::jobs::Stopped;
+use crate::jobs::WorkloadFault;
 use crate::workloads::{awkward, cut, index, net, query, unresolved};
 use std::process::ExitCode;
 use std::rt::Env;
@@ -24,13 +26,13 @@ use std::sync::Wait;
 use std::thread::Threads;
 use std::{env, io};
 
-/// The words of the command line, the program's name first.
+/// The arguments of the command line, the program's name first.
 fn words_of<R: Env + AllocGlobal>(rt: &R) -> io::Result<Vec<String>> {
     let words = env::args(rt)?;
     Ok(words.collect(rt.alloc())?)
 }
 
-/// A number of the command line, below 2^32, and another one where there is none.
+/// The argument at this index as a number below 2^32, or the other number if there is none.
 fn number_of(words: &[String], at: usize, other: u64) -> u64 {
     match words.get(at) {
         Some(word) => word.as_str().parse::<u32>().map_or(other, u64::from),
@@ -38,14 +40,14 @@ fn number_of(words: &[String], at: usize, other: u64) -> u64 {
     }
 }
 
-/// Runs the workload of this name, with inputs of this size in hundredths.
+/// Runs the workload of this name, with inputs of this size in percent.
 fn run<R: Threads + Wait + AllocGlobal + Sync>(
     rt: &R,
     name: &str,
     seed: u64,
     size: u64,
     digest: &mut Digest,
-) -> Result<(), Stopped>
+) -> Result<(), WorkloadFault>
     requires { size ≤ 100 }
 {
     match name {
@@ -55,17 +57,17 @@ fn run<R: Threads + Wait + AllocGlobal + Sync>(
         "query" => Ok(query(rt.alloc(), seed, size, digest)?),
         "net" => net(rt, seed, size, digest),
         "awkward" => awkward(rt, seed, size, digest),
-        _ => Err(Stopped::Words),
+        _ => Err(WorkloadFault::Words),
     }
 }
 
-/// Runs the workload of the words: its name, a seed, and a size in hundredths, which is 100 without it.
+/// Runs the workload of the arguments: its name, a seed, and a size in percent, by default 100.
 fn digest_of<R: Threads + Wait + AllocGlobal + Sync>(
     rt: &R,
     words: &[String],
-) -> Result<Digest, Stopped> {
+) -> Result<Digest, WorkloadFault> {
     let Some(name) = words.get(1) else {
-        return Err(Stopped::Words);
+        return Err(WorkloadFault::Words);
     };
     let (seed, size) = (number_of(words, 2, 1), number_of(words, 3, 100));
     let mut digest = Digest::new();

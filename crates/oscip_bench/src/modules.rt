@@ -1,29 +1,29 @@
-//! Trees of modules in the usual style: many small ones, some larger ones, and one that is very large.
+//! Trees of ordinary modules: many small ones, some larger ones, or one very large one.
 
-use crate::grammar::{Maker, NOUNS, VARIABLES};
+use crate::grammar::{NOUNS, SourceBuilder, VARIABLES};
 use crate::random::{Random, name_of, push_number};
-use oscip_tree::Source;
+use source_tree::Source;
 use std::alloc::{AllocError, Global};
 
-/// What the modules of a tree are like.
+/// The shape of a tree's modules.
 #[derive(Clone, Copy)]
 pub struct Shape {
     pub modules: u64,
-    /// At most so many bytes a module.
+    /// The maximum number of bytes of a module.
     pub bytes: usize,
-    /// How many modules each imports, where so many come before it.
+    /// The number of imports of a module, if that many modules precede it.
     pub imports: u64,
-    /// How many constants, types and variables each module declares, each.
+    /// The number of constants, of types and of variables that a module declares.
     pub width: u64,
-    /// Whether what a module declares has names of its own.
-    pub apart: bool,
-    /// Whether each file stands in a folder, so that the names of the modules don't ascend.
+    /// Whether the declared names of different modules differ.
+    pub suffix: bool,
+    /// Whether each file is in a folder, so that modules sorted by path aren't sorted by name.
     pub folders: bool,
-    /// Whether every sixteenth procedure uses a field and a name that nothing declares.
+    /// Whether every sixteenth procedure uses an undeclared field and an undeclared name.
     pub undeclared: bool,
 }
 
-/// The number of one of the modules that a module imports: each comes from another part of those before it.
+/// The number of an imported module. Each import is from another part of the preceding modules.
 pub fn imported(seed: u64, module: u64, count: u64, nth: u64) -> u64 {
     if count == 0 || module <= count {
         return nth;
@@ -41,154 +41,156 @@ pub fn imported(seed: u64, module: u64, count: u64, nth: u64) -> u64 {
         .wrapping_add(random.below(part))
 }
 
-fn put_imports(maker: &mut Maker) -> Result<(), AllocError> {
-    let count = maker.imports.len();
+fn write_imports(builder: &mut SourceBuilder) -> Result<(), AllocError> {
+    let count = builder.imports.len();
     for at in 0..count {
-        maker.put(if at == 0 { b"  IMPORT " } else { b", " })?;
-        if at >= maker.imports.len() {
+        builder.put(if at == 0 { b"  IMPORT " } else { b", " })?;
+        if at >= builder.imports.len() {
             break;
         }
-        let module = maker.imports[at];
+        let module = builder.imports[at];
         if module % 5 == 0 {
-            maker.alias(module)?;
-            maker.put(b" := ")?;
+            builder.alias(module)?;
+            builder.put(b" := ")?;
         }
-        maker.put(name_of(module).as_slice())?;
+        builder.put(name_of(module).as_slice())?;
     }
     if count > 0 {
-        maker.put(b";\n")?;
+        builder.put(b";\n")?;
     }
     Ok(())
 }
 
-fn put_constants(maker: &mut Maker) -> Result<(), AllocError> {
-    maker.put(b"\n  CONST\n    Limit* = 640; Size* = 3 * Limit; Title = \"A title\"; Tab = 9X;\n")?;
-    for number in 0..maker.width {
-        maker.put(b"    ")?;
-        maker.constant(number)?;
-        maker.put(if number % 3 == 0 { b"* = " } else { b" = " })?;
-        maker.number(number)?;
-        maker.put(b" + Limit;\n")?;
+fn write_constants(builder: &mut SourceBuilder) -> Result<(), AllocError> {
+    builder.put(
+        b"\n  CONST\n    Limit* = 640; Size* = 3 * Limit; Title = \"A title\"; Tab = 9X;\n",
+    )?;
+    for number in 0..builder.width {
+        builder.put(b"    ")?;
+        builder.constant(number)?;
+        builder.put(if number % 3 == 0 { b"* = " } else { b" = " })?;
+        builder.number(number)?;
+        builder.put(b" + Limit;\n")?;
     }
     Ok(())
 }
 
-fn put_fields(maker: &mut Maker, of: u64) -> Result<(), AllocError> {
+fn write_fields(builder: &mut SourceBuilder, of: u64) -> Result<(), AllocError> {
     for number in 0..4 {
-        maker.field(of, number)?;
-        maker.put(if number < 3 { b"*, " } else { b"*: INTEGER;\n" })?;
+        builder.field(of, number)?;
+        builder.put(if number < 3 { b"*, " } else { b"*: INTEGER;\n" })?;
     }
     Ok(())
 }
 
-fn put_types(maker: &mut Maker) -> Result<(), AllocError> {
-    maker.put(b"\n  TYPE\n")?;
-    for number in 0..maker.width {
-        maker.put(b"    ")?;
-        maker.type_name(number)?;
-        maker.put(b"* = POINTER TO ")?;
-        maker.type_name(number)?;
-        maker.put(b"Desc;\n    ")?;
-        maker.type_name(number)?;
-        maker.put(b"Desc* = RECORD\n      next*: ")?;
-        maker.type_name(number)?;
-        maker.put(b"; ")?;
-        put_fields(maker, number)?;
-        maker.put(b"      data*: ARRAY 32 OF INTEGER; name: ARRAY 32 OF CHAR\n    END;\n")?;
+fn write_types(builder: &mut SourceBuilder) -> Result<(), AllocError> {
+    builder.put(b"\n  TYPE\n")?;
+    for number in 0..builder.width {
+        builder.put(b"    ")?;
+        builder.type_name(number)?;
+        builder.put(b"* = POINTER TO ")?;
+        builder.type_name(number)?;
+        builder.put(b"Desc;\n    ")?;
+        builder.type_name(number)?;
+        builder.put(b"Desc* = RECORD\n      next*: ")?;
+        builder.type_name(number)?;
+        builder.put(b"; ")?;
+        write_fields(builder, number)?;
+        builder.put(b"      data*: ARRAY 32 OF INTEGER; name: ARRAY 32 OF CHAR\n    END;\n")?;
     }
     Ok(())
 }
 
-fn put_variables(maker: &mut Maker) -> Result<(), AllocError> {
-    maker.put(b"\n  VAR\n    total*")?;
-    for number in 0..maker.width {
-        maker.put(b", ")?;
-        maker.variable(number)?;
+fn write_variables(builder: &mut SourceBuilder) -> Result<(), AllocError> {
+    builder.put(b"\n  VAR\n    total*")?;
+    for number in 0..builder.width {
+        builder.put(b", ")?;
+        builder.variable(number)?;
     }
-    maker.put(b": INTEGER;\n    table, grid: ARRAY 64, 8 OF INTEGER;\n")
+    builder.put(b": INTEGER;\n    table, grid: ARRAY 64, 8 OF INTEGER;\n")
 }
 
 /// The parameters and variables of a procedure.
-fn put_head(maker: &mut Maker) -> Result<(), AllocError> {
-    maker.own = maker.random.below(22) as usize;
-    if maker.width > 0 {
-        maker.at = maker.random.below(maker.width);
+fn overwrite_header(builder: &mut SourceBuilder) -> Result<(), AllocError> {
+    builder.own = builder.random.below(22) as usize;
+    if builder.width > 0 {
+        builder.at = builder.random.below(builder.width);
     }
-    maker.put(b"(VAR ")?;
+    builder.put(b"(VAR ")?;
     for number in 0..VARIABLES {
-        maker.local(number)?;
-        maker.put(match number {
+        builder.local(number)?;
+        builder.put(match number {
             0 => b": INTEGER; ",
             1 => b": INTEGER);\n    VAR ",
             4 => b": INTEGER; done: BOOLEAN; p, q: ",
             _ => b", ",
         })?;
     }
-    maker.type_name(maker.at)?;
-    maker.put(b";\n  BEGIN\n")
+    builder.type_name(builder.at)?;
+    builder.put(b";\n  BEGIN\n")
 }
 
-fn put_statements(maker: &mut Maker) -> Result<(), AllocError> {
-    let count = 3 + maker.random.below(6);
+fn write_statements(builder: &mut SourceBuilder) -> Result<(), AllocError> {
+    let count = 3 + builder.random.below(6);
     for _ in 0..count {
-        maker.statement()?;
+        builder.statement()?;
     }
     Ok(())
 }
 
-/// A procedure that other modules use, by its name.
-fn put_starred(maker: &mut Maker, name: &[u8]) -> Result<(), AllocError> {
-    maker.put(b"\n  PROCEDURE ")?;
-    maker.put(name)?;
-    maker.put(b"*")?;
-    put_head(maker)?;
-    put_statements(maker)?;
-    maker.put(b"  END ")?;
-    maker.put(name)?;
-    maker.put(b";\n")
+/// Appends an exported procedure of this name.
+fn write_exported(builder: &mut SourceBuilder, name: &[u8]) -> Result<(), AllocError> {
+    builder.put(b"\n  PROCEDURE ")?;
+    builder.put(name)?;
+    builder.put(b"*")?;
+    overwrite_header(builder)?;
+    write_statements(builder)?;
+    builder.put(b"  END ")?;
+    builder.put(name)?;
+    builder.put(b";\n")
 }
 
-fn put_procedure(maker: &mut Maker) -> Result<(), AllocError> {
-    let number = maker.procedures;
-    maker.put(b"\n  PROCEDURE ")?;
-    maker.procedure(number)?;
-    put_head(maker)?;
-    if maker.undeclared && number % 16 == 0 {
-        maker.expand(b"    $v := $p.missing + absent;\n")?;
+fn write_procedure(builder: &mut SourceBuilder) -> Result<(), AllocError> {
+    let number = builder.procedures;
+    builder.put(b"\n  PROCEDURE ")?;
+    builder.procedure(number)?;
+    overwrite_header(builder)?;
+    if builder.undeclared && number % 16 == 0 {
+        builder.expand(b"    $v := $p.missing + absent;\n")?;
     }
-    put_statements(maker)?;
-    maker.put(b"  END ")?;
-    maker.procedure(number)?;
-    maker.put(b";\n")?;
-    maker.procedures = number.saturating_add(1);
+    write_statements(builder)?;
+    builder.put(b"  END ")?;
+    builder.procedure(number)?;
+    builder.put(b";\n")?;
+    builder.procedures = number.saturating_add(1);
     Ok(())
 }
 
-fn put_declarations(maker: &mut Maker) -> Result<(), AllocError> {
-    put_imports(maker)?;
-    put_constants(maker)?;
-    put_types(maker)?;
-    put_variables(maker)?;
-    put_starred(maker, b"Put")?;
-    put_starred(maker, b"Mark")?;
-    put_starred(maker, b"Measure")
+fn write_declarations(builder: &mut SourceBuilder) -> Result<(), AllocError> {
+    write_imports(builder)?;
+    write_constants(builder)?;
+    write_types(builder)?;
+    write_variables(builder)?;
+    write_exported(builder, b"Put")?;
+    write_exported(builder, b"Mark")?;
+    write_exported(builder, b"Measure")
 }
 
-/// Puts a whole module of about so many bytes.
-fn put_module(maker: &mut Maker, name: &[u8], bytes: usize) -> Result<(), AllocError> {
-    maker.put(b"MODULE ")?;
-    maker.put(name)?;
-    maker.put(b";\n")?;
-    put_declarations(maker)?;
+/// Appends a module of about this many bytes.
+fn write_module(builder: &mut SourceBuilder, name: &[u8], bytes: usize) -> Result<(), AllocError> {
+    builder.put(b"MODULE ")?;
+    builder.put(name)?;
+    builder.put(b";\n")?;
+    write_declarations(builder)?;
     for _ in 0..bytes {
-        if maker.text.len() >= bytes.saturating_sub(1500) {
+        if builder.text.len() >= bytes.saturating_sub(1500) {
             break;
         }
-        put_procedure(maker)?;
+        write_procedure(builder)?;
     }
-    maker.put(b"\nBEGIN\n  total := 0\nEND ")?;
-    maker.put(name)?;
-    maker.put(b".\n")
+    builder.put(b"\nBEGIN\n  total := 0\nEND ")?;
+    builder.put(name)?;
+    builder.put(b".\n")
 }
 
 /// The path of a module: its name, or a folder and its name.
@@ -206,25 +208,30 @@ fn path_of(alloc: Global, module: u64, folders: bool) -> Result<String, AllocErr
 }
 
 fn source_of(alloc: Global, seed: u64, shape: &Shape, module: u64) -> Result<Source, AllocError> {
-    let apart = if shape.apart {
+    let suffix = if shape.suffix {
         100 + module % 10_000
     } else {
         0
     };
-    let mut maker = Maker::new(alloc, seed.wrapping_mul(4099) ^ module, shape.width, apart);
-    maker.undeclared = shape.undeclared;
+    let mut builder = SourceBuilder::new(
+        alloc,
+        seed.wrapping_mul(4099) ^ module,
+        shape.width,
+        suffix,
+    );
+    builder.undeclared = shape.undeclared;
     for nth in 0..shape.imports.min(module) {
         let other = imported(seed, module, shape.imports, nth);
-        maker.imports.push(other)?;
+        builder.imports.push(other)?;
     }
-    put_module(&mut maker, name_of(module).as_slice(), shape.bytes)?;
+    write_module(&mut builder, name_of(module).as_slice(), shape.bytes)?;
     Ok(Source {
         path: path_of(alloc, module, shape.folders)?,
-        bytes: maker.text,
+        bytes: builder.text,
     })
 }
 
-/// A tree of a shape, its files in the order of their paths.
+/// A tree of this shape, its files sorted by path.
 pub fn tree_of(alloc: Global, seed: u64, shape: &Shape) -> Result<Vec<Source>, AllocError> {
     let mut sources = Vec::new(alloc);
     for module in 0..shape.modules {
@@ -234,7 +241,7 @@ pub fn tree_of(alloc: Global, seed: u64, shape: &Shape) -> Result<Vec<Source>, A
     Ok(sources)
 }
 
-/// Prices of a tree of a shape: every third module keeps one import, and another one is dear.
+/// Prices for a tree of this shape: every third module has one pinned import and one with a high price.
 pub fn prices_of(alloc: Global, seed: u64, shape: &Shape) -> Result<Vec<u8>, AllocError> {
     let mut text = Vec::new(alloc);
     for module in shape.imports..shape.modules {
@@ -252,7 +259,7 @@ pub fn prices_of(alloc: Global, seed: u64, shape: &Shape) -> Result<Vec<u8>, All
     Ok(text)
 }
 
-/// The names of two modules.
+/// Appends the names of two modules.
 fn push_pair(text: &mut Vec<u8>, from: u64, to: u64) -> Result<(), AllocError> {
     text.extend_from_slice(name_of(from).as_slice())?;
     text.extend_from_slice(b" ")?;

@@ -1,35 +1,35 @@
-//! Networks of seven shapes. Modules have numbers and import only higher ones, so there is no cycle. The first and the last are cut
-//! apart; the imports near them are heavy, so that the cheapest cut lies between.
+//! Networks of seven topologies. Modules are numbers and import only higher ones, so there is no cycle. The cut is between the first and
+//! the last module. Imports near these are heavy, so the minimum cut is in the middle.
 ghost use Rattle.std.specs.Prelude.{◌≤◌};
 
 use crate::random::{Random, name_of, push_number};
 use std::alloc::{AllocError, Global};
 
-/// What imports what.
+/// Which modules import which.
 #[derive(Clone, Copy)]
-pub enum Form {
-    /// Any module one of the next sixteenth.
+pub enum Topology {
+    /// Each module imports some of the next sixteenth of all modules.
     Banded,
-    /// The same, with five of eight weights zero.
+    /// As `Banded`, with five of eight weights zero.
     Zeros,
-    /// The modules of a layer those of the next one, some of the one after it.
+    /// Each module of a layer imports some of the next layer, and some of the layer after that one.
     Layered,
-    /// The more often a module is imported, the more often it is imported again.
+    /// Modules that are imported often are more likely to be imported again.
     Powerlaw,
-    /// Each module the next one, and some a little further on.
+    /// Each module imports the next one, and some a little further on.
     Chain,
-    /// One half the other half.
+    /// Each module of one half imports modules of the other half.
     Wide,
-    /// The module below, and seven near it in the next column.
+    /// Each module imports the one below, and seven near it in the next column.
     Grid,
 }
 
-/// Gathers the imports of a network.
+/// The imports of a network.
 #[derive(Drop)]
 struct Gathered {
     random: Random,
     last: u64,
-    /// Both modules of each import in one number, and its weight.
+    /// Both modules of each import in one number, with the import's weight.
     imports: Vec<(u64, u64)>,
 }
 
@@ -49,7 +49,7 @@ impl Gathered {
         self.random.below(100) + 1000
     }
 
-    /// A number up to this one.
+    /// A random number up to this one.
     fn up_to(&mut self, most: u64) -> u64
         ensures { result ≤ most }
     {
@@ -59,7 +59,7 @@ impl Gathered {
         self.random.below(most + 1)
     }
 
-    /// Heavy imports of the modules behind the first one, and by those in front of the last one.
+    /// Adds heavy imports from the first module, and to the last one.
     fn ends(&mut self, count: u64) -> Result<(), AllocError> {
         for nth in 1..=count.min(self.last / 2) {
             let (first, second) = (self.heavy(), self.heavy());
@@ -189,8 +189,8 @@ impl Gathered {
         Ok(())
     }
 
-    /// Leaves each import once, and puts all into another order.
-    fn settle(&mut self) {
+    /// Removes repeated imports and shuffles the others.
+    fn dedup_and_shuffle(&mut self) {
         self.imports.sort_unstable();
         self.imports.dedup_by(|second, first| second.0 == first.0);
         let count = self.imports.len();
@@ -203,11 +203,11 @@ impl Gathered {
     }
 }
 
-/// The text of a network of a form, with about so many imports, and its first and last module.
+/// A network of this topology, as text, with about this many imports, and its first and last module.
 pub fn network_of(
     alloc: Global,
     seed: u64,
-    form: Form,
+    topology: Topology,
     modules: u64,
     imports: u64,
 ) -> Result<Vec<u8>, AllocError> {
@@ -216,16 +216,16 @@ pub fn network_of(
         last: (modules % 65536).saturating_sub(1),
         imports: Vec::new(alloc),
     };
-    match form {
-        Form::Banded => gathered.banded(imports, 0)?,
-        Form::Zeros => gathered.banded(imports, 5)?,
-        Form::Layered => gathered.layered(imports, modules / 45 + 1)?,
-        Form::Powerlaw => gathered.powerlaw(imports)?,
-        Form::Chain => gathered.chain(imports)?,
-        Form::Wide => gathered.wide(imports)?,
-        Form::Grid => gathered.grid(imports, modules / 90 + 4)?,
+    match topology {
+        Topology::Banded => gathered.banded(imports, 0)?,
+        Topology::Zeros => gathered.banded(imports, 5)?,
+        Topology::Layered => gathered.layered(imports, modules / 45 + 1)?,
+        Topology::Powerlaw => gathered.powerlaw(imports)?,
+        Topology::Chain => gathered.chain(imports)?,
+        Topology::Wide => gathered.wide(imports)?,
+        Topology::Grid => gathered.grid(imports, modules / 90 + 4)?,
     }
-    gathered.settle();
+    gathered.dedup_and_shuffle();
     text_of(alloc, modules, gathered.imports.as_slice())
 }
 

@@ -1,9 +1,9 @@
-//! Random numbers, the same for the same seed, and names made of numbers.
+//! Pseudorandom numbers, and names made from numbers. Equal seeds give equal numbers.
 ghost use Rattle.std.specs.Prelude.{◌<◌};
 
 use std::alloc::AllocError;
 
-/// A generator of three shifts (Marsaglia 2003).
+/// A xorshift generator (Marsaglia 2003).
 #[derive(Drop)]
 pub struct Random {
     state: u64,
@@ -24,15 +24,17 @@ impl Random {
         state
     }
 
-    /// A number below the limit.
+    /// A random number below the limit.
     pub fn below(&mut self, limit: u64) -> u64
+        // The limit is positive.
         requires { 0 < limit }
+        // The result is below the limit.
         ensures { result < limit }
     {
         (self.next() >> 11) % limit
     }
 
-    /// One of the texts.
+    /// One of the elements, at random.
     pub fn pick(&mut self, texts: &[&'static [u8]]) -> &'static [u8] {
         if texts.is_empty() {
             return b"";
@@ -48,7 +50,7 @@ const CONSONANTS: &[u8; 16] = b"bdfghklmnprstvwz";
 
 const VOWELS: &[u8; 5] = b"aeiou";
 
-/// A name of six letters, another one for each number below 512,000. The order of names says nothing of that of numbers.
+/// A name of six letters, a different one for each number below 512,000. The order of names doesn't follow that of numbers.
 pub fn name_of(number: u64) -> [u8; 6] {
     let first = (number % 512_000) * 331_337 % 512_000;
     let (second, third) = (first / 80, first / 6400);
@@ -62,7 +64,7 @@ pub fn name_of(number: u64) -> [u8; 6] {
     ]
 }
 
-/// Puts a number in digits behind the text.
+/// Appends a number in decimal digits.
 pub fn push_number(text: &mut Vec<u8>, number: u64) -> Result<(), AllocError> {
     if number < 10 {
         text.push(b'0' + number as u8)?;

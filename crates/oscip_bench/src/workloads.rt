@@ -1,38 +1,38 @@
-//! The workloads: each makes its inputs from a seed, runs the jobs that a user waits for on them, and adds up what they put.
+//! The workloads. Each generates its inputs from a seed, runs frequent jobs on them, and adds the output to the digest.
 
 ghost use Rattle.std.specs.Prelude.{◌≤◌};
 
-use crate::awkward::{fields_behind_bases, nested};
+use crate::awkward::{inherited_fields, nested};
 use crate::digest::Digest;
 use crate::indexes::{Style, column_of, empty_records, index_of, path_of};
 use crate::jobs;
-use crate::jobs::Stopped;
+use crate::jobs::WorkloadFault;
 use crate::modules::{Shape, prices_of, tree_of};
-use crate::networks::{Form, network_of};
+use crate::networks::{Topology, network_of};
 use crate::random::{Random, name_of, push_number};
 use oscip_job::{AskedSymbol, IndexQuestion, Places, Position};
 use std::alloc::{AllocError, Global};
 use std::sync::Wait;
 use std::thread::Threads;
 
-/// Many small modules with names in common.
+/// Many small modules with common names.
 const SMALL: Shape = Shape {
     modules: 4096,
     bytes: 6000,
     imports: 14,
     width: 3,
-    apart: false,
+    suffix: false,
     folders: false,
     undeclared: false,
 };
 
-/// Some larger modules in folders, with names of their own.
+/// Some larger modules in folders, with different names.
 const MIDDLE: Shape = Shape {
     modules: 500,
     bytes: 19_000,
     imports: 6,
     width: 9,
-    apart: true,
+    suffix: true,
     folders: true,
     undeclared: false,
 };
@@ -43,35 +43,35 @@ const LARGE: Shape = Shape {
     bytes: 16_000_000,
     imports: 0,
     width: 12,
-    apart: false,
+    suffix: false,
     folders: false,
     undeclared: false,
 };
 
-/// Modules with little in them, each of which reaches some seven of ten before it.
+/// Small modules, each of which reaches some seven of ten preceding ones.
 const DENSE: Shape = Shape {
     modules: 2800,
     bytes: 100,
     imports: 14,
     width: 1,
-    apart: false,
+    suffix: false,
     folders: false,
     undeclared: false,
 };
 
-/// A shape with this part of the modules, in hundredths.
-fn part(shape: Shape, hundredths: u64) -> Shape {
-    let modules = (shape.modules.saturating_mul(hundredths) / 100).max(1);
+/// The shape with this percentage of the modules.
+fn part(shape: Shape, percent: u64) -> Shape {
+    let modules = (shape.modules.saturating_mul(percent) / 100).max(1);
     Shape { modules, ..shape }
 }
 
-/// A shape with modules of this part of the bytes, in hundredths.
-fn shorter(shape: Shape, hundredths: u64) -> Shape {
-    let bytes = shape.bytes.saturating_mul(hundredths as usize) / 100;
+/// The shape with modules of this percentage of the bytes.
+fn shorter(shape: Shape, percent: u64) -> Shape {
+    let bytes = shape.bytes.saturating_mul(percent as usize) / 100;
     Shape { bytes, ..shape }
 }
 
-/// The name of a module as a text.
+/// The name of a module as a string.
 fn text_of_name(alloc: Global, module: u64) -> Result<String, AllocError> {
     let name = name_of(module);
     String::from_str(alloc, str::from_utf8(name.as_slice()).unwrap_or(""))
@@ -82,7 +82,7 @@ fn index_tree<R: Threads + Wait + AllocGlobal + Sync>(
     seed: u64,
     shape: Shape,
     digest: &mut Digest,
-) -> Result<(), Stopped> {
+) -> Result<(), WorkloadFault> {
     let sources = tree_of(rt.alloc(), seed, &shape)?;
     jobs::index(rt, sources.as_slice(), digest)
 }
@@ -93,7 +93,8 @@ pub fn index<R: Threads + Wait + AllocGlobal + Sync>(
     seed: u64,
     size: u64,
     digest: &mut Digest,
-) -> Result<(), Stopped>
+) -> Result<(), WorkloadFault>
+    // The size is at most 100 %.
     requires { size ≤ 100 }
 {
     index_tree(rt, seed, part(SMALL, size * 2 / 5), digest)?;
@@ -106,7 +107,7 @@ fn unresolved_in<R: Threads + Wait + AllocGlobal + Sync>(
     seed: u64,
     shape: Shape,
     digest: &mut Digest,
-) -> Result<(), Stopped> {
+) -> Result<(), WorkloadFault> {
     let shape = Shape {
         undeclared: true,
         ..shape
@@ -115,26 +116,26 @@ fn unresolved_in<R: Threads + Wait + AllocGlobal + Sync>(
     jobs::unresolved(rt, sources.as_slice(), digest)
 }
 
-/// What stands for nothing in three trees.
+/// The unresolved identifiers of three trees.
 pub fn unresolved<R: Threads + Wait + AllocGlobal + Sync>(
     rt: &R,
     seed: u64,
     size: u64,
     digest: &mut Digest,
-) -> Result<(), Stopped> {
+) -> Result<(), WorkloadFault> {
     unresolved_in(rt, seed, part(SMALL, size / 2), digest)?;
     unresolved_in(rt, seed, part(MIDDLE, size / 2), digest)?;
     unresolved_in(rt, seed, shorter(LARGE, size / 3), digest)
 }
 
-/// Cuts a tree from its last module to one that most modules reach, and checks the report.
+/// Computes a cut between the last module of a tree and one that most modules reach, and checks the report.
 fn cut_tree<R: Threads + Wait + AllocGlobal + Sync>(
     rt: &R,
     seed: u64,
     shape: Shape,
     is_priced: bool,
     digest: &mut Digest,
-) -> Result<(), Stopped> {
+) -> Result<(), WorkloadFault> {
     let alloc = rt.alloc();
     let sources = tree_of(alloc, seed, &shape)?;
     let prices = prices_of(alloc, seed, &shape)?;
@@ -155,18 +156,18 @@ fn cut_tree<R: Threads + Wait + AllocGlobal + Sync>(
     )
 }
 
-/// Cuts of two trees, one with prices, and checks of their reports.
+/// Cuts of two trees, one of them with prices, and checks of their reports.
 pub fn cut<R: Threads + Wait + AllocGlobal + Sync>(
     rt: &R,
     seed: u64,
     size: u64,
     digest: &mut Digest,
-) -> Result<(), Stopped> {
+) -> Result<(), WorkloadFault> {
     cut_tree(rt, seed, part(SMALL, size), false, digest)?;
     cut_tree(rt, seed, part(MIDDLE, size), true, digest)
 }
 
-/// The question for these places of what stands in a line of a document.
+/// The query for these locations of the symbol in a line of a document.
 fn question_of(
     alloc: Global,
     places: Places,
@@ -184,7 +185,7 @@ fn question_of(
     Ok(IndexQuestion::PlacesOf { places, symbol })
 }
 
-/// Asks an index for definitions and for uses, each time for what stands in another line.
+/// Queries an index for definitions and for references, each time of the symbol in another line.
 fn ask_index(
     alloc: Global,
     seed: u64,
@@ -207,8 +208,9 @@ fn ask_index(
     Ok(())
 }
 
-/// Questions to indexes in the style of two producers.
+/// Queries on indexes in the style of two producers.
 pub fn query(alloc: Global, seed: u64, size: u64, digest: &mut Digest) -> Result<(), AllocError>
+    // The size is at most 100 %.
     requires { size ≤ 100 }
 {
     ask_index(alloc, seed, Style::TypeScript, size * 3, 1000, digest)?;
@@ -218,61 +220,63 @@ pub fn query(alloc: Global, seed: u64, size: u64, digest: &mut Digest) -> Result
 fn cut_network<R: Threads + Wait + AllocGlobal + Sync>(
     rt: &R,
     seed: u64,
-    form: Form,
+    topology: Topology,
     size: u64,
     digest: &mut Digest,
-) -> Result<(), Stopped>
+) -> Result<(), WorkloadFault>
     requires { size ≤ 100 }
 {
     let alloc = rt.alloc();
     let modules = (size * 8192 / 100).max(64);
-    let network = network_of(alloc, seed, form, modules, modules.saturating_mul(7))?;
+    let network = network_of(alloc, seed, topology, modules, modules.saturating_mul(7))?;
     let from = text_of_name(alloc, 0)?;
     let to = text_of_name(alloc, modules - 1)?;
     jobs::cut_in_net(rt, network.as_slice(), from.as_str(), to.as_str(), digest);
     Ok(())
 }
 
-const FORMS: [Form; 7] = [
-    Form::Banded,
-    Form::Zeros,
-    Form::Layered,
-    Form::Powerlaw,
-    Form::Chain,
-    Form::Wide,
-    Form::Grid,
+const TOPOLOGIES: [Topology; 7] = [
+    Topology::Banded,
+    Topology::Zeros,
+    Topology::Layered,
+    Topology::Powerlaw,
+    Topology::Chain,
+    Topology::Wide,
+    Topology::Grid,
 ];
 
-/// Cuts of networks of seven shapes and three sizes, and checks of their reports.
+/// Cuts of networks of seven topologies and three sizes, and checks of their reports.
 pub fn net<R: Threads + Wait + AllocGlobal + Sync>(
     rt: &R,
     seed: u64,
     size: u64,
     digest: &mut Digest,
-) -> Result<(), Stopped>
+) -> Result<(), WorkloadFault>
+    // The size is at most 100 %.
     requires { size ≤ 100 }
 {
-    for form in FORMS {
-        cut_network(rt, seed, form, size, digest)?;
-        cut_network(rt, seed.wrapping_add(1), form, size * 7 / 10, digest)?;
-        cut_network(rt, seed.wrapping_add(2), form, size / 8, digest)?;
+    for topology in TOPOLOGIES {
+        cut_network(rt, seed, topology, size, digest)?;
+        cut_network(rt, seed.wrapping_add(1), topology, size * 7 / 10, digest)?;
+        cut_network(rt, seed.wrapping_add(2), topology, size / 8, digest)?;
     }
     Ok(())
 }
 
-/// Deep nests, fields behind many bases, modules that reach most others, and an index of empty records.
+/// Deeply nested modules, inherited fields, modules that reach most others, and an index of empty records.
 pub fn awkward<R: Threads + Wait + AllocGlobal + Sync>(
     rt: &R,
     seed: u64,
     size: u64,
     digest: &mut Digest,
-) -> Result<(), Stopped>
+) -> Result<(), WorkloadFault>
+    // The size is at most 100 %.
     requires { size ≤ 100 }
 {
     let alloc = rt.alloc();
     let deep = nested(alloc, seed, size as usize * 30_000)?;
     jobs::index(rt, deep.as_slice(), digest)?;
-    let fields = fields_behind_bases(alloc, seed, size * 60, size * 3)?;
+    let fields = inherited_fields(alloc, seed, size * 60, size * 3)?;
     jobs::unresolved(rt, fields.as_slice(), digest)?;
     index_tree(rt, seed, part(DENSE, size), digest)?;
     let empty = empty_records(alloc, size * 50_000)?;

@@ -22,7 +22,7 @@ use Rattle.clap.specs.declared.builder.action.ArgAction.TheVariants as actions
 use Rattle.clap.specs.declared.builder.value_parser.Reading.TheVariants.{WithoutMinus}
 use Rattle.clap.specs.declared.builder.value_parser.ValueParser.{ValueParser}
 use Rattle.clap.specs.declared.builder.value_parser.ValueParser.TheVariants as parsers
-use Rattle.oscip_job.specs.Jobs.{oscip, NamesNumbers, NamesPosition, NamesWithin, NamesWorkers}
+use Rattle.oscip_job.specs.Jobs.{oscip, NamesNumbers, NamesPosition, NamesWithin, HasWorkersInRange}
 use Rattle.oscip_job.proofs.Ranged.{command_kept, found_kept, AllGood, AreAllRight, AreKept, AreRight, IsRight}
 
 -- of one argument, by its id, and of its range
@@ -139,7 +139,7 @@ command_names : (words : List Text) → fault_of oscip words ≡ [] → IfSome (
 command_names words e =
     let line = named (codes "LINE") 0 2147483647 (omega arith) line_right words e in
     let column = named (codes "COL") 0 2147483647 (omega arith) column_right words e in
-    both (subcommand_of oscip words) NamesWorkers NamesPosition (named (codes "workers") 1 64 (omega arith) workers_right words e)
+    both (subcommand_of oscip words) HasWorkersInRange NamesPosition (named (codes "workers") 1 64 (omega arith) workers_right words e)
     (both (subcommand_of oscip words) (NamesWithin (codes "LINE") 0 2147483647) (NamesWithin (codes "COL") 0 2147483647) line column)
 
 -- so for what a parse by these rules answers

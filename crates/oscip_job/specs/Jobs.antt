@@ -264,16 +264,16 @@ FindsNumber rows id n =
     (text : Text) × (one_of id rows ≡ Some text) × IsNumeral 10 (without_leading_plus text) × (n ≡ digits_value 10 (without_leading_plus text))
 
 -- the number of workers is 1 to 64
-abbrev pub MayWork : ℕ → Type 0
-MayWork workers = (1 ≤ workers) × (workers ≤ 64)
+abbrev pub IsWorkerCount : ℕ → Type 0
+IsWorkerCount workers = (1 ≤ workers) × (workers ≤ 64)
 
 -- each number below 2^32 that clap found for the argument is between these bounds
 abbrev pub NamesWithin : Text → ℕ → ℕ → List Row → Type 0
 NamesWithin id least most rows = (n : ℕ) → n < 2 ^ 32 → FindsNumber rows id n → (least ≤ n) × (n ≤ most)
 
 -- the number of --workers is 1 to 64
-abbrev pub NamesWorkers : List Row → Type 0
-NamesWorkers rows = NamesWithin (codes "workers") 1 64 rows
+abbrev pub HasWorkersInRange : List Row → Type 0
+HasWorkersInRange rows = NamesWithin (codes "workers") 1 64 rows
 
 -- the numbers of LINE and COL are 0 to 2147483647
 abbrev pub NamesPosition : List Row → Type 0
@@ -281,19 +281,19 @@ NamesPosition rows = NamesWithin (codes "LINE") 0 2147483647 rows × NamesWithin
 
 -- the numbers of --workers, LINE and COL are in range
 abbrev pub NamesNumbers : List Row → Type 0
-NamesNumbers rows = NamesWorkers rows × NamesPosition rows
+NamesNumbers rows = HasWorkersInRange rows × NamesPosition rows
 
 -- the flag was given
-abbrev pub IsGiven : List Row → Text → Type 0
-IsGiven rows id = Finds rows id (codes "true")
+abbrev pub IsPresent : List Row → Text → Type 0
+IsPresent rows id = Finds rows id (codes "true")
 
 -- the number, counted from 0, of an argument that counts from 1 with --editor and from 0 without it
 abbrev pub FindsFromZero : List Row → Text → ℕ → Type 0
-FindsFromZero rows id n = (IsGiven rows (codes "editor") × FindsNumber rows id (n + 1)) ⊎ ((IsGiven rows (codes "editor") → ⊥) × FindsNumber rows id n)
+FindsFromZero rows id n = (IsPresent rows (codes "editor") × FindsNumber rows id (n + 1)) ⊎ ((IsPresent rows (codes "editor") → ⊥) × FindsNumber rows id n)
 
 -- the position has the values of PATH, LINE and COL
-abbrev pub HasPlace : List Row → Position → Type 0
-HasPlace rows at =
+abbrev pub FindsPosition : List Row → Position → Type 0
+FindsPosition rows at =
     Finds rows (codes "PATH") (string_bytes at.path) × FindsFromZero rows (codes "LINE") at.line × FindsFromZero rows (codes "COL") at.column
 
 -- the argument wasn't given
@@ -302,20 +302,20 @@ LacksValue rows id = first_of id rows ≡ None
 
 -- the symbol has the values of its arguments: a position and no --symbol, or --symbol and neither LINE nor COL
 abbrev pub HasAskedSymbol : List Row → AskedSymbol → Type 0
-HasAskedSymbol rows (At position) = LacksValue rows (codes "symbol") × HasPlace rows position
+HasAskedSymbol rows (At position) = LacksValue rows (codes "symbol") × FindsPosition rows position
 HasAskedSymbol rows (Named symbol path) =
     Finds rows (codes "symbol") (string_bytes symbol) × MayFind rows (codes "PATH") path × LacksValue rows (codes "LINE") × LacksValue rows (codes "COL")
 
 -- the question about an index has the values of its arguments
 abbrev pub HasIndexQuestion : List Row → IndexQuestion → Type 0
 HasIndexQuestion rows (PlacesOf places symbol) = HasAskedSymbol rows symbol
-HasIndexQuestion rows (SymbolAt position) = HasPlace rows position
+HasIndexQuestion rows (SymbolAt position) = FindsPosition rows position
 HasIndexQuestion rows (Symbols path) = MayFind rows (codes "PATH") path
 
 -- the output is standard output if --hex is given and neither OUT nor --atomic is, or the file OUT if --hex isn't given
 abbrev pub HasOutput : List Row → Output → Type 0
-HasOutput rows outputs.Hex = IsGiven rows (codes "hex") × LacksValue rows (codes "OUT") × (IsGiven rows (codes "atomic") → ⊥)
-HasOutput rows (outputs.File path) = (IsGiven rows (codes "hex") → ⊥) × Finds rows (codes "OUT") (string_bytes path)
+HasOutput rows outputs.Hex = IsPresent rows (codes "hex") × LacksValue rows (codes "OUT") × (IsPresent rows (codes "atomic") → ⊥)
+HasOutput rows (outputs.File path) = (IsPresent rows (codes "hex") → ⊥) × Finds rows (codes "OUT") (string_bytes path)
 
 -- the texts that clap found for the argument, none if it wasn't given
 abbrev pub FindsAll : List Row → Text → List Text → Type 0
@@ -325,11 +325,11 @@ FindsAll rows id found = unwrap_or (all_of id rows) [] ≡ found
 abbrev pub HasTree : List Row → SourceTree → Type 0
 HasTree rows tree =
     Finds rows (codes "DIR") (string_bytes tree.folder) × FindsAll rows (codes "exclude") (map string_bytes tree.excluded.items)
-    × (tree.skips_faults ≡ true ↔ IsGiven rows (codes "skip-faults")) × (tree.for_editor ≡ true ↔ IsGiven rows (codes "editor"))
+    × (tree.skips_faults ≡ true ↔ IsPresent rows (codes "skip-faults")) × (tree.for_editor ≡ true ↔ IsPresent rows (codes "editor"))
 
 -- --atomic was given, or --skip-faults, which implies it
 abbrev pub AsksForAtomic : List Row → Type 0
-AsksForAtomic rows = IsGiven rows (codes "atomic") ⊎ IsGiven rows (codes "skip-faults")
+AsksForAtomic rows = IsPresent rows (codes "atomic") ⊎ IsPresent rows (codes "skip-faults")
 
 -- the request for an index has the values of its arguments
 abbrev pub HasIndexing : List Row → Indexing → Type 0
@@ -353,12 +353,12 @@ HasReported rows it = Finds rows (codes "REPORT") (string_bytes it.report) × Ma
 
 -- the request for a picture has the values of its arguments, and is by flow if and only if --flow was given
 abbrev pub HasDrawing : List Row → Drawing → Type 0
-HasDrawing rows it = HasReported rows it.reported × (it.by_flow ≡ true ↔ IsGiven rows (codes "flow"))
+HasDrawing rows it = HasReported rows it.reported × (it.by_flow ≡ true ↔ IsPresent rows (codes "flow"))
 
 -- the direction is against the imports if and only if --back was given
 abbrev pub HasDirection : List Row → Direction → Type 0
-HasDirection rows Imported = IsGiven rows (codes "back") → ⊥
-HasDirection rows Importing = IsGiven rows (codes "back")
+HasDirection rows Imported = IsPresent rows (codes "back") → ⊥
+HasDirection rows Importing = IsPresent rows (codes "back")
 
 -- the request for reached modules has the values of its arguments
 abbrev pub HasReaching : List Row → Reaching → Type 0
@@ -386,7 +386,7 @@ abbrev pub HasValues : List Row → Job → Type 0
 HasValues rows (Tree tree question) = HasTree rows tree × HasTreeQuestion rows question
 HasValues rows (Network network question) = Finds rows (codes "FILE") (string_bytes network) × HasNetQuestion rows question
 HasValues rows (Ask index question for_editor) =
-    Finds rows (codes "INDEX") (string_bytes index) × HasIndexQuestion rows question × (for_editor ≡ true ↔ IsGiven rows (codes "editor"))
+    Finds rows (codes "INDEX") (string_bytes index) × HasIndexQuestion rows question × (for_editor ≡ true ↔ IsPresent rows (codes "editor"))
 HasValues rows (Index indexing) = HasIndexing rows indexing
 HasValues rows (Unresolved tree) = HasTree rows tree
 
@@ -433,7 +433,7 @@ Holds (Some found) job = (found.0 ≡ command_name job) × HasValues found.1 job
 
 -- a question about a network that has a number of workers has 1 to 64 of them
 abbrev pub HasNetWorkers : NetQuestion → Type 0
-HasNetWorkers (Cut cutting) = MayWork cutting.workers
+HasNetWorkers (Cut cutting) = IsWorkerCount cutting.workers
 HasNetWorkers (Check reported) = Unit {0}
 HasNetWorkers (Dot drawing) = Unit {0}
 HasNetWorkers (Why names) = Unit {0}
@@ -453,7 +453,7 @@ abbrev pub HasWorkers : Job → Type 0
 HasWorkers (Tree tree question) = HasTreeWorkers question
 HasWorkers (Network network question) = HasNetWorkers question
 HasWorkers (Ask index question for_editor) = Unit {0}
-HasWorkers (Index indexing) = MayWork indexing.workers
+HasWorkers (Index indexing) = IsWorkerCount indexing.workers
 HasWorkers (Unresolved tree) = Unit {0}
 
 -- the position's line and column are at most 2147483647

@@ -17,16 +17,16 @@ use std::alloc::{AllocError, Global};
 
 /// A command under construction, or the failed allocation that stopped it, which each later step returns.
 /// The command is boxed, so that the contract of the next step refers to it by one name.
-type Made<'a> = Result<Box<Command<'a>>, AllocError>;
+type CommandResult<'a> = Result<Box<Command<'a>>, AllocError>;
 
-fn boxed<'a>(alloc: Global, command: Command<'a>) -> Made<'a>
+fn boxed<'a>(alloc: Global, command: Command<'a>) -> CommandResult<'a>
     ensures { IfOk result (λ c. c.value ≡ command.entry) }
 {
     Ok(Box::new(alloc, command)?)
 }
 
 /// A command with this name, the text `about` in its help, and the text `end` after its help.
-fn named<'a>(alloc: Global, name: &'a str, about: &'a str, end: &'a str) -> Made<'a>
+fn named<'a>(alloc: Global, name: &'a str, about: &'a str, end: &'a str) -> CommandResult<'a>
     ensures { IfOk result (λ c. Reads (new_app name.entry.now) c.value) }
 {
     let command = Command::new(alloc, name).about(about).after_help(end);
@@ -34,7 +34,7 @@ fn named<'a>(alloc: Global, name: &'a str, about: &'a str, end: &'a str) -> Made
 }
 
 /// Adds an argument to a command. The argument isn't global: it belongs to this command alone.
-fn with_arg<'a>(alloc: Global, command: Box<Command<'a>>, arg: Arg<'a>) -> Made<'a>
+fn with_arg<'a>(alloc: Global, command: Box<Command<'a>>, arg: Arg<'a>) -> CommandResult<'a>
     requires { arg.global ≡ false }
     ensures { (app : App) → Reads app command.entry.value → IfOk result (λ c. Reads (with_rule app (rule_of arg.entry)) c.value) }
 {
@@ -43,7 +43,12 @@ fn with_arg<'a>(alloc: Global, command: Box<Command<'a>>, arg: Arg<'a>) -> Made<
 }
 
 /// Adds a required argument.
-fn with_required<'a>(alloc: Global, command: Made<'a>, id: &'a str, help: &'a str) -> Made<'a>
+fn with_required<'a>(
+    alloc: Global,
+    command: CommandResult<'a>,
+    id: &'a str,
+    help: &'a str,
+) -> CommandResult<'a>
     ensures { (app : App) → IfOk command.entry (λ c. Reads app c.value) → IfOk result (λ c. Reads (with_rule app (required_rule id.entry.now)) c.value) }
 {
     let command = command?;
@@ -52,7 +57,12 @@ fn with_required<'a>(alloc: Global, command: Made<'a>, id: &'a str, help: &'a st
 }
 
 /// Adds an optional argument.
-fn with_value<'a>(alloc: Global, command: Made<'a>, id: &'a str, help: &'a str) -> Made<'a>
+fn with_value<'a>(
+    alloc: Global,
+    command: CommandResult<'a>,
+    id: &'a str,
+    help: &'a str,
+) -> CommandResult<'a>
     ensures { (app : App) → IfOk command.entry (λ c. Reads app c.value) → IfOk result (λ c. Reads (with_rule app (new_rule id.entry.now)) c.value) }
 {
     let command = command?;
@@ -61,7 +71,7 @@ fn with_value<'a>(alloc: Global, command: Made<'a>, id: &'a str, help: &'a str) 
 }
 
 /// Sets the usage line of a command. The default doesn't show which arguments go together.
-fn with_usage<'a>(alloc: Global, command: Made<'a>, usage: &'a str) -> Made<'a>
+fn with_usage<'a>(alloc: Global, command: CommandResult<'a>, usage: &'a str) -> CommandResult<'a>
     ensures { (app : App) → IfOk command.entry (λ c. Reads app c.value) → IfOk result (λ c. Reads app c.value) }
 {
     let command = command?;
@@ -71,10 +81,10 @@ fn with_usage<'a>(alloc: Global, command: Made<'a>, usage: &'a str) -> Made<'a>
 /// Adds the names of two modules, A and B, with these help texts.
 fn with_modules<'a>(
     alloc: Global,
-    command: Made<'a>,
+    command: CommandResult<'a>,
     first_help: &'a str,
     second_help: &'a str,
-) -> Made<'a>
+) -> CommandResult<'a>
     ensures { (app : App) → IfOk command.entry (λ c. Reads app c.value) → IfOk result (λ c. Reads (with_modules app) c.value) }
 {
     let command = with_required(alloc, command, "A", first_help);
@@ -82,7 +92,7 @@ fn with_modules<'a>(
 }
 
 /// Adds the option `--workers`: the number of threads, from 1 to 64.
-fn with_workers<'a>(alloc: Global, command: Made<'a>) -> Made<'a>
+fn with_workers<'a>(alloc: Global, command: CommandResult<'a>) -> CommandResult<'a>
     ensures { (app : App) → IfOk command.entry (λ c. Reads app c.value) → IfOk result (λ c. Reads (with_workers app) c.value) }
 {
     let command = command?;
@@ -96,7 +106,7 @@ fn with_workers<'a>(alloc: Global, command: Made<'a>) -> Made<'a>
 }
 
 /// Adds the option `--prices`: the file of prices.
-fn with_prices<'a>(alloc: Global, command: Made<'a>) -> Made<'a>
+fn with_prices<'a>(alloc: Global, command: CommandResult<'a>) -> CommandResult<'a>
     ensures { (app : App) → IfOk command.entry (λ c. Reads app c.value) → IfOk result (λ c. Reads (with_prices app) c.value) }
 {
     let command = command?;
@@ -108,7 +118,7 @@ fn with_prices<'a>(alloc: Global, command: Made<'a>) -> Made<'a>
 }
 
 /// Adds the options of a command that cuts.
-fn with_cut_options<'a>(alloc: Global, command: Made<'a>) -> Made<'a>
+fn with_cut_options<'a>(alloc: Global, command: CommandResult<'a>) -> CommandResult<'a>
     ensures { (app : App) → IfOk command.entry (λ c. Reads app c.value) → IfOk result (λ c. Reads (with_prices (with_workers app)) c.value) }
 {
     let command = with_workers(alloc, command);
@@ -116,7 +126,7 @@ fn with_cut_options<'a>(alloc: Global, command: Made<'a>) -> Made<'a>
 }
 
 /// Adds a report, and the option of the prices that the report was made with.
-fn with_report<'a>(alloc: Global, command: Made<'a>, help: &'a str) -> Made<'a>
+fn with_report<'a>(alloc: Global, command: CommandResult<'a>, help: &'a str) -> CommandResult<'a>
     ensures { (app : App) → IfOk command.entry (λ c. Reads app c.value) → IfOk result (λ c. Reads (with_prices (with_rule app (required_rule (codes "REPORT")))) c.value) }
 {
     let command = with_required(alloc, command, "REPORT", help);
@@ -131,7 +141,7 @@ fn cutting<'a>(
     end: &'a str,
     id: &'a str,
     help: &'a str,
-) -> Made<'a>
+) -> CommandResult<'a>
     ensures { IfOk result (λ c. Reads (with_prices (with_workers (with_modules (with_rule (new_app name.entry.now) (required_rule id.entry.now))))) c.value) }
 {
     let command = named(alloc, name, about, end);
@@ -154,7 +164,7 @@ fn checking<'a>(
     id: &'a str,
     help: &'a str,
     report_help: &'a str,
-) -> Made<'a>
+) -> CommandResult<'a>
     ensures { IfOk result (λ c. Reads (with_prices (with_rule (with_rule (new_app name.entry.now) (required_rule id.entry.now)) (required_rule (codes "REPORT")))) c.value) }
 {
     let command = named(alloc, name, about, end);
@@ -163,7 +173,12 @@ fn checking<'a>(
 }
 
 /// Adds a flag, which is an option without a value.
-fn with_flag<'a>(alloc: Global, command: Made<'a>, id: &'a str, help: &'a str) -> Made<'a>
+fn with_flag<'a>(
+    alloc: Global,
+    command: CommandResult<'a>,
+    id: &'a str,
+    help: &'a str,
+) -> CommandResult<'a>
     ensures { (app : App) → IfOk command.entry (λ c. Reads app c.value) → IfOk result (λ c. Reads (with_rule app (flag_rule id.entry.now)) c.value) }
 {
     let command = command?;
@@ -175,7 +190,7 @@ fn with_flag<'a>(alloc: Global, command: Made<'a>, id: &'a str, help: &'a str) -
 }
 
 /// Adds the option `--exclude`: patterns of files to leave out.
-fn with_exclude<'a>(alloc: Global, command: Made<'a>) -> Made<'a>
+fn with_exclude<'a>(alloc: Global, command: CommandResult<'a>) -> CommandResult<'a>
     ensures { (app : App) → IfOk command.entry (λ c. Reads app c.value) → IfOk result (λ c. Reads (with_rule app exclude_rule) c.value) }
 {
     let command = command?;
@@ -188,14 +203,14 @@ fn with_exclude<'a>(alloc: Global, command: Made<'a>) -> Made<'a>
 }
 
 /// Adds the flag `--editor`: locations for editors.
-fn with_editor<'a>(alloc: Global, command: Made<'a>, help: &'a str) -> Made<'a>
+fn with_editor<'a>(alloc: Global, command: CommandResult<'a>, help: &'a str) -> CommandResult<'a>
     ensures { (app : App) → IfOk command.entry (λ c. Reads app c.value) → IfOk result (λ c. Reads (with_editor app) c.value) }
 {
     with_flag(alloc, command, "editor", help)
 }
 
 /// Adds the options of a folder whose files are read.
-fn with_walk_options<'a>(alloc: Global, command: Made<'a>) -> Made<'a>
+fn with_walk_options<'a>(alloc: Global, command: CommandResult<'a>) -> CommandResult<'a>
     ensures { (app : App) → IfOk command.entry (λ c. Reads app c.value) → IfOk result (λ c. Reads (with_walk_options app) c.value) }
 {
     let command = with_exclude(alloc, command);
@@ -203,7 +218,11 @@ fn with_walk_options<'a>(alloc: Global, command: Made<'a>) -> Made<'a>
 }
 
 /// Adds the options of a folder whose modules are read, with `--skip-faults`.
-fn with_tree_options<'a>(alloc: Global, command: Made<'a>, skip_help: &'a str) -> Made<'a>
+fn with_tree_options<'a>(
+    alloc: Global,
+    command: CommandResult<'a>,
+    skip_help: &'a str,
+) -> CommandResult<'a>
     ensures { (app : App) → IfOk command.entry (λ c. Reads app c.value) → IfOk result (λ c. Reads (with_tree_options app) c.value) }
 {
     let command = with_walk_options(alloc, command);
@@ -211,7 +230,7 @@ fn with_tree_options<'a>(alloc: Global, command: Made<'a>, skip_help: &'a str) -
 }
 
 /// Adds the flag `--flow`: the picture by flow.
-fn with_flow<'a>(alloc: Global, command: Made<'a>) -> Made<'a>
+fn with_flow<'a>(alloc: Global, command: CommandResult<'a>) -> CommandResult<'a>
     ensures { (app : App) → IfOk command.entry (λ c. Reads app c.value) → IfOk result (λ c. Reads (with_flow app) c.value) }
 {
     with_flag(
@@ -223,7 +242,7 @@ fn with_flow<'a>(alloc: Global, command: Made<'a>) -> Made<'a>
 }
 
 /// Adds the names of two modules, M and N.
-fn with_users<'a>(alloc: Global, command: Made<'a>) -> Made<'a>
+fn with_users<'a>(alloc: Global, command: CommandResult<'a>) -> CommandResult<'a>
     ensures { (app : App) → IfOk command.entry (λ c. Reads app c.value) → IfOk result (λ c. Reads (with_rule (with_rule app (required_rule (codes "M"))) (required_rule (codes "N"))) c.value) }
 {
     let command = with_required(alloc, command, "M", "The name of the module that uses N");
@@ -235,7 +254,7 @@ fn with_users<'a>(alloc: Global, command: Made<'a>) -> Made<'a>
     )
 }
 
-fn crossings_command<'a>(alloc: Global) -> Made<'a>
+fn crossings_command<'a>(alloc: Global) -> CommandResult<'a>
     ensures { IfOk result (λ c. Reads crossings_app c.value) }
 {
     let command = named(
@@ -249,7 +268,7 @@ fn crossings_command<'a>(alloc: Global) -> Made<'a>
     with_tree_options(alloc, command, SKIP_FAULTS_HELP)
 }
 
-fn net_command<'a>(alloc: Global) -> Made<'a>
+fn net_command<'a>(alloc: Global) -> CommandResult<'a>
     ensures { IfOk result (λ c. Reads net_app c.value) }
 {
     let command = named(
@@ -262,7 +281,7 @@ fn net_command<'a>(alloc: Global) -> Made<'a>
     with_tree_options(alloc, command, SKIP_FAULTS_HELP)
 }
 
-fn rules_command<'a>(alloc: Global) -> Made<'a>
+fn rules_command<'a>(alloc: Global) -> CommandResult<'a>
     ensures { IfOk result (λ c. Reads rules_app c.value) }
 {
     let command = named(
@@ -284,7 +303,7 @@ fn chaining<'a>(
     end: &'a str,
     id: &'a str,
     help: &'a str,
-) -> Made<'a>
+) -> CommandResult<'a>
     ensures { IfOk result (λ c. Reads (with_modules (with_rule (new_app name.entry.now) (required_rule id.entry.now))) c.value) }
 {
     let command = named(alloc, name, about, end);
@@ -298,14 +317,14 @@ fn chaining<'a>(
 }
 
 /// Adds the name of a module, and the flag `--back` for the direction against the imports.
-fn with_reached<'a>(alloc: Global, command: Made<'a>) -> Made<'a>
+fn with_reached<'a>(alloc: Global, command: CommandResult<'a>) -> CommandResult<'a>
     ensures { (app : App) → IfOk command.entry (λ c. Reads app c.value) → IfOk result (λ c. Reads (with_reached app) c.value) }
 {
     let command = with_required(alloc, command, "M", "The name of the module");
     with_flag(alloc, command, "back", "List the modules that reach M")
 }
 
-fn reach_command<'a>(alloc: Global) -> Made<'a>
+fn reach_command<'a>(alloc: Global) -> CommandResult<'a>
     ensures { IfOk result (λ c. Reads reach_app c.value) }
 {
     let command = named(
@@ -319,7 +338,7 @@ fn reach_command<'a>(alloc: Global) -> Made<'a>
     with_tree_options(alloc, command, SKIP_FAULTS_HELP)
 }
 
-fn reach_net_command<'a>(alloc: Global) -> Made<'a>
+fn reach_net_command<'a>(alloc: Global) -> CommandResult<'a>
     ensures { IfOk result (λ c. Reads reach_net_app c.value) }
 {
     let command = named(
@@ -332,7 +351,7 @@ fn reach_net_command<'a>(alloc: Global) -> Made<'a>
     with_reached(alloc, command)
 }
 
-fn modules_command<'a>(alloc: Global) -> Made<'a>
+fn modules_command<'a>(alloc: Global) -> CommandResult<'a>
     ensures { IfOk result (λ c. Reads modules_app c.value) }
 {
     let command = named(
@@ -348,11 +367,11 @@ fn modules_command<'a>(alloc: Global) -> Made<'a>
 /// Adds a number from 0 to 2,147,483,647.
 fn with_number<'a>(
     alloc: Global,
-    command: Made<'a>,
+    command: CommandResult<'a>,
     required: bool,
     id: &'a str,
     help: &'a str,
-) -> Made<'a>
+) -> CommandResult<'a>
     ensures { (app : App) → IfOk command.entry (λ c. Reads app c.value) → IfOk result (λ c. Reads (with_rule app (number_rule required id.entry.now)) c.value) }
 {
     let command = command?;
@@ -364,7 +383,7 @@ fn with_number<'a>(
 }
 
 /// Adds the path of a document, a line and a column.
-fn with_position<'a>(alloc: Global, command: Made<'a>, required: bool) -> Made<'a>
+fn with_position<'a>(alloc: Global, command: CommandResult<'a>, required: bool) -> CommandResult<'a>
     ensures { (app : App) → IfOk command.entry (λ c. Reads app c.value) → IfOk result (λ c. Reads (with_position required app) c.value) }
 {
     let command = command?;
@@ -387,7 +406,7 @@ fn with_position<'a>(alloc: Global, command: Made<'a>, required: bool) -> Made<'
 }
 
 /// A command with the index that it queries.
-fn on_index<'a>(alloc: Global, name: &'a str, about: &'a str, end: &'a str) -> Made<'a>
+fn on_index<'a>(alloc: Global, name: &'a str, about: &'a str, end: &'a str) -> CommandResult<'a>
     ensures { IfOk result (λ c. Reads (index_question_app name.entry.now) c.value) }
 {
     let command = named(alloc, name, about, end);
@@ -400,7 +419,7 @@ fn on_index<'a>(alloc: Global, name: &'a str, about: &'a str, end: &'a str) -> M
 }
 
 /// Adds the option `--symbol`: the text of a symbol.
-fn with_symbol<'a>(alloc: Global, command: Made<'a>) -> Made<'a>
+fn with_symbol<'a>(alloc: Global, command: CommandResult<'a>) -> CommandResult<'a>
     ensures { (app : App) → IfOk command.entry (λ c. Reads app c.value) → IfOk result (λ c. Reads (with_rule app symbol_rule) c.value) }
 {
     let command = command?;
@@ -418,7 +437,7 @@ fn asking<'a>(
     about: &'a str,
     end: &'a str,
     usage: &'a str,
-) -> Made<'a>
+) -> CommandResult<'a>
     ensures { IfOk result (λ c. Reads (asking_app name.entry.now) c.value) }
 {
     let command = on_index(alloc, name, about, end);
@@ -428,7 +447,7 @@ fn asking<'a>(
     with_usage(alloc, command, usage)
 }
 
-fn symbol_command<'a>(alloc: Global) -> Made<'a>
+fn symbol_command<'a>(alloc: Global) -> CommandResult<'a>
     ensures { IfOk result (λ c. Reads symbol_app c.value) }
 {
     let command = on_index(
@@ -441,7 +460,7 @@ fn symbol_command<'a>(alloc: Global) -> Made<'a>
     with_editor(alloc, command, EDITOR_HELP)
 }
 
-fn symbols_command<'a>(alloc: Global) -> Made<'a>
+fn symbols_command<'a>(alloc: Global) -> CommandResult<'a>
     ensures { IfOk result (λ c. Reads symbols_app c.value) }
 {
     let command = on_index(
@@ -460,7 +479,7 @@ fn symbols_command<'a>(alloc: Global) -> Made<'a>
 }
 
 /// Adds the output of an index: the path of a file, or `--hex`.
-fn with_output<'a>(alloc: Global, command: Made<'a>) -> Made<'a>
+fn with_output<'a>(alloc: Global, command: CommandResult<'a>) -> CommandResult<'a>
     ensures { (app : App) → IfOk command.entry (λ c. Reads app c.value) → IfOk result (λ c. Reads (with_output app) c.value) }
 {
     let command = with_value(alloc, command, "OUT", OUT_HELP);
@@ -473,7 +492,12 @@ fn with_output<'a>(alloc: Global, command: Made<'a>) -> Made<'a>
 }
 
 /// Adds an option with a text, which is empty by default.
-fn with_text<'a>(alloc: Global, command: Made<'a>, id: &'a str, help: &'a str) -> Made<'a>
+fn with_text<'a>(
+    alloc: Global,
+    command: CommandResult<'a>,
+    id: &'a str,
+    help: &'a str,
+) -> CommandResult<'a>
     ensures { (app : App) → IfOk command.entry (λ c. Reads app c.value) → IfOk result (λ c. Reads (with_rule app (text_rule id.entry.now)) c.value) }
 {
     let command = command?;
@@ -486,7 +510,7 @@ fn with_text<'a>(alloc: Global, command: Made<'a>, id: &'a str, help: &'a str) -
 }
 
 /// Adds the options of a command that makes an index.
-fn with_options<'a>(alloc: Global, command: Made<'a>) -> Made<'a>
+fn with_options<'a>(alloc: Global, command: CommandResult<'a>) -> CommandResult<'a>
     ensures { (app : App) → IfOk command.entry (λ c. Reads app c.value) → IfOk result (λ c. Reads (with_options app) c.value) }
 {
     let command = with_text(
@@ -505,7 +529,7 @@ fn with_options<'a>(alloc: Global, command: Made<'a>) -> Made<'a>
     with_flag(alloc, command, "atomic", ATOMIC_HELP)
 }
 
-fn index_command<'a>(alloc: Global) -> Made<'a>
+fn index_command<'a>(alloc: Global) -> CommandResult<'a>
     ensures { IfOk result (λ c. Reads index_app c.value) }
 {
     let command = named(
@@ -521,7 +545,7 @@ fn index_command<'a>(alloc: Global) -> Made<'a>
     with_usage(alloc, command, INDEX_USAGE)
 }
 
-fn unresolved_command<'a>(alloc: Global) -> Made<'a>
+fn unresolved_command<'a>(alloc: Global) -> CommandResult<'a>
     ensures { IfOk result (λ c. Reads unresolved_app c.value) }
 {
     let command = named(
@@ -534,7 +558,7 @@ fn unresolved_command<'a>(alloc: Global) -> Made<'a>
     with_tree_options(alloc, command, SKIP_FAULTS_HELP)
 }
 
-fn faults_command<'a>(alloc: Global) -> Made<'a>
+fn faults_command<'a>(alloc: Global) -> CommandResult<'a>
     ensures { IfOk result (λ c. Reads faults_app c.value) }
 {
     let command = named(
@@ -548,7 +572,11 @@ fn faults_command<'a>(alloc: Global) -> Made<'a>
 }
 
 /// Adds a command to the program.
-fn with_sub<'a>(alloc: Global, program: Made<'a>, command: Made<'a>) -> Made<'a>
+fn with_sub<'a>(
+    alloc: Global,
+    program: CommandResult<'a>,
+    command: CommandResult<'a>,
+) -> CommandResult<'a>
     ensures { (first : App) → (second : App) → IfOk program.entry (λ c. app_of c.value ≡ first) → IfOk command.entry (λ c. Reads second c.value) →
         IfOk result (λ c. app_of c.value ≡ with_subcommand first second.top) }
 {
@@ -559,7 +587,7 @@ fn with_sub<'a>(alloc: Global, program: Made<'a>, command: Made<'a>) -> Made<'a>
 }
 
 /// Adds the commands `cut`, `check` and `crossings`.
-fn with_trees<'a>(alloc: Global, program: Made<'a>) -> Made<'a>
+fn with_trees<'a>(alloc: Global, program: CommandResult<'a>) -> CommandResult<'a>
     ensures { (app : App) → IfOk program.entry (λ c. app_of c.value ≡ app) → IfOk result (λ c. app_of c.value ≡ with_trees app) }
 {
     let cut = cutting(
@@ -588,7 +616,7 @@ fn with_trees<'a>(alloc: Global, program: Made<'a>) -> Made<'a>
 }
 
 /// Adds the commands `net`, `why` and `rules`.
-fn with_imports<'a>(alloc: Global, program: Made<'a>) -> Made<'a>
+fn with_imports<'a>(alloc: Global, program: CommandResult<'a>) -> CommandResult<'a>
     ensures { (app : App) → IfOk program.entry (λ c. app_of c.value ≡ app) → IfOk result (λ c. app_of c.value ≡ with_imports app) }
 {
     let net = net_command(alloc);
@@ -608,7 +636,7 @@ fn with_imports<'a>(alloc: Global, program: Made<'a>) -> Made<'a>
 }
 
 /// Adds the commands `cut-net`, `check-net` and `why-net`.
-fn with_nets<'a>(alloc: Global, program: Made<'a>) -> Made<'a>
+fn with_nets<'a>(alloc: Global, program: CommandResult<'a>) -> CommandResult<'a>
     ensures { (app : App) → IfOk program.entry (λ c. app_of c.value ≡ app) → IfOk result (λ c. app_of c.value ≡ with_nets app) }
 {
     let cut = cutting(
@@ -642,7 +670,7 @@ fn with_nets<'a>(alloc: Global, program: Made<'a>) -> Made<'a>
 }
 
 /// Adds the commands `modules`, `reach` and `reach-net`.
-fn with_lists<'a>(alloc: Global, program: Made<'a>) -> Made<'a>
+fn with_lists<'a>(alloc: Global, program: CommandResult<'a>) -> CommandResult<'a>
     ensures { (app : App) → IfOk program.entry (λ c. app_of c.value ≡ app) → IfOk result (λ c. app_of c.value ≡ with_lists app) }
 {
     let modules = modules_command(alloc);
@@ -654,7 +682,7 @@ fn with_lists<'a>(alloc: Global, program: Made<'a>) -> Made<'a>
 }
 
 /// Adds the commands `dot` and `dot-net`.
-fn with_pictures<'a>(alloc: Global, program: Made<'a>) -> Made<'a>
+fn with_pictures<'a>(alloc: Global, program: CommandResult<'a>) -> CommandResult<'a>
     ensures { (app : App) → IfOk program.entry (λ c. app_of c.value ≡ app) → IfOk result (λ c. app_of c.value ≡ with_pictures app) }
 {
     let tree = checking(
@@ -683,7 +711,7 @@ fn with_pictures<'a>(alloc: Global, program: Made<'a>) -> Made<'a>
 }
 
 /// Adds the commands `def` and `refs`.
-fn with_indexes<'a>(alloc: Global, program: Made<'a>) -> Made<'a>
+fn with_indexes<'a>(alloc: Global, program: CommandResult<'a>) -> CommandResult<'a>
     ensures { (app : App) → IfOk program.entry (λ c. app_of c.value ≡ app) → IfOk result (λ c. app_of c.value ≡ with_indexes app) }
 {
     let def = asking(
@@ -705,7 +733,7 @@ fn with_indexes<'a>(alloc: Global, program: Made<'a>) -> Made<'a>
 }
 
 /// Adds the commands `symbol` and `symbols`.
-fn with_symbols<'a>(alloc: Global, program: Made<'a>) -> Made<'a>
+fn with_symbols<'a>(alloc: Global, program: CommandResult<'a>) -> CommandResult<'a>
     ensures { (app : App) → IfOk program.entry (λ c. app_of c.value ≡ app) → IfOk result (λ c. app_of c.value ≡ with_symbols app) }
 {
     let symbol = symbol_command(alloc);
@@ -715,7 +743,7 @@ fn with_symbols<'a>(alloc: Global, program: Made<'a>) -> Made<'a>
 }
 
 /// Adds the commands `index`, `unresolved` and `faults`.
-fn with_indexers<'a>(alloc: Global, program: Made<'a>) -> Made<'a>
+fn with_indexers<'a>(alloc: Global, program: CommandResult<'a>) -> CommandResult<'a>
     ensures { (app : App) → IfOk program.entry (λ c. app_of c.value ≡ app) → IfOk result (λ c. app_of c.value ≡ with_indexers app) }
 {
     let index = index_command(alloc);
@@ -727,7 +755,7 @@ fn with_indexers<'a>(alloc: Global, program: Made<'a>) -> Made<'a>
 }
 
 /// The program without commands.
-fn bare<'a>(alloc: Global) -> Made<'a>
+fn bare<'a>(alloc: Global) -> CommandResult<'a>
     ensures { IfOk result (λ c. app_of c.value ≡ program_app) }
 {
     let program = Command::new(alloc, "oscip")
@@ -741,7 +769,7 @@ fn bare<'a>(alloc: Global) -> Made<'a>
 }
 
 /// The program with all its commands.
-pub(crate) fn command<'a>(alloc: Global) -> Made<'a>
+pub(crate) fn command<'a>(alloc: Global) -> CommandResult<'a>
     ensures { IfOk result (λ c. app_of c.value ≡ oscip) }
 {
     let program = bare(alloc);

@@ -2,7 +2,7 @@
 ghost use Rattle.std.specs.Prelude.{◌≡◌, ◌++◌, ◌≤◌, ◌↔◌, ℕ, IfOk, IfSome, List, codes, map, true};
 ghost use Rattle.std.specs.String.{string_bytes};
 ghost use Rattle.clap.specs.Words.{found_of, kind_of, rows_of, subcommand_of, subcommand_rows_of};
-ghost use Rattle.oscip_job.specs.Jobs.{oscip, AsksForAtomic, Finds, FindsAll, FindsFromZero, FindsNumber, HasAskedSymbol, HasCutting, HasDirection, HasDrawing, HasIndexing, HasOutput, HasPackage, HasPath, HasPlace, HasPosition, HasReaching, HasReported, HasSymbolPath, HasSymbolPosition, HasSymbolText, HasText, HasTree, HasTwoNames, HasWorkers, Holds, IsGiven, IsIndexQuestionOf, IsJobOf, IsNetQuestionOf, IsPackage, IsTreeQuestionOf, IsWithin, LacksValue, MayFind, MayWork, NamesNumbers, NamesPosition, NamesWithin, NamesWorkers};
+ghost use Rattle.oscip_job.specs.Jobs.{oscip, AsksForAtomic, Finds, FindsAll, FindsFromZero, FindsNumber, HasAskedSymbol, HasCutting, HasDirection, HasDrawing, HasIndexing, HasOutput, HasPackage, HasPath, FindsPosition, HasPosition, HasReaching, HasReported, HasSymbolPath, HasSymbolPosition, HasSymbolText, HasText, HasTree, HasTwoNames, HasWorkers, Holds, IsPresent, IsIndexQuestionOf, IsJobOf, IsNetQuestionOf, IsPackage, IsTreeQuestionOf, IsWithin, LacksValue, MayFind, IsWorkerCount, NamesNumbers, NamesPosition, NamesWithin, HasWorkersInRange};
 
 use crate::commands::command;
 use crate::job::{
@@ -112,7 +112,7 @@ fn value_of(alloc: Global, found: &ArgMatches<'_>, id: &str) -> Result<String, R
 }
 
 /// A copy of the value of an argument, if it is given.
-fn value_given(
+fn value_if_present(
     alloc: Global,
     found: &ArgMatches<'_>,
     id: &str,
@@ -126,8 +126,8 @@ fn value_given(
 }
 
 /// Whether a flag, which is an option without a value, is given.
-fn is_given(found: &ArgMatches<'_>, id: &str) -> bool
-    ensures { result ≡ true ↔ IsGiven (rows_of (found_of found.now)) id.now }
+fn is_present(found: &ArgMatches<'_>, id: &str) -> bool
+    ensures { result ≡ true ↔ IsPresent (rows_of (found_of found.now)) id.now }
 {
     match found.get_str(id) {
         None => false,
@@ -154,16 +154,16 @@ fn tree_of(alloc: Global, found: &ArgMatches<'_>) -> Result<SourceTree, Refusal>
     Ok(SourceTree {
         folder,
         excluded,
-        skips_faults: is_given(found, "skip-faults"),
-        for_editor: is_given(found, "editor"),
+        skips_faults: is_present(found, "skip-faults"),
+        for_editor: is_present(found, "editor"),
     })
 }
 
 /// The number of workers, as `clap` parsed it.
 fn workers_of(found: &ArgMatches<'_>) -> Result<u32, Refusal>
-    requires { NamesWorkers (rows_of (found_of found.now)) }
+    requires { HasWorkersInRange (rows_of (found_of found.now)) }
     ensures value { IfOk result (FindsNumber (rows_of (found_of found.now)) (codes "workers")) }
-    ensures within { IfOk result MayWork }
+    ensures within { IfOk result IsWorkerCount }
 {
     match found.get_one::<u32>("workers") {
         None => Err(Refusal::Missing),
@@ -187,14 +187,14 @@ fn two_names(
 
 /// The request for a cut, without its input.
 fn cutting_of(alloc: Global, found: &ArgMatches<'_>) -> Result<Cutting, Refusal>
-    requires { NamesWorkers (rows_of (found_of found.now)) }
+    requires { HasWorkersInRange (rows_of (found_of found.now)) }
     ensures values { IfOk result (HasCutting (rows_of (found_of found.now))) }
-    ensures workers { IfOk result (λ it. MayWork it.workers) }
+    ensures workers { IfOk result (λ it. IsWorkerCount it.workers) }
 {
     let workers = workers_of(found)?;
     let from = value_of(alloc, found, "A")?;
     let to = value_of(alloc, found, "B")?;
-    let prices = value_given(alloc, found, "prices")?;
+    let prices = value_if_present(alloc, found, "prices")?;
     Ok(Cutting {
         from,
         to,
@@ -208,7 +208,7 @@ fn reported_of(alloc: Global, found: &ArgMatches<'_>) -> Result<Reported, Refusa
     ensures { IfOk result (HasReported (rows_of (found_of found.now))) }
 {
     let report = value_of(alloc, found, "REPORT")?;
-    let prices = value_given(alloc, found, "prices")?;
+    let prices = value_if_present(alloc, found, "prices")?;
     Ok(Reported { report, prices })
 }
 
@@ -216,7 +216,7 @@ fn reported_of(alloc: Global, found: &ArgMatches<'_>) -> Result<Reported, Refusa
 fn drawing_of(alloc: Global, found: &ArgMatches<'_>) -> Result<Drawing, Refusal>
     ensures { IfOk result (HasDrawing (rows_of (found_of found.now))) }
 {
-    let by_flow = is_given(found, "flow");
+    let by_flow = is_present(found, "flow");
     let reported = reported_of(alloc, found)?;
     Ok(Drawing { reported, by_flow })
 }
@@ -225,7 +225,7 @@ fn drawing_of(alloc: Global, found: &ArgMatches<'_>) -> Result<Drawing, Refusal>
 fn direction_of(found: &ArgMatches<'_>) -> Direction
     ensures { HasDirection (rows_of (found_of found.now)) result }
 {
-    if is_given(found, "back") {
+    if is_present(found, "back") {
         Direction::Importing
     } else {
         Direction::Imported
@@ -243,7 +243,7 @@ fn reaching_of(alloc: Global, found: &ArgMatches<'_>) -> Result<Reaching, Refusa
 
 /// The question about a network that the command of this name asks. The name is without a final `-net`.
 fn net_question(alloc: Global, name: &str, found: &ArgMatches<'_>) -> Result<NetQuestion, Refusal>
-    requires { NamesWorkers (rows_of (found_of found.now)) }
+    requires { HasWorkersInRange (rows_of (found_of found.now)) }
     ensures { IfOk result (IsNetQuestionOf name.now (rows_of (found_of found.now))) }
 {
     if name == "cut" {
@@ -266,7 +266,7 @@ fn net_question(alloc: Global, name: &str, found: &ArgMatches<'_>) -> Result<Net
 
 /// The question about a tree that the command of this name asks.
 fn tree_question(alloc: Global, name: &str, found: &ArgMatches<'_>) -> Result<TreeQuestion, Refusal>
-    requires { NamesWorkers (rows_of (found_of found.now)) }
+    requires { HasWorkersInRange (rows_of (found_of found.now)) }
     ensures { IfOk result (IsTreeQuestionOf name.now (rows_of (found_of found.now))) }
 {
     if name == "crossings" {
@@ -289,7 +289,7 @@ fn tree_question(alloc: Global, name: &str, found: &ArgMatches<'_>) -> Result<Tr
 
 /// The job on a tree that the command of this name requests.
 fn tree_job(alloc: Global, name: &str, found: &ArgMatches<'_>) -> Result<Job, Refusal>
-    requires { NamesWorkers (rows_of (found_of found.now)) }
+    requires { HasWorkersInRange (rows_of (found_of found.now)) }
     ensures { IfOk result (IsJobOf (Some (name.now, rows_of (found_of found.now)))) }
 {
     let question = tree_question(alloc, name, found)?;
@@ -299,7 +299,7 @@ fn tree_job(alloc: Global, name: &str, found: &ArgMatches<'_>) -> Result<Job, Re
 
 /// The job on a network in a file that the command named `name`, followed by `-net`, requests.
 fn net_job(alloc: Global, name: &str, found: &ArgMatches<'_>) -> Result<Job, Refusal>
-    requires { NamesWorkers (rows_of (found_of found.now)) }
+    requires { HasWorkersInRange (rows_of (found_of found.now)) }
     ensures { IfOk result (IsJobOf (Some (name.now ++ codes "-net", rows_of (found_of found.now)))) }
 {
     let question = net_question(alloc, name, found)?;
@@ -326,7 +326,7 @@ fn number_from_zero(found: &ArgMatches<'_>, id: &str) -> Result<u32, Refusal>
     ensures within { IfOk result (λ number. number ≤ 2147483647) }
 {
     let number = number_of(found, id)?;
-    if !is_given(found, "editor") {
+    if !is_present(found, "editor") {
         return Ok(number);
     }
     if number == 0 {
@@ -338,7 +338,7 @@ fn number_from_zero(found: &ArgMatches<'_>, id: &str) -> Result<u32, Refusal>
 /// The position that PATH, LINE and COL give.
 fn position_of(alloc: Global, found: &ArgMatches<'_>) -> Result<Position, Refusal>
     requires { NamesPosition (rows_of (found_of found.now)) }
-    ensures values { IfOk result (HasPlace (rows_of (found_of found.now))) }
+    ensures values { IfOk result (FindsPosition (rows_of (found_of found.now))) }
     ensures within { IfOk result IsWithin }
 {
     let path = value_of(alloc, found, "PATH")?;
@@ -362,7 +362,7 @@ fn named_symbol(alloc: Global, found: &ArgMatches<'_>, symbol: &str) -> Result<A
     if found.get_str("LINE").is_some() || found.get_str("COL").is_some() {
         return Err(Refusal::Missing);
     }
-    let path = value_given(alloc, found, "PATH")?;
+    let path = value_if_present(alloc, found, "PATH")?;
     if path.is_none() && symbol.as_bytes().starts_with(b"local ") {
         return Err(Refusal::Document);
     }
@@ -394,7 +394,7 @@ fn index_question(
     ensures { IfOk result (λ asked. IfSome asked (IsIndexQuestionOf name.now (rows_of (found_of found.now)))) }
 {
     if name == "symbols" {
-        let path = value_given(alloc, found, "PATH")?;
+        let path = value_if_present(alloc, found, "PATH")?;
         return Ok(Some(IndexQuestion::Symbols { path }));
     }
     if name == "symbol" {
@@ -421,17 +421,17 @@ fn asking_job(
     Ok(Job::Ask {
         index,
         question,
-        for_editor: is_given(found, "editor"),
+        for_editor: is_present(found, "editor"),
     })
 }
 
 /// Standard output, which `--hex` selects. Fails with `Atomic` if `--atomic` is given, since no file can be replaced then.
 fn hex_output(found: &ArgMatches<'_>) -> Result<Output, Refusal>
-    requires hex { IsGiven (rows_of (found_of found.now)) (codes "hex") }
+    requires hex { IsPresent (rows_of (found_of found.now)) (codes "hex") }
     requires out { LacksValue (rows_of (found_of found.now)) (codes "OUT") }
     ensures { IfOk result (HasOutput (rows_of (found_of found.now))) }
 {
-    if is_given(found, "atomic") {
+    if is_present(found, "atomic") {
         return Err(Refusal::Atomic);
     }
     Ok(Output::Hex)
@@ -441,7 +441,7 @@ fn hex_output(found: &ArgMatches<'_>) -> Result<Output, Refusal>
 fn output_of(alloc: Global, found: &ArgMatches<'_>) -> Result<Output, Refusal>
     ensures { IfOk result (HasOutput (rows_of (found_of found.now))) }
 {
-    let hex = is_given(found, "hex");
+    let hex = is_present(found, "hex");
     match found.get_str("OUT") {
         None if hex => hex_output(found),
         Some(path) if !hex => Ok(Output::File(String::from_str(alloc, path)?)),
@@ -474,14 +474,14 @@ fn package_of(alloc: Global, found: &ArgMatches<'_>) -> Result<String, Refusal>
 fn is_atomic(found: &ArgMatches<'_>) -> bool
     ensures { result ≡ true ↔ AsksForAtomic (rows_of (found_of found.now)) }
 {
-    is_given(found, "atomic") || is_given(found, "skip-faults")
+    is_present(found, "atomic") || is_present(found, "skip-faults")
 }
 
 /// The request for an index that the arguments give.
 fn indexing_of(alloc: Global, found: &ArgMatches<'_>) -> Result<Indexing, Refusal>
-    requires { NamesWorkers (rows_of (found_of found.now)) }
+    requires { HasWorkersInRange (rows_of (found_of found.now)) }
     ensures values { IfOk result (HasIndexing (rows_of (found_of found.now))) }
-    ensures workers { IfOk result (λ it. MayWork it.workers) }
+    ensures workers { IfOk result (λ it. IsWorkerCount it.workers) }
     ensures package { IfOk result (λ it. IsPackage (string_bytes it.package)) }
 {
     let workers = workers_of(found)?;
@@ -501,7 +501,7 @@ fn indexing_of(alloc: Global, found: &ArgMatches<'_>) -> Result<Indexing, Refusa
 }
 
 fn index_job(alloc: Global, found: &ArgMatches<'_>) -> Result<Job, Refusal>
-    requires { NamesWorkers (rows_of (found_of found.now)) }
+    requires { HasWorkersInRange (rows_of (found_of found.now)) }
     ensures { IfOk result (IsJobOf (Some (codes "index", rows_of (found_of found.now)))) }
 {
     Ok(Job::Index(indexing_of(alloc, found)?))
@@ -515,7 +515,7 @@ fn unresolved_job(alloc: Global, found: &ArgMatches<'_>) -> Result<Job, Refusal>
 
 /// The job on a tree or on a network in a file that the command of this name requests.
 fn graph_job(alloc: Global, name: &str, found: &ArgMatches<'_>) -> Result<Job, Refusal>
-    requires { NamesWorkers (rows_of (found_of found.now)) }
+    requires { HasWorkersInRange (rows_of (found_of found.now)) }
     ensures { IfOk result (IsJobOf (Some (name.now, rows_of (found_of found.now)))) }
 {
     match name.strip_suffix("-net") {
@@ -542,7 +542,7 @@ fn job_named(alloc: Global, name: &str, found: &ArgMatches<'_>) -> Result<Job, R
 }
 
 /// The job of the command that `clap` found, with the values of its arguments.
-fn job_met(alloc: Global, matches: &ArgMatches<'_>) -> Result<Job, Refusal>
+fn job_of_matches(alloc: Global, matches: &ArgMatches<'_>) -> Result<Job, Refusal>
     requires { IfSome (subcommand_rows_of matches.now) (λ found. NamesNumbers found.1) }
     ensures { IfOk result (IsJobOf (subcommand_rows_of matches.now)) }
 {
@@ -556,7 +556,7 @@ fn job_from(alloc: Global, matches: &ArgMatches<'_>) -> Result<Job, JobFault>
     requires { IfSome (subcommand_rows_of matches.now) (λ found. NamesNumbers found.1) }
     ensures { IfOk result (IsJobOf (subcommand_rows_of matches.now)) }
 {
-    match job_met(alloc, matches) {
+    match job_of_matches(alloc, matches) {
         Ok(job) => Ok(job),
         Err(refusal) => Err(fault_of(alloc, refusal)),
     }

@@ -3,7 +3,7 @@ use Rattle.std.proofs.Common.{◌∷◌, [], append_assoc, ◌++◌, ◌≡◌, 
 use Rattle.std.specs.Io.KnownBytes.{Keeps}
 use Rattle.std.proofs.lemmas.Bool.{cond_both}
 use Rattle.cut_net.specs.Network.{Network}
-use Rattle.cut_net.specs.Pins.{IsCheapestSaidWithPins}
+use Rattle.cut_net.specs.Pins.{IsCheapestAnswerWithPins}
 use Rattle.cut_net.specs.NetText as nets
 use Rattle.cut_net.specs.declared.fault.NetFault.{NetFault}
 use Rattle.cut_net.specs.declared.fault.NetFault.TheVariants as net
@@ -11,7 +11,7 @@ use Rattle.cut_net.specs.declared.price_fault.PriceFault.{PriceFault}
 use Rattle.cut_report.specs.Faults as report_faults
 use Rattle.cut_report.specs.ReportLines.{IsReportOutcome}
 use Rattle.cut_report.specs.Reading.{entry_of}
-use Rattle.byte_sink.specs.Sinks.{AppendsFront}
+use Rattle.byte_sink.specs.Sinks.{AppendsPrefix}
 use Rattle.cut_report.specs.declared.report.Report.{Report as ReportRead}
 use Rattle.cut_report.specs.declared.fault.ReportFault.{ReportFault}
 use Rattle.cut_report.specs.declared.fault.ReportFault.TheVariants as report
@@ -21,21 +21,21 @@ use Rattle.cut_check.specs.declared.verdict.Verdict.{Verdict}
 use Rattle.cut_check.specs.declared.verdict.Verdict.TheVariants.{Yes, NoSuchImport, StillChain, WrongWeight, OverWeight, NotKept, WrongValue, NotPinned}
 use Rattle.cut_check.specs.Verdicts.{IsVerdict}
 use Rattle.oscip_run.specs.Faults.{of_net, of_report, of_sink, of_tree}
-use Rattle.oscip_run.specs.PricedInputs.{IsRefusedOr}
-use Rattle.oscip_run.specs.Runs.{IsChecked, IsCheckRun, IsNeverRefused, IsRefusedText, IsRefusedTree, IsThis, PutsFront, is_yes, verdict_text}
-use Rattle.oscip_tree.specs.TreeFaults.{wants_memory}
-use Rattle.oscip_tree.specs.Trees.{IsTreeFault}
+use Rattle.oscip_run.specs.PricedInputs.{IsRejectedOr}
+use Rattle.oscip_run.specs.Runs.{IsChecked, IsCheckRun, IsNeverRejected, IsRejectedText, IsRejectedTree, IsThis, WritesCheckPrefix, is_yes, verdict_text}
+use Rattle.source_tree.specs.TreeFaults.{is_out_of_memory}
+use Rattle.source_tree.specs.Trees.{IsTreeFault}
 use Rattle.oscip_run.specs.declared.fault.RunFault.{RunFault}
 use Rattle.oscip_run.specs.declared.fault.RunFault.TheVariants as run
-use Rattle.oscip_tree.specs.declared.source.Source.{Source}
-use Rattle.oscip_tree.specs.declared.tree_fault.TreeFault.{TreeFault}
+use Rattle.source_tree.specs.declared.source.Source.{Source}
+use Rattle.source_tree.specs.declared.tree_fault.TreeFault.{TreeFault}
 
 pub Keeps-same : (known : Option (List ℕ)) → Keeps known known
 Keeps-same None = tt
 Keeps-same (Some bytes) = refl
 
 -- a refused network, in a run of any engine
-pub refused_net : (IsRun : RunFault → Type 0) (text : List ℕ) → ((fault : NetFault) → IsRefusedText text (run.Net fault) → IsRun (run.Net fault)) → IsRun run.Memory →
+pub refused_net : (IsRun : RunFault → Type 0) (text : List ℕ) → ((fault : NetFault) → IsRejectedText text (run.Net fault) → IsRun (run.Net fault)) → IsRun run.Memory →
     (fault : NetFault) → nets.UnlessMemory fault (λ refusal. nets.IsNetOutcome text (Err refusal)) → IsRun (of_net fault)
 refused_net IsRun text refused memory (net.BadLine line) h = refused (net.BadLine line) (nets.BadLine line, refl, h)
 refused_net IsRun text refused memory (net.TwiceImport line) h = refused (net.TwiceImport line) (nets.TwiceImport line, refl, h)
@@ -45,9 +45,9 @@ refused_net IsRun text refused memory (net.TooMany line) h = refused (net.TooMan
 refused_net IsRun text refused memory net.Memory h = memory
 
 -- a refused tree, in a run of any engine
-pub refused_tree : (IsRun : RunFault → Type 0) (sources : List Source) → ((fault : TreeFault) → IsRefusedTree sources (run.Tree fault) → IsRun (run.Tree fault)) → IsRun run.Memory →
+pub refused_tree : (IsRun : RunFault → Type 0) (sources : List Source) → ((fault : TreeFault) → IsRejectedTree sources (run.Tree fault) → IsRun (run.Tree fault)) → IsRun run.Memory →
     (fault : TreeFault) → IsTreeFault sources fault → IsRun (of_tree fault)
-refused_tree IsRun sources refused memory fault h = cond_both (wants_memory fault) run.Memory (run.Tree fault) IsRun (λ e. memory) (λ e. refused fault (e, h))
+refused_tree IsRun sources refused memory fault h = cond_both (is_out_of_memory fault) run.Memory (run.Tree fault) IsRun (λ e. memory) (λ e. refused fault (e, h))
 
 -- a refused report
 pub refused_report : (IsOf : Network → Type 0) (IsRefused : RunFault → Type 0) (text : List ℕ) (known : Option (List ℕ)) (n : Network) → IsOf n → (fault : ReportFault) →
@@ -72,7 +72,7 @@ yes_from (NotPinned from to) e = absurd cc
 -- a verdict of what was read
 pub checked : (IsOf : Network → Type 0) (report line : List ℕ) (n : Network) (r : ReportRead) (v : Verdict) (agrees : Bool) →
     IsOf n → IsReportOutcome n report (Ok (entry_of r)) →
-    IsVerdict n r.from r.to (entry_of r).said v → (v ≡ Yes → IsCheapestSaidWithPins n r.from r.to (entry_of r).said) →
+    IsVerdict n r.from r.to (entry_of r).claim v → (v ≡ Yes → IsCheapestAnswerWithPins n r.from r.to (entry_of r).claim) →
     line ≡ verdict_text n v → agrees ≡ is_yes v → IsChecked IsOf report line agrees
 checked IsOf report line n r v agrees is says holds cheapest line_is agrees_is = record {
   net = n;
@@ -87,10 +87,10 @@ checked IsOf report line n r v agrees is says holds cheapest line_is agrees_is =
 }
 
 -- a sink that failed
-pub broken : (IsOf : Network → Type 0) (IsRefused : RunFault → Type 0) (report : List ℕ) (old new : Option (List ℕ)) (line : List ℕ) (agrees : Bool) (fault : SinkFault) →
-    IsChecked IsOf report line agrees → AppendsFront old new line → IsCheckRun IsOf IsRefused report old new (Err (of_sink fault))
-broken IsOf IsRefused report old new line agrees sink.Memory is front = inr (line, agrees, is, front)
-broken IsOf IsRefused report old new line agrees sink.Device is front = (line, agrees, is, front)
+pub error_prefix : (IsOf : Network → Type 0) (IsRefused : RunFault → Type 0) (report : List ℕ) (old new : Option (List ℕ)) (line : List ℕ) (agrees : Bool) (fault : SinkFault) →
+    IsChecked IsOf report line agrees → AppendsPrefix old new line → IsCheckRun IsOf IsRefused report old new (Err (of_sink fault))
+error_prefix IsOf IsRefused report old new line agrees sink.Memory is front = inr (line, agrees, is, front)
+error_prefix IsOf IsRefused report old new line agrees sink.Device is front = (line, agrees, is, front)
 
 -- a verdict on a network is one on the input that has it
 checked_of : (IsOf : Network → Type 0) (n : Network) → IsOf n → (report line : List ℕ) (agrees : Bool) → IsChecked (IsThis n) report line agrees → IsChecked IsOf report line agrees
@@ -106,12 +106,12 @@ checked_of IsOf n is report line agrees c = record {
   cheapest = c.cheapest;
 }
 
-front_of : (IsOf : Network → Type 0) (n : Network) → IsOf n → (report : List ℕ) (old new : Option (List ℕ)) → PutsFront (IsThis n) report old new → PutsFront IsOf report old new
+front_of : (IsOf : Network → Type 0) (n : Network) → IsOf n → (report : List ℕ) (old new : Option (List ℕ)) → WritesCheckPrefix (IsThis n) report old new → WritesCheckPrefix IsOf report old new
 front_of IsOf n is report old new h = (h.0, h.1, checked_of IsOf n is report h.0 h.1 h.2, h.3)
 
 -- and so is a run
 pub run_of : (IsOf : Network → Type 0) (IsRefused : RunFault → Type 0) (n : Network) → IsOf n → (report : List ℕ) (old new : Option (List ℕ)) (result : Result Bool RunFault) →
-    IsCheckRun (IsThis n) IsNeverRefused report old new result → IsCheckRun IsOf IsRefused report old new result
+    IsCheckRun (IsThis n) IsNeverRejected report old new result → IsCheckRun IsOf IsRefused report old new result
 run_of IsOf IsRefused n is report old new (Ok agrees) h = (h.0, checked_of IsOf n is report h.0 agrees h.1, h.2)
 run_of IsOf IsRefused n is report old new (Err (run.CannotRead path)) h = absurd h
 run_of IsOf IsRefused n is report old new (Err (run.CannotWrite path)) h = absurd h
@@ -131,7 +131,7 @@ run_of IsOf IsRefused n is report old new (Err run.Memory) (inr h) = inr (front_
 -- no network, in a run of any engine
 pub no_run : (IsRun IsRefused : RunFault → Type 0) (known : Option (List ℕ)) → ((fault : TreeFault) → IsRefused (run.Tree fault) × Keeps known known → IsRun (run.Tree fault)) →
     ((fault : NetFault) → IsRefused (run.Net fault) × Keeps known known → IsRun (run.Net fault)) → ((fault : PriceFault) → IsRefused (run.Price fault) × Keeps known known → IsRun (run.Price fault)) →
-    (Keeps known known → IsRun run.Memory) → (fault : RunFault) → IsRefusedOr IsRefused fault → IsRun fault
+    (Keeps known known → IsRun run.Memory) → (fault : RunFault) → IsRejectedOr IsRefused fault → IsRun fault
 no_run IsRun IsRefused known tree net price memory (run.CannotRead path) h = absurd h
 no_run IsRun IsRefused known tree net price memory (run.CannotWrite path) h = absurd h
 no_run IsRun IsRefused known tree net price memory (run.Tree fault) h = tree fault (h, Keeps-same known)
@@ -145,7 +145,7 @@ no_run IsRun IsRefused known tree net price memory run.Device h = absurd h
 no_run IsRun IsRefused known tree net price memory run.Memory h = memory (Keeps-same known)
 
 -- and in one of the check
-pub no_net : (IsOf : Network → Type 0) (IsRefused : RunFault → Type 0) (report : List ℕ) (known : Option (List ℕ)) (fault : RunFault) → IsRefusedOr IsRefused fault →
+pub no_net : (IsOf : Network → Type 0) (IsRefused : RunFault → Type 0) (report : List ℕ) (known : Option (List ℕ)) (fault : RunFault) → IsRejectedOr IsRefused fault →
     IsCheckRun IsOf IsRefused report known known (Err fault)
 no_net IsOf IsRefused report known = no_run (λ fault. IsCheckRun IsOf IsRefused report known known (Err fault)) IsRefused known (λ fault h. h) (λ fault h. h) (λ fault h. h) (λ h. inl h)
 

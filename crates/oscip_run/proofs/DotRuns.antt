@@ -3,7 +3,7 @@ use Rattle.std.proofs.Common.{ℕ, arith, List, Option, Result, Ok, Err, refl, i
 use Rattle.byte_sink.specs.declared.sink.SinkFault.{SinkFault}
 use Rattle.byte_sink.specs.declared.sink.SinkFault.TheVariants as sink
 use Rattle.cut_net.specs.Network.{Network}
-use Rattle.cut_net.specs.Said.{Said}
+use Rattle.cut_net.specs.AnswerClaim.{AnswerClaim}
 use Rattle.cut_report.specs.declared.report.Report.{Report as ReportRead}
 use Rattle.cut_report.specs.declared.fault.ReportFault.{ReportFault}
 use Rattle.cut_report.specs.declared.fault.ReportFault.TheVariants as report
@@ -12,39 +12,39 @@ use Rattle.cut_report.specs.ReportLines.{IsReportOutcome}
 use Rattle.cut_report.specs.Reading.{entry_of}
 use Rattle.cut_net.specs.declared.answer.Answer.{Answer}
 use Rattle.cut_net.specs.declared.answer.Answer.TheVariants as answers
-use Rattle.cut_net.specs.Answers.{said_by}
+use Rattle.cut_net.specs.Answers.{answer_claim}
 use Rattle.cut_report.specs.ReportText.{MaySay}
 use Rattle.cut_net.specs.Lines.{IsAscending}
 use Rattle.cut_dot.specs.Drawing.{IsDrawing, IsDrawingOf}
-use Rattle.cut_dot.specs.Pictures.{flow_said, removed_said}
+use Rattle.cut_dot.specs.Pictures.{answer_flow, answer_removed}
 use Rattle.oscip_run.specs.Faults.{of_report, of_sink}
-use Rattle.oscip_run.specs.DotRuns.{IsDotRun, IsDrawn, IsPictureOf, PutsDrawnFront}
-use Rattle.oscip_run.specs.PricedInputs.{IsRefusedOr}
-use Rattle.oscip_run.specs.Runs.{IsNeverRefused, IsThis}
+use Rattle.oscip_run.specs.DotRuns.{IsDotRun, IsDrawn, IsPictureOf, WritesPicturePrefix}
+use Rattle.oscip_run.specs.PricedInputs.{IsRejectedOr}
+use Rattle.oscip_run.specs.Runs.{IsNeverRejected, IsThis}
 use Rattle.oscip_run.specs.declared.fault.RunFault.{RunFault}
 use Rattle.oscip_run.specs.declared.fault.RunFault.TheVariants as run
 use Rattle.oscip_run.proofs.CheckRuns.{Keeps-same, no_run}
 
 -- both lists of an answer that may be said ascend
-pub removed_ascend : (n : Network) (answer : Answer) → MaySay n (said_by answer) → IsAscending (removed_said answer)
+pub removed_ascend : (n : Network) (answer : Answer) → MaySay n (answer_claim answer) → IsAscending (answer_removed answer)
 removed_ascend n (answers.Cut cut) says = says.printed_in_order
 removed_ascend n (answers.Blocked chain) says = λ j k d lt within. absurd (omega arith)
 
-pub flow_ascends : (n : Network) (answer : Answer) → MaySay n (said_by answer) → IsAscending (flow_said answer)
+pub flow_ascends : (n : Network) (answer : Answer) → MaySay n (answer_claim answer) → IsAscending (answer_flow answer)
 flow_ascends n (answers.Cut cut) says = says.flow_in_order
 flow_ascends n (answers.Blocked chain) says = λ j k d lt within. absurd (omega arith)
 
 -- the picture of an answer is that of what it says
-pub drawing_of : (n : Network) (a b : ℕ) (answer : Answer) (old new : Option (List ℕ)) (result : Result (Unit {0}) SinkFault) → IsDrawing n a b (removed_said answer) (flow_said answer) old new result
-    → IsDrawingOf (IsPictureOf n a b (said_by answer)) old new result
+pub drawing_of : (n : Network) (a b : ℕ) (answer : Answer) (old new : Option (List ℕ)) (result : Result (Unit {0}) SinkFault) → IsDrawing n a b (answer_removed answer) (answer_flow answer) old new result
+    → IsDrawingOf (IsPictureOf n a b (answer_claim answer)) old new result
 drawing_of n a b (answers.Cut cut) old new result h = h
 drawing_of n a b (answers.Blocked chain) old new result h = h
 
 -- of whatever picture is drawn
-module _ (Shows : Network → ℕ → ℕ → Said → List ℕ → Type 0) where
+module _ (Shows : Network → ℕ → ℕ → AnswerClaim → List ℕ → Type 0) where
   -- a refused report
   pub refused : (n : Network) (text : List ℕ) (known : Option (List ℕ)) (fault : ReportFault) → UnlessMemory fault (IsReportOutcome n text (Err fault))
-      → IsDotRun Shows (IsThis n) IsNeverRefused text known known (Err (of_report fault))
+      → IsDotRun Shows (IsThis n) IsNeverRejected text known known (Err (of_report fault))
   refused n text known (report.BadLine line) h = ((n, refl, h), Keeps-same known)
   refused n text known (report.UnknownName line) h = ((n, refl, h), Keeps-same known)
   refused n text known (report.Order line) h = ((n, refl, h), Keeps-same known)
@@ -54,7 +54,7 @@ module _ (Shows : Network → ℕ → ℕ → Said → List ℕ → Type 0) wher
 
   -- what came of a drawing
   pub drawn : (n : Network) (bytes : List ℕ) (r : ReportRead) (old new : Option (List ℕ)) (fault : SinkFault) → IsReportOutcome n bytes (Ok (entry_of r))
-      → IsDrawingOf (Shows n r.from r.to (said_by r.answer)) old new (Err fault) → IsDotRun Shows (IsThis n) IsNeverRefused bytes old new (Err (of_sink fault))
+      → IsDrawingOf (Shows n r.from r.to (answer_claim r.answer)) old new (Err fault) → IsDotRun Shows (IsThis n) IsNeverRejected bytes old new (Err (of_sink fault))
   drawn n bytes r old new sink.Device says h = (h.0, record { net = n; reads = refl; entry = entry_of r; says = says; picture = h.1 }, h.2)
   drawn n bytes r old new sink.Memory says (inl h) = inl h
   drawn n bytes r old new sink.Memory says (inr h) = inr (h.0, record { net = n; reads = refl; entry = entry_of r; says = says; picture = h.1 }, h.2)
@@ -63,17 +63,17 @@ module _ (Shows : Network → ℕ → ℕ → Said → List ℕ → Type 0) wher
   drawn_of : (IsOf : Network → Type 0) (n : Network) → IsOf n → (bytes text : List ℕ) → IsDrawn Shows (IsThis n) bytes text → IsDrawn Shows IsOf bytes text
   drawn_of IsOf n is bytes text d = record { net = d.net; reads = subst IsOf (sym d.reads) is; entry = d.entry; says = d.says; picture = d.picture }
 
-  front_of : (IsOf : Network → Type 0) (n : Network) → IsOf n → (bytes : List ℕ) (old new : Option (List ℕ)) → PutsDrawnFront Shows (IsThis n) bytes old new → PutsDrawnFront Shows IsOf bytes old new
+  front_of : (IsOf : Network → Type 0) (n : Network) → IsOf n → (bytes : List ℕ) (old new : Option (List ℕ)) → WritesPicturePrefix Shows (IsThis n) bytes old new → WritesPicturePrefix Shows IsOf bytes old new
   front_of IsOf n is bytes old new h = (h.0, drawn_of IsOf n is bytes h.0 h.1, h.2)
 
   -- no network, in a run that draws
-  pub no_net : (IsOf : Network → Type 0) (IsRefused : RunFault → Type 0) (bytes : List ℕ) (known : Option (List ℕ)) (fault : RunFault) → IsRefusedOr IsRefused fault →
+  pub no_net : (IsOf : Network → Type 0) (IsRefused : RunFault → Type 0) (bytes : List ℕ) (known : Option (List ℕ)) (fault : RunFault) → IsRejectedOr IsRefused fault →
       IsDotRun Shows IsOf IsRefused bytes known known (Err fault)
   no_net IsOf IsRefused bytes known = no_run (λ fault. IsDotRun Shows IsOf IsRefused bytes known known (Err fault)) IsRefused known (λ fault h. h) (λ fault h. h) (λ fault h. h) (λ h. inl h)
 
   -- and so is a run
   pub run_of : (IsOf : Network → Type 0) (IsRefused : RunFault → Type 0) (n : Network) → IsOf n → (bytes : List ℕ) (old new : Option (List ℕ)) (result : Result (Unit {0}) RunFault)
-      → IsDotRun Shows (IsThis n) IsNeverRefused bytes old new result → IsDotRun Shows IsOf IsRefused bytes old new result
+      → IsDotRun Shows (IsThis n) IsNeverRejected bytes old new result → IsDotRun Shows IsOf IsRefused bytes old new result
   run_of IsOf IsRefused n is bytes old new (Ok done) h = (h.0, drawn_of IsOf n is bytes h.0 h.1, h.2)
   run_of IsOf IsRefused n is bytes old new (Err (run.CannotRead path)) h = absurd h
   run_of IsOf IsRefused n is bytes old new (Err (run.CannotWrite path)) h = absurd h

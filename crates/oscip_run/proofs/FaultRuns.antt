@@ -3,14 +3,14 @@ use Rattle.std.proofs.Common.{◌≡◌, ℕ, Bool, true, false, List, [], ◌�
 use Rattle.std.proofs.lemmas.Bool.{false≢true}
 use Rattle.byte_sink.specs.declared.sink.SinkFault.{SinkFault}
 use Rattle.byte_sink.specs.declared.sink.SinkFault.TheVariants as sink
-use Rattle.byte_sink.specs.Sinks.{AppendsFront}
+use Rattle.byte_sink.specs.Sinks.{AppendsPrefix}
 use Rattle.oscip_run.specs.FaultRuns.{fault_lines, IsFaultsRun, IsFaultsText}
 use Rattle.oscip_run.specs.Faults.{of_sink}
 use Rattle.text_escape.specs.Places.{Style}
-use Rattle.oscip_tree.specs.OwnFaults.{AreTreeFaults}
-use Rattle.oscip_tree.specs.declared.source.Source.{Source}
-use Rattle.oscip_tree.specs.declared.tree_fault.TreeFault.{TreeFault}
-use Rattle.oscip_tree.proofs.OneParting.{nothing_told}
+use Rattle.source_tree.specs.OwnFaults.{AreTreeFaults}
+use Rattle.source_tree.specs.declared.source.Source.{Source}
+use Rattle.source_tree.specs.declared.tree_fault.TreeFault.{TreeFault}
+use Rattle.source_tree.proofs.OneParting.{nothing_told}
 
 -- an accepted tree
 pub accepted : (style : Style) (sources : List Source) (faults : List TreeFault) → faults ≡ [] → AreTreeFaults sources faults → IsFaultsText style sources (codes "yes\n") true
@@ -28,7 +28,7 @@ refused style sources (fault ∷ faults) some are = record {
 }
 
 -- a sink that failed
-pub broken : (style : Style) (sources : List Source) (text : List ℕ) (agrees : Bool) (old new : Option (List ℕ)) (fault : SinkFault) → IsFaultsText style sources text agrees → AppendsFront old new text →
+pub error_prefix : (style : Style) (sources : List Source) (text : List ℕ) (agrees : Bool) (old new : Option (List ℕ)) (fault : SinkFault) → IsFaultsText style sources text agrees → AppendsPrefix old new text →
     IsFaultsRun style sources old new (Err (of_sink fault))
-broken style sources text agrees old new sink.Memory is front = inr (text, agrees, is, front)
-broken style sources text agrees old new sink.Device is front = (text, agrees, is, front)
+error_prefix style sources text agrees old new sink.Memory is front = inr (text, agrees, is, front)
+error_prefix style sources text agrees old new sink.Device is front = (text, agrees, is, front)

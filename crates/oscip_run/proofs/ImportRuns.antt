@@ -2,7 +2,7 @@
 use Rattle.std.proofs.Common.{◌≡◌, ◌≢◌, ◌∙◌, ℕ, Bool, true, false, List, [], ◌∷◌, ◌++◌, map, Option, Some, None, Result, Ok, Err, refl, subst, sym, inl, inr}
 use Rattle.std.proofs.lemmas.List.{append-nil}
 use Rattle.std.specs.Io.KnownBytes.{Appends}
-use Rattle.byte_sink.specs.Sinks.{AppendsFront}
+use Rattle.byte_sink.specs.Sinks.{AppendsPrefix}
 use Rattle.byte_sink.specs.declared.sink.SinkFault.{SinkFault}
 use Rattle.byte_sink.specs.declared.sink.SinkFault.TheVariants as sink
 use Rattle.digraph.specs.ShortestPaths.{AreChain, IsLeastChain}
@@ -17,21 +17,21 @@ use Rattle.cut_solve.specs.Solving as solving
 use Rattle.cut_solve.specs.declared.fault.SolveFault.{SolveFault}
 use Rattle.cut_solve.specs.declared.fault.SolveFault.TheVariants as solve
 use Rattle.oscip_run.specs.Faults.{of_sink, of_solve}
-use Rattle.oscip_run.specs.ImportRuns.{IsNetText, IsNetTextRun, IsToldRun, IsWhyRefused, IsWhyRun, IsWhyText}
-use Rattle.oscip_run.specs.Runs.{IsNeverRefused, IsThis}
+use Rattle.oscip_run.specs.ImportRuns.{IsNetText, IsNetTextRun, IsWritingRun, IsWhyRejected, IsWhyRun, IsWhyText}
+use Rattle.oscip_run.specs.Runs.{IsNeverRejected, IsThis}
 use Rattle.oscip_run.specs.declared.fault.RunFault.{RunFault}
 use Rattle.oscip_run.specs.declared.fault.RunFault.TheVariants as run
 use Rattle.oscip_run.proofs.CheckRuns.{Keeps-same}
 
 -- a sink that failed
-pub broken : (IsText : List ℕ → Type 0) (IsRefused : RunFault → Type 0) (old new : Option (List ℕ)) (text : List ℕ) (fault : SinkFault) → IsText text → AppendsFront old new text →
-    IsToldRun IsText IsRefused old new (Err (of_sink fault))
-broken IsText IsRefused old new text sink.Memory is front = inr (text, is, front)
-broken IsText IsRefused old new text sink.Device is front = (text, is, front)
+pub error_prefix : (IsText : List ℕ → Type 0) (IsRefused : RunFault → Type 0) (old new : Option (List ℕ)) (text : List ℕ) (fault : SinkFault) → IsText text → AppendsPrefix old new text →
+    IsWritingRun IsText IsRefused old new (Err (of_sink fault))
+error_prefix IsText IsRefused old new text sink.Memory is front = inr (text, is, front)
+error_prefix IsText IsRefused old new text sink.Device is front = (text, is, front)
 
 -- a run that says more is one that says less
 pub weaker : (IsText Other : List ℕ → Type 0) (IsRefused IsOther : RunFault → Type 0) → ((text : List ℕ) → IsText text → Other text) → ((fault : RunFault) → IsRefused fault → IsOther fault) →
-    (old new : Option (List ℕ)) (result : Result (Unit {0}) RunFault) → IsToldRun IsText IsRefused old new result → IsToldRun Other IsOther old new result
+    (old new : Option (List ℕ)) (result : Result (Unit {0}) RunFault) → IsWritingRun IsText IsRefused old new result → IsWritingRun Other IsOther old new result
 weaker IsText Other IsRefused IsOther as_text as_fault old new (Ok _) h = (h.0, as_text h.0 h.1, h.2)
 weaker IsText Other IsRefused IsOther as_text as_fault old new (Err (run.CannotRead path)) h = absurd h
 weaker IsText Other IsRefused IsOther as_text as_fault old new (Err (run.CannotWrite path)) h = absurd h
@@ -52,14 +52,14 @@ net_text_of n says = record { net = n; reads = refl; spelled = refl; says = says
 
 -- that on a network is that on the input that has it
 pub net_run_of : (IsOf : Network → Type 0) (IsRefused : RunFault → Type 0) (n : Network) → IsOf n → (old new : Option (List ℕ)) (result : Result (Unit {0}) RunFault) →
-    IsNetTextRun (IsThis n) IsNeverRefused old new result → IsNetTextRun IsOf IsRefused old new result
+    IsNetTextRun (IsThis n) IsNeverRejected old new result → IsNetTextRun IsOf IsRefused old new result
 net_run_of IsOf IsRefused n is =
-    weaker (IsNetText (IsThis n)) (IsNetText IsOf) IsNeverRefused IsRefused (λ text h. record { net = h.net; reads = subst IsOf (sym h.reads) is; spelled = h.spelled; says = h.says })
+    weaker (IsNetText (IsThis n)) (IsNetText IsOf) IsNeverRejected IsRefused (λ text h. record { net = h.net; reads = subst IsOf (sym h.reads) is; spelled = h.spelled; says = h.says })
     (λ fault h. absurd h)
 
 -- refused names
 pub refused_names : (first second : List ℕ) (known : Option (List ℕ)) (n : Network) (fault : SolveFault) → UnlessMemory fault (λ refusal. IsSolveOutcome n first second (Err refusal)) →
-    IsWhyRun (IsThis n) IsNeverRefused first second known known (Err (of_solve fault))
+    IsWhyRun (IsThis n) IsNeverRejected first second known known (Err (of_solve fault))
 refused_names first second known n solve.SameModule h = ((n, refl, solving.SameModule, refl, h), Keeps-same known)
 refused_names first second known n (solve.NoSuchModule name) h = ((n, refl, solving.NoSuchModule _, refl, h), Keeps-same known)
 refused_names first second known n solve.Memory h = inl (Keeps-same known)
@@ -125,7 +125,7 @@ text_of IsOf n is first second found text h = record {
 }
 
 refusal_of : (IsOf : Network → Type 0) (IsRefused : RunFault → Type 0) (n : Network) → IsOf n → (first second : List ℕ) (fault : RunFault) →
-    IsWhyRefused (IsThis n) IsNeverRefused first second fault → IsWhyRefused IsOf IsRefused first second fault
+    IsWhyRejected (IsThis n) IsNeverRejected first second fault → IsWhyRejected IsOf IsRefused first second fault
 refusal_of IsOf IsRefused n is first second (run.CannotRead path) h = absurd h
 refusal_of IsOf IsRefused n is first second (run.CannotWrite path) h = absurd h
 refusal_of IsOf IsRefused n is first second (run.Tree fault) h = absurd h
@@ -140,8 +140,8 @@ refusal_of IsOf IsRefused n is first second run.Memory h = absurd h
 
 -- and so is a run
 pub run_of : (IsOf : Network → Type 0) (IsRefused : RunFault → Type 0) (n : Network) → IsOf n → (first second : List ℕ) (old new : Option (List ℕ)) (result : Result Bool RunFault) →
-    IsWhyRun (IsThis n) IsNeverRefused first second old new result → IsWhyRun IsOf IsRefused first second old new result
+    IsWhyRun (IsThis n) IsNeverRejected first second old new result → IsWhyRun IsOf IsRefused first second old new result
 run_of IsOf IsRefused n is first second old new (Ok found) h = (h.0, text_of IsOf n is first second found h.0 h.1, h.2)
 run_of IsOf IsRefused n is first second old new (Err fault) h =
-    weaker (IsWhyText (IsThis n) first second true) (IsWhyText IsOf first second true) (IsWhyRefused (IsThis n) IsNeverRefused first second) (IsWhyRefused IsOf IsRefused first second)
+    weaker (IsWhyText (IsThis n) first second true) (IsWhyText IsOf first second true) (IsWhyRejected (IsThis n) IsNeverRejected first second) (IsWhyRejected IsOf IsRefused first second)
     (text_of IsOf n is first second true) (refusal_of IsOf IsRefused n is first second) old new (Err fault) h

@@ -15,28 +15,28 @@ use Rattle.cut_solve.specs.declared.fault.SolveFault.TheVariants as solve
 use Rattle.oscip_job.specs.declared.job.Direction.{Direction}
 use Rattle.oscip_run.specs.Faults.{of_solve}
 use Rattle.oscip_run.specs.ModuleRuns.{entry_lines, IsModulesText, IsPathAt, IsPathOf, ModuleEntry}
-use Rattle.oscip_run.specs.ReachRuns.{named_entry, IsReached, IsReachRefused, IsReachRun, IsReachText}
-use Rattle.oscip_run.specs.Runs.{IsNeverRefused, IsThis}
+use Rattle.oscip_run.specs.ReachRuns.{named_entry, IsReached, IsReachRejected, IsReachRun, IsReachText}
+use Rattle.oscip_run.specs.Runs.{IsNeverRejected, IsThis}
 use Rattle.oscip_run.specs.declared.fault.RunFault.{RunFault}
 use Rattle.oscip_run.specs.declared.fault.RunFault.TheVariants as run
 use Rattle.oscip_run.proofs.CheckRuns.{Keeps-same}
 use Rattle.oscip_run.proofs.ImportRuns.{weaker}
-use Rattle.oscip_tree.specs.Files.{AreAllOf}
-use Rattle.oscip_tree.specs.Located.{AreModulesOf, IsModuleOf}
-use Rattle.oscip_tree.specs.Trees.{IsNetOfTree, ModuleFile}
-use Rattle.oscip_tree.specs.declared.source.Source.{Source}
-use Rattle.text_escape.specs.Places.{plain_style, Style}
+use Rattle.source_tree.specs.Files.{AreAllOf}
+use Rattle.source_tree.specs.Located.{AreModulesOf, IsModuleOf}
+use Rattle.source_tree.specs.Trees.{IsNetOfTree, ModuleFile}
+use Rattle.source_tree.specs.declared.source.Source.{Source}
+use Rattle.text_escape.specs.Places.{raw_style, Style}
 
 -- ---- what a module reaches
 
 pub unknown_name : (name : List ℕ) (direction : Direction) (known : Option (List ℕ)) (n : Network) (fault : SolveFault) → IsModuleOr n name (Err fault) →
-    IsReachRun (IsThis n) IsNeverRefused name direction known known (Err (of_solve fault))
+    IsReachRun (IsThis n) IsNeverRejected name direction known known (Err (of_solve fault))
 unknown_name name direction known n solve.SameModule h = absurd h
 unknown_name name direction known n (solve.NoSuchModule own) h = ((n, refl, h), Keeps-same known)
 unknown_name name direction known n solve.Memory h = inl (Keeps-same known)
 
 pub reach_text : (name : List ℕ) (direction : Direction) (n : Network) (start : ℕ) (reached : List ℕ) → index_of n name ≡ Some start → AllPairs (λ i j. i < j) reached →
-    ((m : ℕ) → Contains reached m ↔ IsReached n direction start m) → IsReachText (IsThis n) name direction (entry_lines plain_style (map (named_entry n) reached))
+    ((m : ℕ) → Contains reached m ↔ IsReached n direction start m) → IsReachText (IsThis n) name direction (entry_lines raw_style (map (named_entry n) reached))
 reach_text name direction n start reached is ascending exact = record {
   net = n;
   reads = refl;
@@ -62,7 +62,7 @@ module _ (IsOf : Network → Type 0) (IsRefused : RunFault → Type 0) (n : Netw
     lines = h.lines;
   }
 
-  refusal_of : (fault : RunFault) → IsReachRefused (IsThis n) IsNeverRefused name fault → IsReachRefused IsOf IsRefused name fault
+  refusal_of : (fault : RunFault) → IsReachRejected (IsThis n) IsNeverRejected name fault → IsReachRejected IsOf IsRefused name fault
   refusal_of (run.CannotRead path) h = absurd h
   refusal_of (run.CannotWrite path) h = absurd h
   refusal_of (run.Tree fault) h = absurd h
@@ -75,8 +75,8 @@ module _ (IsOf : Network → Type 0) (IsRefused : RunFault → Type 0) (n : Netw
   refusal_of run.Device h = absurd h
   refusal_of run.Memory h = absurd h
 
-  pub reach_run_of : (old new : Option (List ℕ)) (result : Result (Unit {0}) RunFault) → IsReachRun (IsThis n) IsNeverRefused name direction old new result → IsReachRun IsOf IsRefused name direction old new result
-  reach_run_of = weaker (IsReachText (IsThis n) name direction) (IsReachText IsOf name direction) (IsReachRefused (IsThis n) IsNeverRefused name) (IsReachRefused IsOf IsRefused name) text_of refusal_of
+  pub reach_run_of : (old new : Option (List ℕ)) (result : Result (Unit {0}) RunFault) → IsReachRun (IsThis n) IsNeverRejected name direction old new result → IsReachRun IsOf IsRefused name direction old new result
+  reach_run_of = weaker (IsReachText (IsThis n) name direction) (IsReachText IsOf name direction) (IsReachRejected (IsThis n) IsNeverRejected name) (IsReachRejected IsOf IsRefused name) text_of refusal_of
 
 -- ---- the paths of the modules
 

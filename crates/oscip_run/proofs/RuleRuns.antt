@@ -10,7 +10,7 @@ use Rattle.std.proofs.lemmas.List.{get_or-map, length-map, take_more}
 use Rattle.std.proofs.lemmas.Option.{same_Some}
 use Rattle.std.proofs.lemmas.Map.Keys.{Less-from_sorted}
 use Rattle.std.specs.Io.KnownBytes.{Appends}
-use Rattle.byte_sink.specs.Sinks.{AppendsFront}
+use Rattle.byte_sink.specs.Sinks.{AppendsPrefix}
 use Rattle.byte_sink.specs.declared.sink.SinkFault.{SinkFault}
 use Rattle.byte_sink.specs.declared.sink.SinkFault.TheVariants as sink
 use Rattle.text_escape.specs.Places.{Style}
@@ -28,12 +28,12 @@ use Rattle.cut_rules.specs.declared.site.Site.{Site}
 use Rattle.oscip_run.specs.Faults.{of_rules, of_sink}
 use Rattle.oscip_run.specs.Readings.{FileOf, Reading}
 use Rattle.oscip_run.specs.RuleRuns.{AreSitesIn, AreThese, IsRuledTree, IsSiteIn, IsRulesRun, PutsRulesFront}
-use Rattle.oscip_run.specs.Runs.{IsNeverRefused, IsRefusedTree}
+use Rattle.oscip_run.specs.Runs.{IsNeverRejected, IsRejectedTree}
 use Rattle.oscip_run.specs.TreeQuestionRuns.{IsRulesFileRun}
-use Rattle.oscip_tree.proofs.TreeFiles.{each_joined}
-use Rattle.oscip_tree.specs.Sources.{ArePathsInOrder}
-use Rattle.oscip_tree.specs.declared.import_sites.ImportSite.{ImportSite}
-use Rattle.oscip_tree.specs.declared.source.Source.{Source}
+use Rattle.source_tree.proofs.TreeFiles.{each_joined}
+use Rattle.source_tree.specs.Sources.{ArePathsInOrder}
+use Rattle.source_tree.specs.declared.import_sites.ImportSite.{ImportSite}
+use Rattle.source_tree.specs.declared.source.Source.{Source}
 use Rattle.oscip_run.specs.declared.fault.RunFault.{RunFault}
 use Rattle.oscip_run.specs.declared.fault.RunFault.TheVariants as run
 use Rattle.oscip_run.proofs.CheckRuns.{Keeps-same}
@@ -64,7 +64,7 @@ module _ (IsOf : Network → List File → List Site → Type 0) (IsRefused : Ru
 
   -- what was written is a prefix of the text
   abbrev pub IsPrefix : Option (List ℕ) → Option (List ℕ) → Type 0
-  IsPrefix old new = (violations : List Violation) (stale : List Stale) → AreViolations net files (pieces_of text) violations → AreStaleLines net (pieces_of text) stale → AppendsFront old new (verdict_text style net sites violations stale)
+  IsPrefix old new = (violations : List Violation) (stale : List Stale) → AreViolations net files (pieces_of text) violations → AreStaleLines net (pieces_of text) stale → AppendsPrefix old new (verdict_text style net sites violations stale)
 
   front : (old new : Option (List ℕ)) (all : Rules) → AreRulesOf net files (pieces_of text) all → IsPrefix old new → PutsRulesFront IsOf style text old new
   front old new all are prefix = record { net = net; files = files; sites = sites; reads = of; sound = sound all are; prefix = prefix }
@@ -82,9 +82,9 @@ module _ (IsOf : Network → List File → List Site → Type 0) (IsRefused : Ru
   front_of : PutsRulesFront (AreThese n fs ss) style text old new → PutsRulesFront IsOf style text old new
   front_of h = record { net = h.net; files = h.files; sites = h.sites; reads = moved h.net h.files h.sites h.reads; sound = h.sound; prefix = h.prefix }
 
-  pub run_of : (result : Result Bool RunFault) → IsRulesRun (AreThese n fs ss) IsNeverRefused style text old new result → IsRulesRun IsOf IsRefused style text old new result
-  run_of (Ok agrees) (said, is, puts) = (
-    said,
+  pub run_of : (result : Result Bool RunFault) → IsRulesRun (AreThese n fs ss) IsNeverRejected style text old new result → IsRulesRun IsOf IsRefused style text old new result
+  run_of (Ok agrees) (claim, is, writes) = (
+    claim,
     record {
       net = is.net;
       files = is.files;
@@ -98,14 +98,14 @@ module _ (IsOf : Network → List File → List Site → Type 0) (IsRefused : Ru
       text_is = is.text_is;
       clean_is = is.clean_is;
     },
-    puts,
+    writes,
   )
   run_of (Err (run.CannotRead path)) h = absurd h
   run_of (Err (run.CannotWrite path)) h = absurd h
   run_of (Err (run.Tree fault)) h = absurd h.0
   run_of (Err (run.Net fault)) h = absurd h
   run_of (Err (run.Price fault)) h = absurd h
-  run_of (Err (run.Rules fault)) ((net, files, sites, reads, refusal), keeps) = ((net, files, sites, moved net files sites reads, refusal), keeps)
+  run_of (Err (run.Rules fault)) ((net, files, sites, reads, refusal), invariants) = ((net, files, sites, moved net files sites reads, refusal), invariants)
   run_of (Err (run.Report fault)) h = absurd h
   run_of (Err (run.Solve fault)) h = absurd h
   run_of (Err (run.Query fault)) h = absurd h
@@ -115,9 +115,9 @@ module _ (IsOf : Network → List File → List Site → Type 0) (IsRefused : Ru
 
 -- a run on the rules that were given
 pub rules_run : (Answers : Reading → Type 0) (style : Style) (path : List ℕ) (sources : List Source) (text seen : List ℕ) (old new : Option (List ℕ)) (result : Result Bool RunFault) →
-    Answers (FileOf path text) → seen ≡ text → IsRulesRun (IsRuledTree sources) (IsRefusedTree sources) style seen old new result → IsRulesFileRun Answers style sources path old new result
+    Answers (FileOf path text) → seen ≡ text → IsRulesRun (IsRuledTree sources) (IsRejectedTree sources) style seen old new result → IsRulesFileRun Answers style sources path old new result
 rules_run Answers style path sources text seen old new result read e run =
-    inr (text, read, subst (λ (x : List ℕ). IsRulesRun (IsRuledTree sources) (IsRefusedTree sources) style x old new result) e run)
+    inr (text, read, subst (λ (x : List ℕ). IsRulesRun (IsRuledTree sources) (IsRejectedTree sources) style x old new result) e run)
 
 -- files with the paths of a tree's files are sorted by them
 pub files_sorted : (sources : List Source) (files : List File) → map (λ (f : File). f.path.now) files ≡ map (λ (s : Source). string_bytes s.path) sources → ArePathsInOrder sources → IsSorted path_cmp files

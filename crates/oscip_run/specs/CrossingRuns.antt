@@ -2,22 +2,22 @@
 use Rattle.std.specs.Prelude.{◌≡◌, ◌⊎◌, ℕ, List, map, Option, Result, Ok, Err}
 use Rattle.std.specs.Io.KnownBytes.{Appends, Keeps}
 use Rattle.std.specs.String.{string_bytes}
-use Rattle.byte_sink.specs.Sinks.{AppendsFront}
+use Rattle.byte_sink.specs.Sinks.{AppendsPrefix}
 use Rattle.cut_solve.specs.declared.fault.SolveFault.{SolveFault}
 use Rattle.cut_solve.specs.declared.fault.SolveFault.TheVariants as solve
 use Rattle.text_escape.specs.Places.{Style}
-use Rattle.index_store.specs.Queries.{PlainPlace}
-use Rattle.index_store.specs.Lines.{place_lines}
-use Rattle.oscip_run.specs.Runs.{IsRefusedTree}
+use Rattle.index_store.specs.Queries.{LocationModel}
+use Rattle.index_store.specs.Lines.{location_lines}
+use Rattle.oscip_run.specs.Runs.{IsRejectedTree}
 use Rattle.oscip_run.specs.declared.fault.RunFault.{RunFault}
 use Rattle.oscip_run.specs.declared.fault.RunFault.TheVariants.{CannotRead, CannotWrite, Tree, Net, Price, Rules, Report, Solve, Query, Device, Memory}
-use Rattle.oscip_tree.specs.Crossings.{AreUses, IsNoModule, IsNoNode}
-use Rattle.oscip_tree.specs.declared.crossing.Span.{Span}
-use Rattle.oscip_tree.specs.declared.source.Source.{Source}
+use Rattle.source_tree.specs.Crossings.{AreUses, IsNoModule, IsNoNode}
+use Rattle.source_tree.specs.declared.crossing.Span.{Span}
+use Rattle.source_tree.specs.declared.source.Source.{Source}
 
 -- the location of a span in the file of this path
-abbrev pub place_in_file : List ℕ → Span → PlainPlace
-place_in_file path span = record {
+abbrev pub location_in_file : List ℕ → Span → LocationModel
+location_in_file path span = record {
   path = path;
   span = record { start = record { line = span.start.line; column = span.start.column }; end = record { line = span.end.line; column = span.end.column } };
 }
@@ -27,15 +27,15 @@ pub record IsUsesText (style : Style) (sources : List Source) (m n text : List �
   pub path : List ℕ
   pub spans : List Span
   pub uses : AreUses sources m n path spans
-  pub lines : text ≡ place_lines style (map (place_in_file path) spans)
+  pub lines : text ≡ location_lines style (map (location_in_file path) spans)
 
 -- the sink took the whole text
-abbrev pub PutsUses : Style → List Source → List ℕ → List ℕ → Option (List ℕ) → Option (List ℕ) → Type 0
-PutsUses style sources m n old new = (text : List ℕ) × IsUsesText style sources m n text × Appends old new text
+abbrev pub WritesUses : Style → List Source → List ℕ → List ℕ → Option (List ℕ) → Option (List ℕ) → Type 0
+WritesUses style sources m n old new = (text : List ℕ) × IsUsesText style sources m n text × Appends old new text
 
 -- the sink took a prefix of the text
-abbrev pub PutsUsesFront : Style → List Source → List ℕ → List ℕ → Option (List ℕ) → Option (List ℕ) → Type 0
-PutsUsesFront style sources m n old new = (text : List ℕ) × IsUsesText style sources m n text × AppendsFront old new text
+abbrev pub WritesUsesPrefix : Style → List Source → List ℕ → List ℕ → Option (List ℕ) → Option (List ℕ) → Type 0
+WritesUsesPrefix style sources m n old new = (text : List ℕ) × IsUsesText style sources m n text × AppendsPrefix old new text
 
 -- the name is the first unknown one of the two: m has to be a module with a file, n any module of the network
 abbrev pub IsFirstUnknown : List Source → List ℕ → List ℕ → List ℕ → Type 0
@@ -49,18 +49,18 @@ IsUnknown sources m n solve.Memory = ⊥
 
 -- a run of the engine: a rejected tree or name leaves the sink unchanged; Device or Memory leave it with at most a prefix of the text
 abbrev pub IsCrossingsRun : Style → List Source → List ℕ → List ℕ → Option (List ℕ) → Option (List ℕ) → Result (Unit {0}) RunFault → Type 0
-IsCrossingsRun style sources m n old new (Ok _) = PutsUses style sources m n old new
+IsCrossingsRun style sources m n old new (Ok _) = WritesUses style sources m n old new
 IsCrossingsRun style sources m n old new (Err (CannotRead path)) = ⊥
 IsCrossingsRun style sources m n old new (Err (CannotWrite path)) = ⊥
-IsCrossingsRun style sources m n old new (Err (Tree fault)) = IsRefusedTree sources (Tree fault) × Keeps old new
+IsCrossingsRun style sources m n old new (Err (Tree fault)) = IsRejectedTree sources (Tree fault) × Keeps old new
 IsCrossingsRun style sources m n old new (Err (Net fault)) = ⊥
 IsCrossingsRun style sources m n old new (Err (Price fault)) = ⊥
 IsCrossingsRun style sources m n old new (Err (Report fault)) = ⊥
 IsCrossingsRun style sources m n old new (Err (Solve fault)) = IsUnknown sources m n fault × Keeps old new
 IsCrossingsRun style sources m n old new (Err (Rules fault)) = ⊥
 IsCrossingsRun style sources m n old new (Err (Query fault)) = ⊥
-IsCrossingsRun style sources m n old new (Err Device) = PutsUsesFront style sources m n old new
-IsCrossingsRun style sources m n old new (Err Memory) = Keeps old new ⊎ PutsUsesFront style sources m n old new
+IsCrossingsRun style sources m n old new (Err Device) = WritesUsesPrefix style sources m n old new
+IsCrossingsRun style sources m n old new (Err Memory) = Keeps old new ⊎ WritesUsesPrefix style sources m n old new
 
 -- ---- intermediate results
 

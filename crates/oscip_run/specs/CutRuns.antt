@@ -3,14 +3,14 @@ use Rattle.std.specs.Prelude.{◌≡◌, ◌≢◌, ◌⊎◌, ℕ, Bool, List, 
 use Rattle.std.specs.Io.KnownBytes.{Appends, Keeps}
 use Rattle.cut_net.specs.declared.priced.Priced.{Priced}
 use Rattle.cut_net.specs.Network.{Network, index_of}
-use Rattle.cut_net.specs.Cuts.{ArePrinted, IsCheapest, IsFlow}
+use Rattle.cut_net.specs.Cuts.{AreReported, IsCheapest, IsFlow}
 use Rattle.cut_net.specs.Lines.{flow_by, removed_by, AreImportsInOrder, AreWeights}
-use Rattle.cut_net.specs.Pins.{ArePrintedWithPins, AreWeightsWithPins, IsCheapestWithPins, IsCutWithPins, IsFlowWithPins, IsLeastPinChain, PinChain}
-use Rattle.cut_net.specs.Said.{Said, CutOf, BlockedBy}
+use Rattle.cut_net.specs.Pins.{AreReportedWithPins, AreWeightsWithPins, IsCheapestWithPins, IsCutWithPins, IsFlowWithPins, IsLeastPinChain, PinChain}
+use Rattle.cut_net.specs.AnswerClaim.{AnswerClaim, CutOf, BlockedBy}
 use Rattle.cut_report.specs.ReportText.{ReportText}
-use Rattle.byte_sink.specs.Sinks.{AppendsFront}
-use Rattle.cut_solve.specs.Faults.{IsRefusalOf}
-use Rattle.cut_solve.specs.Solving.{IsSolveOutcome, SolveRefusal}
+use Rattle.byte_sink.specs.Sinks.{AppendsPrefix}
+use Rattle.cut_solve.specs.Faults.{IsErrorOf}
+use Rattle.cut_solve.specs.Solving.{IsSolveOutcome, SolveError}
 use Rattle.cut_solve.specs.declared.fault.SolveFault.{SolveFault}
 use Rattle.oscip_run.specs.declared.fault.RunFault.{RunFault}
 use Rattle.oscip_run.specs.declared.fault.RunFault.TheVariants.{CannotRead, CannotWrite, Tree, Net, Price, Rules, Report, Solve, Query, Device, Memory}
@@ -32,7 +32,7 @@ pub record IsPrintedCut (net : Network) (a b total : ℕ) (printed flow : List P
   -- weight
   pub is_flow : IsFlowWithPins net a b (flow_by flow) total
   -- of all cheapest cuts, the printed one is the canonical minimum cut
-  pub are_printed : ArePrintedWithPins net a b (removed_by printed)
+  pub are_printed : AreReportedWithPins net a b (removed_by printed)
 
 -- this path of pinned imports leads from a to b, so no cut exists
 pub record IsPrintedChain (net : Network) (a b : ℕ) (chain : List ℕ) : Type 0 where
@@ -42,12 +42,12 @@ pub record IsPrintedChain (net : Network) (a b : ℕ) (chain : List ℕ) : Type 
   pub no_cut : (x : Priced → Bool) → IsCutWithPins net a b x → ⊥
 
 -- the claim about the modules a and b holds: it is such a cut, or such a path of pinned imports
-abbrev pub IsPrinted : Network → ℕ → ℕ → Said → Type 0
+abbrev pub IsPrinted : Network → ℕ → ℕ → AnswerClaim → Type 0
 IsPrinted net a b (CutOf total printed flow) = IsPrintedCut net a b total printed flow
 IsPrinted net a b (BlockedBy chain) = IsPrintedChain net a b chain
 
 -- the text is the report, in its only form, of a claim about the modules of two names, and the claim holds
-pub record IsTextOf (IsOf : Network → Type 0) (IsSaid : Network → ℕ → ℕ → Said → Type 0) (first second text : List ℕ) : Type 0 where
+pub record IsTextOf (IsOf : Network → Type 0) (IsSaid : Network → ℕ → ℕ → AnswerClaim → Type 0) (first second text : List ℕ) : Type 0 where
   pub net : Network
   pub reads : IsOf net
   pub a : ℕ
@@ -57,10 +57,10 @@ pub record IsTextOf (IsOf : Network → Type 0) (IsSaid : Network → ℕ → �
   -- the two modules differ
   pub apart : a ≢ b
   -- the claim about them
-  pub said : Said
+  pub claim : AnswerClaim
   -- the text is the report of that claim
-  pub says : ReportText net text (record { from = a; to = b; said = said })
-  pub holds : IsSaid net a b said
+  pub says : ReportText net text (record { from = a; to = b; claim = claim })
+  pub holds : IsSaid net a b claim
 
 -- The headline theorem, for what a run of any number of workers with any gate leaves in the sink. The network is that of the accepted
 -- input, a tree or a network in a file, with its prices:
@@ -74,36 +74,36 @@ abbrev pub IsCutText : (Network → Type 0) → List ℕ → List ℕ → List �
 IsCutText IsOf = IsTextOf IsOf IsPrinted
 
 -- the sink took the whole report
-abbrev pub PutsCut : (Network → Type 0) → List ℕ → List ℕ → Option (List ℕ) → Option (List ℕ) → Type 0
-PutsCut IsOf first second old new = (text : List ℕ) × IsCutText IsOf first second text × Appends old new text
+abbrev pub WritesCut : (Network → Type 0) → List ℕ → List ℕ → Option (List ℕ) → Option (List ℕ) → Type 0
+WritesCut IsOf first second old new = (text : List ℕ) × IsCutText IsOf first second text × Appends old new text
 
 -- the sink took a prefix of the report
-abbrev pub PutsCutFront : (Network → Type 0) → List ℕ → List ℕ → Option (List ℕ) → Option (List ℕ) → Type 0
-PutsCutFront IsOf first second old new = (text : List ℕ) × IsCutText IsOf first second text × AppendsFront old new text
+abbrev pub WritesCutPrefix : (Network → Type 0) → List ℕ → List ℕ → Option (List ℕ) → Option (List ℕ) → Type 0
+WritesCutPrefix IsOf first second old new = (text : List ℕ) × IsCutText IsOf first second text × AppendsPrefix old new text
 
 -- the input is accepted, and the names are rejected with this fault
-abbrev pub IsRefusedNames : (Network → Type 0) → List ℕ → List ℕ → SolveFault → Type 0
-IsRefusedNames IsOf first second fault = (net : Network) × IsOf net × (refusal : SolveRefusal) × IsRefusalOf fault refusal × IsSolveOutcome net first second (Err refusal)
+abbrev pub IsRejectedNames : (Network → Type 0) → List ℕ → List ℕ → SolveFault → Type 0
+IsRejectedNames IsOf first second fault = (net : Network) × IsOf net × (refusal : SolveError) × IsErrorOf fault refusal × IsSolveOutcome net first second (Err refusal)
 
 -- a run of the engine: rejected input or names leave the sink unchanged; Device or Memory leave it with at most a prefix of the report
 abbrev pub IsCutRun : (Network → Type 0) → (RunFault → Type 0) → List ℕ → List ℕ → Option (List ℕ) → Option (List ℕ) → Result (Unit {0}) RunFault → Type 0
-IsCutRun IsOf IsRefused first second old new (Ok _) = PutsCut IsOf first second old new
+IsCutRun IsOf IsRefused first second old new (Ok _) = WritesCut IsOf first second old new
 IsCutRun IsOf IsRefused first second old new (Err (CannotRead path)) = ⊥
 IsCutRun IsOf IsRefused first second old new (Err (CannotWrite path)) = ⊥
 IsCutRun IsOf IsRefused first second old new (Err (Tree fault)) = IsRefused (Tree fault) × Keeps old new
 IsCutRun IsOf IsRefused first second old new (Err (Net fault)) = IsRefused (Net fault) × Keeps old new
 IsCutRun IsOf IsRefused first second old new (Err (Price fault)) = IsRefused (Price fault) × Keeps old new
 IsCutRun IsOf IsRefused first second old new (Err (Report fault)) = ⊥
-IsCutRun IsOf IsRefused first second old new (Err (Solve fault)) = IsRefusedNames IsOf first second fault × Keeps old new
+IsCutRun IsOf IsRefused first second old new (Err (Solve fault)) = IsRejectedNames IsOf first second fault × Keeps old new
 IsCutRun IsOf IsRefused first second old new (Err (Rules fault)) = ⊥
 IsCutRun IsOf IsRefused first second old new (Err (Query fault)) = ⊥
-IsCutRun IsOf IsRefused first second old new (Err Device) = PutsCutFront IsOf first second old new
-IsCutRun IsOf IsRefused first second old new (Err Memory) = Keeps old new ⊎ PutsCutFront IsOf first second old new
+IsCutRun IsOf IsRefused first second old new (Err Device) = WritesCutPrefix IsOf first second old new
+IsCutRun IsOf IsRefused first second old new (Err Memory) = Keeps old new ⊎ WritesCutPrefix IsOf first second old new
 
 -- ---- without pinned imports
 
 -- a cheapest cut between a and b, with its weight and a flow of that value, in a network without pinned imports
-pub record IsPlainCut (net : Network) (a b total : ℕ) (printed flow : List Priced) : Type 0 where
+pub record IsUnpinnedCut (net : Network) (a b total : ℕ) (printed flow : List Priced) : Type 0 where
   -- the printed imports are imports of the network, sorted
   pub printed_in_order : AreImportsInOrder net printed
   -- the imports with flow are imports of the network, sorted
@@ -115,13 +115,13 @@ pub record IsPlainCut (net : Network) (a b total : ℕ) (printed flow : List Pri
   -- the printed flow is within the weights, conserved at each module but a and b, and has the value of the printed weight
   pub is_flow : IsFlow net a b (flow_by flow) total
   -- of all cheapest cuts, the printed one is the canonical minimum cut
-  pub are_printed : ArePrinted net a b (removed_by printed)
+  pub are_printed : AreReported net a b (removed_by printed)
 
 -- the claim about the modules a and b is such a cut, and not a path of pinned imports
-abbrev pub IsPlainCutSaid : Network → ℕ → ℕ → Said → Type 0
-IsPlainCutSaid net a b (CutOf total printed flow) = IsPlainCut net a b total printed flow
-IsPlainCutSaid net a b (BlockedBy chain) = ⊥
+abbrev pub IsUnpinnedCutClaim : Network → ℕ → ℕ → AnswerClaim → Type 0
+IsUnpinnedCutClaim net a b (CutOf total printed flow) = IsUnpinnedCut net a b total printed flow
+IsUnpinnedCutClaim net a b (BlockedBy chain) = ⊥
 
 -- the headline theorem for a network without pinned imports
-abbrev pub IsPlainCutText : (Network → Type 0) → List ℕ → List ℕ → List ℕ → Type 0
-IsPlainCutText IsOf = IsTextOf IsOf IsPlainCutSaid
+abbrev pub IsUnpinnedCutText : (Network → Type 0) → List ℕ → List ℕ → List ℕ → Type 0
+IsUnpinnedCutText IsOf = IsTextOf IsOf IsUnpinnedCutClaim

@@ -8,9 +8,9 @@ use Rattle.oscip_run.specs.Streams.{Writes, WritesAll, WritesPrefix}
 use Rattle.oscip_run.specs.declared.fault.RunFault.{RunFault}
 use Rattle.oscip_run.specs.declared.fault.RunFault.TheVariants.{Device, Memory}
 use Rattle.oscip_run.specs.declared.stream.Stream.{Stream}
-use Rattle.oscip_tree.specs.declared.tree_fault.TreeFault.{TreeFault}
+use Rattle.source_tree.specs.declared.tree_fault.TreeFault.{TreeFault}
 use Rattle.text_escape.specs.Escapes.{escaped}
-use Rattle.text_escape.specs.Places.{plain_style, Style}
+use Rattle.text_escape.specs.Places.{raw_style, Style}
 
 -- the status of a run: 0 for true, 5 for false, and otherwise that of its fault
 abbrev pub run_status : Result Bool RunFault → ℕ
@@ -77,5 +77,5 @@ EndsWords out_taken err_taken (words.Line text) out err status =
     Writes err_taken err.0 err.1 (string_bytes text) × (out.1 ≡ out.0) × (status ≡ words_status (words.Line text))
 EndsWords out_taken err_taken (words.Help text) out err status =
     (WritesAll out_taken out.0 out.1 (string_bytes text) × (err.1 ≡ err.0) × (status ≡ words_status (words.Help text)))
-    ⊎ (WritesPrefix out_taken out.0 out.1 (string_bytes text) × EndsByFault err_taken plain_style Device err.0 err.1 status)
-EndsWords out_taken err_taken words.Memory out err status = EndsByFault err_taken plain_style Memory err.0 err.1 status × (out.1 ≡ out.0)
+    ⊎ (WritesPrefix out_taken out.0 out.1 (string_bytes text) × EndsByFault err_taken raw_style Device err.0 err.1 status)
+EndsWords out_taken err_taken words.Memory out err status = EndsByFault err_taken raw_style Memory err.0 err.1 status × (out.1 ≡ out.0)

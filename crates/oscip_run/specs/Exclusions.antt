@@ -2,7 +2,7 @@
 use Rattle.std.specs.Prelude.{ℕ, List, All, map}
 use Rattle.std.specs.String.{string_bytes}
 use Rattle.glob.specs.Exclusions.{IsExcluded}
-use Rattle.oscip_tree.specs.declared.source.Source.{Source}
+use Rattle.source_tree.specs.declared.source.Source.{Source}
 
 -- no pattern excludes one of the paths
 abbrev pub AreIncludedPaths : List (List ℕ) → List (List ℕ) → Type 0

@@ -22,12 +22,12 @@ use Rattle.index_store.specs.declared.query_fault.QueryFault.{QueryFault}
 use Rattle.index_store.specs.declared.query_fault.QueryFault.TheVariants as query
 use Rattle.oscip_run.specs.declared.fault.RunFault.TheVariants.{CannotRead, CannotWrite, Tree, Net, Price, Rules, Report, Solve, Query, Device, Memory}
 use Rattle.text_escape.specs.Places.{Style}
-use Rattle.oscip_tree.specs.declared.tree_fault.TreeFault.{TreeFault}
-use Rattle.oscip_tree.specs.TreeFaults.{after_space, tree_fault_text, wants_memory}
+use Rattle.source_tree.specs.declared.tree_fault.TreeFault.{TreeFault}
+use Rattle.source_tree.specs.TreeFaults.{after_space, tree_fault_text, is_out_of_memory}
 
 -- the fault of a run for a fault of a tree, with one Memory for each failed allocation
 abbrev pub of_tree : TreeFault → RunFault
-of_tree fault = if wants_memory fault then Memory else Tree fault
+of_tree fault = if is_out_of_memory fault then Memory else Tree fault
 
 -- the fault of a run for a fault of a network
 abbrev pub of_net : NetFault → RunFault
@@ -207,7 +207,7 @@ solve_status solve.Memory = 4
 
 -- the status of a fault of a tree: 1 for rejected input, 4 for memory
 abbrev pub tree_status : TreeFault → ℕ
-tree_status fault = if wants_memory fault then 4 else 1
+tree_status fault = if is_out_of_memory fault then 4 else 1
 
 -- the status of a fault: 1 for rejected input, 3 for a file or a device, 4 for memory
 abbrev pub status_number : RunFault → ℕ

@@ -2,7 +2,7 @@
 use Rattle.std.specs.Prelude.{◌≡◌, ℕ, Bool, true, List, Option, None, Result, Ok, Err, IfOk}
 use Rattle.std.specs.String.{string_bytes}
 use Rattle.cut_net.specs.Network.{Network}
-use Rattle.cut_net.specs.Said.{Said}
+use Rattle.cut_net.specs.AnswerClaim.{AnswerClaim}
 use Rattle.oscip_run.specs.CutRuns.{IsCutRun}
 use Rattle.oscip_run.specs.DotRuns.{IsAskedPicture, IsDotRun}
 use Rattle.oscip_run.specs.ImportRuns.{IsWhyRun}
@@ -24,7 +24,7 @@ IsCutJobRun IsOf IsRefused first second old new result =
     IsCutRun IsOf IsRefused first second old new (without_answer result) × IfOk result (λ agrees. agrees ≡ true)
 
 -- a run that draws a picture for which Shows holds, and never returns false
-abbrev pub IsDotJobRun : (Network → ℕ → ℕ → Said → List ℕ → Type 0) → (Network → Type 0) → (RunFault → Type 0) → List ℕ → Option (List ℕ) → Option (List ℕ) → Result Bool RunFault → Type 0
+abbrev pub IsDotJobRun : (Network → ℕ → ℕ → AnswerClaim → List ℕ → Type 0) → (Network → Type 0) → (RunFault → Type 0) → List ℕ → Option (List ℕ) → Option (List ℕ) → Result Bool RunFault → Type 0
 IsDotJobRun Shows IsOf IsRefused report old new result =
     IsDotRun Shows IsOf IsRefused report old new (without_answer result) × IfOk result (λ agrees. agrees ≡ true)
 

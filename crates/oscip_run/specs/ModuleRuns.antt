@@ -3,12 +3,12 @@ use Rattle.std.specs.Prelude.{◌≡◌, ◌<◌, ℕ, List, ◌++◌, map, slic
 use Rattle.std.specs.List.{flat_map}
 use Rattle.std.specs.String.{string_bytes}
 use Rattle.cut_net.specs.Network.{Network}
-use Rattle.oscip_run.specs.ImportRuns.{IsToldRun}
-use Rattle.oscip_run.specs.Runs.{IsRefusedTree}
+use Rattle.oscip_run.specs.ImportRuns.{IsWritingRun}
+use Rattle.oscip_run.specs.Runs.{IsRejectedTree}
 use Rattle.oscip_run.specs.declared.fault.RunFault.{RunFault}
 use Rattle.oscip_run.specs.declared.listing.ListedModule.{ListedModule}
-use Rattle.oscip_tree.specs.Trees.{AreAccepted, IsNetOfTree, ModuleFile, names}
-use Rattle.oscip_tree.specs.declared.source.Source.{Source}
+use Rattle.source_tree.specs.Trees.{AreAccepted, IsNetOfTree, ModuleFile, names}
+use Rattle.source_tree.specs.declared.source.Source.{Source}
 use Rattle.text_escape.specs.Places.{path_text, Style}
 
 -- the name of a module, and the path of its file if it has one
@@ -51,7 +51,7 @@ pub record IsModulesText (style : Style) (sources : List Source) (text : List �
 
 -- a run that lists the modules of a tree
 abbrev pub IsModulesRun : Style → List Source → Option (List ℕ) → Option (List ℕ) → Result (Unit {0}) RunFault → Type 0
-IsModulesRun style sources = IsToldRun (IsModulesText style sources) (IsRefusedTree sources)
+IsModulesRun style sources = IsWritingRun (IsModulesText style sources) (IsRejectedTree sources)
 
 -- ---- how entries are made
 

@@ -3,11 +3,11 @@ use Rattle.std.specs.Prelude.{◌⊎◌, ℕ, List, Option, Some, None, Ok, Err}
 use Rattle.cut_net.specs.Network.{Network}
 use Rattle.cut_net.specs.Prices.{IsPriceOutcome}
 use Rattle.cut_net.specs.declared.price_fault.PriceFault.{PriceFault}
-use Rattle.oscip_run.specs.Runs.{IsNetOfText, IsRefusedText, IsRefusedTree}
+use Rattle.oscip_run.specs.Runs.{IsNetOfText, IsRejectedText, IsRejectedTree}
 use Rattle.oscip_run.specs.declared.fault.RunFault.{RunFault}
 use Rattle.oscip_run.specs.declared.fault.RunFault.TheVariants.{CannotRead, CannotWrite, Tree, Net, Price, Rules, Report, Solve, Query, Device, Memory}
-use Rattle.oscip_tree.specs.Trees.{IsNetOfTree}
-use Rattle.oscip_tree.specs.declared.source.Source.{Source}
+use Rattle.source_tree.specs.Trees.{IsNetOfTree}
+use Rattle.source_tree.specs.declared.source.Source.{Source}
 
 -- this text of prices makes the network from that of the input
 abbrev pub IsPricedBy : (Network → Type 0) → List ℕ → Network → Type 0
@@ -23,23 +23,23 @@ abbrev pub IsPriceRefusal : (Network → Type 0) → List ℕ → PriceFault →
 IsPriceRefusal IsOf text fault = (before : Network) × IsOf before × IsPriceOutcome before text (Err fault)
 
 -- this text of prices is rejected for the input's network, with this fault of a run
-abbrev pub IsRefusedBy : (Network → Type 0) → List ℕ → RunFault → Type 0
-IsRefusedBy IsOf text (CannotRead path) = ⊥
-IsRefusedBy IsOf text (CannotWrite path) = ⊥
-IsRefusedBy IsOf text (Tree fault) = ⊥
-IsRefusedBy IsOf text (Net fault) = ⊥
-IsRefusedBy IsOf text (Price fault) = IsPriceRefusal IsOf text fault
-IsRefusedBy IsOf text (Report fault) = ⊥
-IsRefusedBy IsOf text (Solve fault) = ⊥
-IsRefusedBy IsOf text (Rules fault) = ⊥
-IsRefusedBy IsOf text (Query fault) = ⊥
-IsRefusedBy IsOf text Device = ⊥
-IsRefusedBy IsOf text Memory = ⊥
+abbrev pub IsRejectedBy : (Network → Type 0) → List ℕ → RunFault → Type 0
+IsRejectedBy IsOf text (CannotRead path) = ⊥
+IsRejectedBy IsOf text (CannotWrite path) = ⊥
+IsRejectedBy IsOf text (Tree fault) = ⊥
+IsRejectedBy IsOf text (Net fault) = ⊥
+IsRejectedBy IsOf text (Price fault) = IsPriceRefusal IsOf text fault
+IsRejectedBy IsOf text (Report fault) = ⊥
+IsRejectedBy IsOf text (Solve fault) = ⊥
+IsRejectedBy IsOf text (Rules fault) = ⊥
+IsRejectedBy IsOf text (Query fault) = ⊥
+IsRejectedBy IsOf text Device = ⊥
+IsRejectedBy IsOf text Memory = ⊥
 
 -- the input is rejected with this fault, or its prices are, if they are given
-abbrev pub IsRefusedPriced : (Network → Type 0) → (RunFault → Type 0) → Option (List ℕ) → RunFault → Type 0
-IsRefusedPriced IsOf IsRefused None = IsRefused
-IsRefusedPriced IsOf IsRefused (Some text) = λ fault. IsRefused fault ⊎ IsRefusedBy IsOf text fault
+abbrev pub IsRejectedPriced : (Network → Type 0) → (RunFault → Type 0) → Option (List ℕ) → RunFault → Type 0
+IsRejectedPriced IsOf IsRefused None = IsRefused
+IsRejectedPriced IsOf IsRefused (Some text) = λ fault. IsRefused fault ⊎ IsRejectedBy IsOf text fault
 
 -- ---- of a text
 
@@ -48,8 +48,8 @@ abbrev pub IsNetOfPricedText : List ℕ → Option (List ℕ) → Network → Ty
 IsNetOfPricedText text = IsPricedInput (IsNetOfText text)
 
 -- the text or its prices are rejected with this fault
-abbrev pub IsRefusedPricedText : List ℕ → Option (List ℕ) → RunFault → Type 0
-IsRefusedPricedText text = IsRefusedPriced (IsNetOfText text) (IsRefusedText text)
+abbrev pub IsRejectedPricedText : List ℕ → Option (List ℕ) → RunFault → Type 0
+IsRejectedPricedText text = IsRejectedPriced (IsNetOfText text) (IsRejectedText text)
 
 -- ---- of a tree
 
@@ -58,21 +58,21 @@ abbrev pub IsNetOfPricedTree : List Source → Option (List ℕ) → Network →
 IsNetOfPricedTree sources = IsPricedInput (IsNetOfTree sources)
 
 -- the tree or its prices are rejected with this fault
-abbrev pub IsRefusedPricedTree : List Source → Option (List ℕ) → RunFault → Type 0
-IsRefusedPricedTree sources = IsRefusedPriced (IsNetOfTree sources) (IsRefusedTree sources)
+abbrev pub IsRejectedPricedTree : List Source → Option (List ℕ) → RunFault → Type 0
+IsRejectedPricedTree sources = IsRejectedPriced (IsNetOfTree sources) (IsRejectedTree sources)
 
 -- ---- intermediate results
 
 -- memory ran out, or IsRefused holds for the fault
-abbrev pub IsRefusedOr : (RunFault → Type 0) → RunFault → Type 0
-IsRefusedOr IsRefused (CannotRead path) = ⊥
-IsRefusedOr IsRefused (CannotWrite path) = ⊥
-IsRefusedOr IsRefused (Tree fault) = IsRefused (Tree fault)
-IsRefusedOr IsRefused (Net fault) = IsRefused (Net fault)
-IsRefusedOr IsRefused (Price fault) = IsRefused (Price fault)
-IsRefusedOr IsRefused (Report fault) = ⊥
-IsRefusedOr IsRefused (Solve fault) = ⊥
-IsRefusedOr IsRefused (Rules fault) = ⊥
-IsRefusedOr IsRefused (Query fault) = ⊥
-IsRefusedOr IsRefused Device = ⊥
-IsRefusedOr IsRefused Memory = Unit {0}
+abbrev pub IsRejectedOr : (RunFault → Type 0) → RunFault → Type 0
+IsRejectedOr IsRefused (CannotRead path) = ⊥
+IsRejectedOr IsRefused (CannotWrite path) = ⊥
+IsRejectedOr IsRefused (Tree fault) = IsRefused (Tree fault)
+IsRejectedOr IsRefused (Net fault) = IsRefused (Net fault)
+IsRejectedOr IsRefused (Price fault) = IsRefused (Price fault)
+IsRejectedOr IsRefused (Report fault) = ⊥
+IsRejectedOr IsRefused (Solve fault) = ⊥
+IsRejectedOr IsRefused (Rules fault) = ⊥
+IsRejectedOr IsRefused (Query fault) = ⊥
+IsRejectedOr IsRefused Device = ⊥
+IsRejectedOr IsRefused Memory = Unit {0}

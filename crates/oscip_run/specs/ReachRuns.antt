@@ -8,11 +8,11 @@ use Rattle.cut_solve.specs.declared.fault.SolveFault.{SolveFault}
 use Rattle.cut_solve.specs.declared.fault.SolveFault.TheVariants as solve
 use Rattle.oscip_job.specs.declared.job.Direction.{Direction}
 use Rattle.oscip_job.specs.declared.job.Direction.TheVariants.{Imported, Importing}
-use Rattle.oscip_run.specs.ImportRuns.{IsToldRun}
+use Rattle.oscip_run.specs.ImportRuns.{IsWritingRun}
 use Rattle.oscip_run.specs.ModuleRuns.{entry_lines, ModuleEntry}
 use Rattle.oscip_run.specs.declared.fault.RunFault.{RunFault}
 use Rattle.oscip_run.specs.declared.fault.RunFault.TheVariants.{CannotRead, CannotWrite, Tree, Net, Price, Rules, Report, Solve, Query, Device, Memory}
-use Rattle.text_escape.specs.Places.{plain_style}
+use Rattle.text_escape.specs.Places.{raw_style}
 
 -- a path of one or more imports leads from the first module to the second, or from the second to the first, by the direction
 abbrev pub IsReached : Network → Direction → ℕ → ℕ → Type 0
@@ -32,7 +32,7 @@ pub record IsReachText (IsOf : Network → Type 0) (name : List ℕ) (direction 
   pub reached : List ℕ
   pub ascending : AllPairs (λ m n. m < n) reached
   pub exact : (n : ℕ) → Contains reached n ↔ IsReached net direction start n
-  pub lines : text ≡ entry_lines plain_style (map (named_entry net) reached)
+  pub lines : text ≡ entry_lines raw_style (map (named_entry net) reached)
 
 -- the fault states that no module of the network has this name
 abbrev pub IsUnknownName : Network → List ℕ → SolveFault → Type 0
@@ -41,19 +41,19 @@ IsUnknownName net name (solve.NoSuchModule own) = (index_of net name ≡ None) �
 IsUnknownName net name solve.Memory = ⊥
 
 -- the input is rejected with this fault, or it is accepted and no module has the name
-abbrev pub IsReachRefused : (Network → Type 0) → (RunFault → Type 0) → List ℕ → RunFault → Type 0
-IsReachRefused IsOf IsRefused name (CannotRead path) = ⊥
-IsReachRefused IsOf IsRefused name (CannotWrite path) = ⊥
-IsReachRefused IsOf IsRefused name (Tree fault) = IsRefused (Tree fault)
-IsReachRefused IsOf IsRefused name (Net fault) = IsRefused (Net fault)
-IsReachRefused IsOf IsRefused name (Price fault) = ⊥
-IsReachRefused IsOf IsRefused name (Report fault) = ⊥
-IsReachRefused IsOf IsRefused name (Solve fault) = (net : Network) × IsOf net × IsUnknownName net name fault
-IsReachRefused IsOf IsRefused name (Rules fault) = ⊥
-IsReachRefused IsOf IsRefused name (Query fault) = ⊥
-IsReachRefused IsOf IsRefused name Device = ⊥
-IsReachRefused IsOf IsRefused name Memory = ⊥
+abbrev pub IsReachRejected : (Network → Type 0) → (RunFault → Type 0) → List ℕ → RunFault → Type 0
+IsReachRejected IsOf IsRefused name (CannotRead path) = ⊥
+IsReachRejected IsOf IsRefused name (CannotWrite path) = ⊥
+IsReachRejected IsOf IsRefused name (Tree fault) = IsRefused (Tree fault)
+IsReachRejected IsOf IsRefused name (Net fault) = IsRefused (Net fault)
+IsReachRejected IsOf IsRefused name (Price fault) = ⊥
+IsReachRejected IsOf IsRefused name (Report fault) = ⊥
+IsReachRejected IsOf IsRefused name (Solve fault) = (net : Network) × IsOf net × IsUnknownName net name fault
+IsReachRejected IsOf IsRefused name (Rules fault) = ⊥
+IsReachRejected IsOf IsRefused name (Query fault) = ⊥
+IsReachRejected IsOf IsRefused name Device = ⊥
+IsReachRejected IsOf IsRefused name Memory = ⊥
 
 -- a run that lists the modules that the module of this name reaches, or that reach it
 abbrev pub IsReachRun : (Network → Type 0) → (RunFault → Type 0) → List ℕ → Direction → Option (List ℕ) → Option (List ℕ) → Result (Unit {0}) RunFault → Type 0
-IsReachRun IsOf IsRefused name direction = IsToldRun (IsReachText IsOf name direction) (IsReachRefused IsOf IsRefused name)
+IsReachRun IsOf IsRefused name direction = IsWritingRun (IsReachText IsOf name direction) (IsReachRejected IsOf IsRefused name)

@@ -6,9 +6,9 @@ use Rattle.oscip_job.specs.declared.job.NetQuestion.{NetQuestion}
 use Rattle.oscip_job.specs.declared.job.NetQuestion.TheVariants.{Cut, Check, Dot, Why, Reach}
 use Rattle.oscip_run.specs.Exclusions.{AreIncluded}
 use Rattle.oscip_run.specs.Faults.{IsReadFault}
-use Rattle.oscip_run.specs.Files.{AreFronts, IsFile}
+use Rattle.oscip_run.specs.Files.{AreModulePrefixes, IsFile}
 use Rattle.oscip_run.specs.declared.fault.RunFault.{RunFault}
-use Rattle.oscip_tree.specs.declared.source.Source.{Source}
+use Rattle.source_tree.specs.declared.source.Source.{Source}
 
 -- a reading of a path: the bytes of the file, the modules below the folder that no pattern excludes, or the fault of a path that can't be
 -- read
@@ -20,7 +20,7 @@ pub data Reading : Type 0 where
 -- what is known of a reading of the system: how many bytes are read, that excluded files are left out, and which faults there are
 abbrev pub IsOfSystem : Reading → Type 0
 IsOfSystem (FileOf path bytes) = IsFile bytes
-IsOfSystem (FolderOf path patterns sources) = AreFronts sources × AreIncluded patterns sources
+IsOfSystem (FolderOf path patterns sources) = AreModulePrefixes sources × AreIncluded patterns sources
 IsOfSystem (Refused path fault) = IsReadFault fault
 
 -- the paths that a question names besides its network: of its report and its prices, if it has them
@@ -39,35 +39,35 @@ paths_beside (Reach reaching) = record { report = None; prices = None }
 -- Below, Answers holds for the readings that a reader may return.
 
 -- the bytes are those that the reader returned for the path; without a path there are none
-abbrev pub IsGiven : (Reading → Type 0) → Option (List ℕ) → Option (List ℕ) → Type 0
-IsGiven Answers None given = given ≡ None
-IsGiven Answers (Some path) given = (bytes : List ℕ) × (given ≡ Some bytes) × Answers (FileOf path bytes)
+abbrev pub IsReturned : (Reading → Type 0) → Option (List ℕ) → Option (List ℕ) → Type 0
+IsReturned Answers None given = given ≡ None
+IsReturned Answers (Some path) given = (bytes : List ℕ) × (given ≡ Some bytes) × Answers (FileOf path bytes)
 
 -- there is a path, and the reader returned this fault for it
-abbrev pub IsNotGiven : (Reading → Type 0) → Option (List ℕ) → RunFault → Type 0
-IsNotGiven Answers None fault = ⊥
-IsNotGiven Answers (Some path) fault = Answers (Refused path fault)
+abbrev pub IsUnreadable : (Reading → Type 0) → Option (List ℕ) → RunFault → Type 0
+IsUnreadable Answers None fault = ⊥
+IsUnreadable Answers (Some path) fault = Answers (Refused path fault)
 
 -- the report and the prices are those that the reader returned for their paths, if the question names them
-pub record AreGiven (Answers : Reading → Type 0) (paths : PathsBeside) (report prices : Option (List ℕ)) : Type 0 where
-  pub report_given : IsGiven Answers paths.report report
-  pub prices_given : IsGiven Answers paths.prices prices
+pub record AreReturned (Answers : Reading → Type 0) (paths : PathsBeside) (report prices : Option (List ℕ)) : Type 0 where
+  pub report_returned : IsReturned Answers paths.report report
+  pub prices_returned : IsReturned Answers paths.prices prices
 
 -- the reader returned the fault for the report, or it returned the report and the fault for the prices
-abbrev pub AreNotGiven : (Reading → Type 0) → PathsBeside → RunFault → Type 0
-AreNotGiven Answers paths fault =
-    IsNotGiven Answers paths.report fault ⊎ (((report : Option (List ℕ)) × IsGiven Answers paths.report report) × IsNotGiven Answers paths.prices fault)
+abbrev pub AreUnreadable : (Reading → Type 0) → PathsBeside → RunFault → Type 0
+AreUnreadable Answers paths fault =
+    IsUnreadable Answers paths.report fault ⊎ (((report : Option (List ℕ)) × IsReturned Answers paths.report report) × IsUnreadable Answers paths.prices fault)
 
 -- the reader returned the fault for the network, or it returned the network and the fault for one of the files that follow
-abbrev pub IsNetNotGiven : (Reading → Type 0) → List ℕ → PathsBeside → RunFault → Type 0
-IsNetNotGiven Answers path beside fault =
-    Answers (Refused path fault) ⊎ (((network : List ℕ) × Answers (FileOf path network)) × AreNotGiven Answers beside fault)
+abbrev pub IsNetUnreadable : (Reading → Type 0) → List ℕ → PathsBeside → RunFault → Type 0
+IsNetUnreadable Answers path beside fault =
+    Answers (Refused path fault) ⊎ (((network : List ℕ) × Answers (FileOf path network)) × AreUnreadable Answers beside fault)
 
 -- ---- intermediate results
 
 -- the bytes, if any were read
-abbrev pub given_bytes : Option (Vec ℕ) → Option (List ℕ)
-given_bytes given = option_map (λ (bytes : Vec ℕ). bytes.items) given
+abbrev pub returned_bytes : Option (Vec ℕ) → Option (List ℕ)
+returned_bytes given = option_map (λ (bytes : Vec ℕ). bytes.items) given
 
 -- the bytes, or no bytes if none were read
 abbrev pub bytes_or_none : Option (List ℕ) → List ℕ

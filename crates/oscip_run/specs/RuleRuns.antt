@@ -2,7 +2,7 @@
 use Rattle.std.specs.Prelude.{◌≡◌, ◌⊎◌, ℕ, Bool, List, length, map, slice_get, Option, Some, Result, Ok, Err}
 use Rattle.std.specs.Io.KnownBytes.{Appends, Keeps}
 use Rattle.std.specs.String.{string_bytes}
-use Rattle.byte_sink.specs.Sinks.{AppendsFront}
+use Rattle.byte_sink.specs.Sinks.{AppendsPrefix}
 use Rattle.text_escape.specs.Places.{Style}
 use Rattle.cut_net.specs.Network.{Network}
 use Rattle.cut_rules.specs.Faults.{IsRefusal}
@@ -11,13 +11,13 @@ use Rattle.cut_rules.specs.Verdicts.{is_clean, verdict_text, AreStaleLines, AreV
 use Rattle.cut_rules.specs.declared.fault.RulesFault.{RulesFault}
 use Rattle.cut_rules.specs.declared.file.File.{File}
 use Rattle.cut_rules.specs.declared.site.Site.{Site}
-use Rattle.oscip_run.specs.Runs.{IsRefusedTree}
+use Rattle.oscip_run.specs.Runs.{IsRejectedTree}
 use Rattle.oscip_run.specs.declared.fault.RunFault.{RunFault}
 use Rattle.oscip_run.specs.declared.fault.RunFault.TheVariants.{CannotRead, CannotWrite, Tree, Net, Price, Rules, Report, Solve, Query, Device, Memory}
-use Rattle.oscip_tree.specs.Located.{AreModulesOf, AreSitesOf}
-use Rattle.oscip_tree.specs.Trees.{IsNetOfTree}
-use Rattle.oscip_tree.specs.declared.import_sites.ImportSite.{ImportSite}
-use Rattle.oscip_tree.specs.declared.source.Source.{Source}
+use Rattle.source_tree.specs.Located.{AreModulesOf, AreSitesOf}
+use Rattle.source_tree.specs.Trees.{IsNetOfTree}
+use Rattle.source_tree.specs.declared.import_sites.ImportSite.{ImportSite}
+use Rattle.source_tree.specs.declared.source.Source.{Source}
 
 -- the site has the path of the import's file and its position there
 abbrev pub IsSiteIn : List Source → ImportSite → Site → Type 0
@@ -74,7 +74,7 @@ module _ (IsOf : Network → List File → List Site → Type 0) (style : Style)
     pub reads : IsOf net files sites
     pub sound : IsFaultless net files rules
     pub prefix : (violations : List Violation) (stale : List Stale) → AreViolations net files (pieces_of rules) violations → AreStaleLines net (pieces_of rules) stale
-        → AppendsFront old new (verdict_text style net sites violations stale)
+        → AppendsPrefix old new (verdict_text style net sites violations stale)
 
   -- the input is accepted, and the rules are rejected with this fault
   abbrev pub IsRefusedRules : RulesFault → Type 0

@@ -11,28 +11,28 @@ use Rattle.oscip_run.specs.JobRuns.{without_answer}
 use Rattle.oscip_run.specs.ModuleRuns.{IsModulesRun}
 use Rattle.oscip_run.specs.Readings.{FileOf, Reading, Refused}
 use Rattle.oscip_run.specs.RuleRuns.{IsRuledTree, IsRulesRun}
-use Rattle.oscip_run.specs.Runs.{IsRefusedTree}
+use Rattle.oscip_run.specs.Runs.{IsRejectedTree}
 use Rattle.oscip_run.specs.declared.fault.RunFault.{RunFault}
-use Rattle.oscip_tree.specs.Trees.{IsNetOfTree}
-use Rattle.oscip_tree.specs.declared.source.Source.{Source}
+use Rattle.source_tree.specs.Trees.{IsNetOfTree}
+use Rattle.source_tree.specs.declared.source.Source.{Source}
 use Rattle.text_escape.specs.Places.{Style}
 
 -- the run never returns false
-abbrev pub NeverSaysNo : Result Bool RunFault → Type 0
-NeverSaysNo result = IfOk result (λ agrees. agrees ≡ true)
+abbrev pub IsNeverFalse : Result Bool RunFault → Type 0
+IsNeverFalse result = IfOk result (λ agrees. agrees ≡ true)
 
 -- the file of the rules can't be read, or its rules are checked
 abbrev pub IsRulesFileRun : (Reading → Type 0) → Style → List Source → List ℕ → Option (List ℕ) → Option (List ℕ) → Result Bool RunFault → Type 0
 IsRulesFileRun Answers style sources path old new result =
     IsUnread (λ fault. Answers (Refused path fault)) old new result
-    ⊎ ((text : List ℕ) × Answers (FileOf path text) × IsRulesRun (IsRuledTree sources) (IsRefusedTree sources) style text old new result)
+    ⊎ ((text : List ℕ) × Answers (FileOf path text) × IsRulesRun (IsRuledTree sources) (IsRejectedTree sources) style text old new result)
 
 -- a run of a question about these modules, with locations in this style
 abbrev pub IsTreeQuestionRun : (Reading → Type 0) → Style → List Source → TreeQuestion → Option (List ℕ) → Option (List ℕ) → Result Bool RunFault → Type 0
 IsTreeQuestionRun Answers style sources (OfNet question) old new result = IsTreeNetRun Answers sources question old new result
 IsTreeQuestionRun Answers style sources (Crossings names) old new result =
-    IsCrossingsRun style sources (string_bytes names.from) (string_bytes names.to) old new (without_answer result) × NeverSaysNo result
-IsTreeQuestionRun Answers style sources Net old new result = IsNetTextRun (IsNetOfTree sources) (IsRefusedTree sources) old new (without_answer result) × NeverSaysNo result
+    IsCrossingsRun style sources (string_bytes names.from) (string_bytes names.to) old new (without_answer result) × IsNeverFalse result
+IsTreeQuestionRun Answers style sources Net old new result = IsNetTextRun (IsNetOfTree sources) (IsRejectedTree sources) old new (without_answer result) × IsNeverFalse result
 IsTreeQuestionRun Answers style sources (Rules path) old new result = IsRulesFileRun Answers style sources (string_bytes path) old new result
 IsTreeQuestionRun Answers style sources Faults old new result = IsFaultsRun style sources old new result
-IsTreeQuestionRun Answers style sources Modules old new result = IsModulesRun style sources old new (without_answer result) × NeverSaysNo result
+IsTreeQuestionRun Answers style sources Modules old new result = IsModulesRun style sources old new (without_answer result) × IsNeverFalse result

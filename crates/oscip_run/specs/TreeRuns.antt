@@ -12,14 +12,14 @@ use Rattle.oscip_run.specs.TreeQuestionRuns.{IsTreeQuestionRun}
 use Rattle.oscip_run.specs.declared.fault.RunFault.{RunFault}
 use Rattle.oscip_run.specs.declared.fault.RunFault.TheVariants.{Memory}
 use Rattle.oscip_run.specs.declared.tree_run.TreeRun.{TreeRun}
-use Rattle.oscip_tree.specs.OwnFaults.{ArePartedFiles}
-use Rattle.oscip_tree.specs.declared.source.Source.{Source}
-use Rattle.oscip_tree.specs.declared.tree_fault.TreeFault.{TreeFault}
+use Rattle.source_tree.specs.OwnFaults.{ArePartitionedFiles}
+use Rattle.source_tree.specs.declared.source.Source.{Source}
+use Rattle.source_tree.specs.declared.tree_fault.TreeFault.{TreeFault}
 
 -- the files that a run uses and the faults of the others: files with faults of their own are left out if the first argument is true, none
 -- otherwise
 abbrev pub AreUsed : Bool → List Source → List Source → List TreeFault → Type 0
-AreUsed true sources used faults = ArePartedFiles sources used faults
+AreUsed true sources used faults = ArePartitionedFiles sources used faults
 AreUsed false sources used faults = (used ≡ sources) × (faults ≡ [])
 
 -- the reader returned files for the tree's folder and patterns; the run uses these of them, and the faults are those of the others

@@ -2,26 +2,26 @@
 ghost use Rattle.std.specs.Prelude.{◌≡◌, ℕ, IfOk, List, map};
 ghost use Rattle.byte_sink.specs.Sinks.{failures_by};
 ghost use Rattle.text_escape.specs.Places.{style_of};
-ghost use Rattle.index_store.specs.Queries.{plain_place};
-ghost use Rattle.oscip_run.specs.CrossingRuns.{place_in_file, IsCrossingsRun, IsNoName};
+ghost use Rattle.index_store.specs.Queries.{location_model};
+ghost use Rattle.oscip_run.specs.CrossingRuns.{location_in_file, IsCrossingsRun, IsNoName};
 ghost use Rattle.oscip_run.specs.Faults.{is_device};
-ghost use Rattle.oscip_tree.specs.Crossings.{AreUses};
-ghost use Rattle.oscip_tree.specs.Sources.{ArePathsInOrder};
-ghost use Rattle.oscip_tree.specs.declared.source.Source.{Source};
+ghost use Rattle.source_tree.specs.Crossings.{AreUses};
+ghost use Rattle.source_tree.specs.Sources.{ArePathsInOrder};
+ghost use Rattle.source_tree.specs.declared.source.Source.{Source};
 
 use crate::RunFault;
 use crate::engine::READERS;
 use byte_sink::Sink;
 use cut_solve::SolveFault;
-use index_store::{Place, Position, put_lines};
-use oscip_tree::{Crossed, Source, Span, uses_across};
+use index_store::{Place, Position, write_lines};
+use source_tree::{ImportUses, Source, Span, uses_of_import};
 use std::alloc::{AllocError, Global};
 use std::thread::Threads;
-use text_escape::PlaceStyle;
+use text_escape::LocationStyle;
 
 /// A location in the file of this path.
-fn place_in_file<'a>(path: &'a str, span: &Span) -> Place<'a>
-    ensures { plain_place result ≡ place_in_file path.now span.now }
+fn location_in_file<'a>(path: &'a str, span: &Span) -> Place<'a>
+    ensures { location_model result ≡ location_in_file path.now span.now }
 {
     Place {
         path,
@@ -37,20 +37,24 @@ fn place_in_file<'a>(path: &'a str, span: &Span) -> Place<'a>
 }
 
 /// The locations in the file of this path, in the same order.
-fn places_at<'a>(alloc: Global, path: &'a str, spans: &[Span]) -> Result<Vec<Place<'a>>, AllocError>
-    ensures { IfOk result (λ places. map plain_place places.items ≡ map (place_in_file path.now) spans.now) }
+fn locations_at<'a>(
+    alloc: Global,
+    path: &'a str,
+    spans: &[Span],
+) -> Result<Vec<Place<'a>>, AllocError>
+    ensures { IfOk result (λ places. map location_model places.items ≡ map (location_in_file path.now) spans.now) }
 {
     let mut places = Vec::new(alloc);
     for span in spans {
-        places.push(place_in_file(path, span))?;
+        places.push(location_in_file(path, span))?;
     }
     Ok(places)
 }
 
 /// Writes the lines of the locations in the file of this path, in this style.
-fn put_places<S: Sink>(
+fn write_locations<S: Sink>(
     alloc: Global,
-    style: PlaceStyle<'_>,
+    style: LocationStyle<'_>,
     path: &str,
     spans: &[Span],
     sink: &mut S,
@@ -58,13 +62,13 @@ fn put_places<S: Sink>(
     ensures run { (sources : List Source) (m n : List ℕ) → AreUses sources m n path.now spans.now → IsCrossingsRun (style_of style.entry) sources m n (S.taken sink.old) (S.taken sink.new) result }
     ensures failures { S.failures sink.new ≡ failures_by is_device result (S.failures sink.old) }
 {
-    let places = places_at(alloc, path, spans)?;
-    put_lines(alloc, style, places.as_slice(), sink)?;
+    let places = locations_at(alloc, path, spans)?;
+    write_lines(alloc, style, places.as_slice(), sink)?;
     Ok(())
 }
 
 /// The fault that no module has this name, or `Memory`.
-fn no_such_module(alloc: Global, name: &str) -> RunFault
+fn unknown_module(alloc: Global, name: &str) -> RunFault
     ensures { IsNoName name.now result }
 {
     match String::from_str(alloc, name) {
@@ -85,7 +89,7 @@ pub fn crossings_tree<R: Threads + Sync, S: Sink>(
     sources: &[Source],
     from: &str,
     to: &str,
-    style: PlaceStyle<'_>,
+    style: LocationStyle<'_>,
     sink: &mut S,
 ) -> Result<(), RunFault>
     // The files are sorted by path, each path once.
@@ -96,11 +100,11 @@ pub fn crossings_tree<R: Threads + Sync, S: Sink>(
     // The sink counts a failure if and only if the result is `Device`.
     ensures failures { S.failures sink.new ≡ failures_by is_device result (S.failures sink.old) }
 {
-    match uses_across(rt, alloc, sources, from, to, READERS)? {
-        Crossed::Places { path, spans } => {
-            put_places(alloc, style, path.as_str(), spans.as_slice(), sink)
+    match uses_of_import(rt, alloc, sources, from, to, READERS)? {
+        ImportUses::Places { path, spans } => {
+            write_locations(alloc, style, path.as_str(), spans.as_slice(), sink)
         }
-        Crossed::NoImporter => Err(no_such_module(alloc, from)),
-        Crossed::NoImported => Err(no_such_module(alloc, to)),
+        ImportUses::NoImporter => Err(unknown_module(alloc, from)),
+        ImportUses::NoImported => Err(unknown_module(alloc, to)),
     }
 }

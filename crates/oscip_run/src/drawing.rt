@@ -2,14 +2,14 @@
 ghost use Rattle.std.specs.Prelude.{◌≡◌, ◌<◌, length, option_copied};
 ghost use Rattle.byte_sink.specs.Sinks.{failures_after, failures_by};
 ghost use Rattle.cut_dot.specs.Drawing.{IsDrawingOf};
-ghost use Rattle.cut_dot.specs.Pictures.{flow_said, removed_said};
-ghost use Rattle.cut_net.specs.Answers.{said_by};
+ghost use Rattle.cut_dot.specs.Pictures.{answer_flow, answer_removed};
+ghost use Rattle.cut_net.specs.Answers.{answer_claim};
 ghost use Rattle.cut_net.specs.Lines.{IsAscending};
 ghost use Rattle.oscip_run.specs.DotRuns.{IsAskedPicture, IsDotRun};
 ghost use Rattle.oscip_run.specs.Faults.{is_device};
-ghost use Rattle.oscip_run.specs.PricedInputs.{IsNetOfPricedText, IsNetOfPricedTree, IsRefusedPricedText, IsRefusedPricedTree};
-ghost use Rattle.oscip_run.specs.Runs.{IsNeverRefused, IsThis};
-ghost use Rattle.oscip_tree.specs.Sources.{ArePathsInOrder};
+ghost use Rattle.oscip_run.specs.PricedInputs.{IsNetOfPricedText, IsNetOfPricedTree, IsRejectedPricedText, IsRejectedPricedTree};
+ghost use Rattle.oscip_run.specs.Runs.{IsNeverRejected, IsThis};
+ghost use Rattle.source_tree.specs.Sources.{ArePathsInOrder};
 
 use crate::RunFault;
 use crate::engine::READERS;
@@ -18,12 +18,12 @@ use byte_sink::{Sink, SinkFault};
 use cut_dot::{draw, draw_flow};
 use cut_net::Net;
 use cut_report::Report;
-use oscip_tree::Source;
+use source_tree::Source;
 use std::alloc::Global;
 use std::thread::Threads;
 
 /// Writes the picture of a report: by flow, or of all imports between its two modules.
-fn put_picture<S: Sink>(
+fn write_picture<S: Sink>(
     alloc: Global,
     net: &Net,
     report: &Report,
@@ -32,9 +32,9 @@ fn put_picture<S: Sink>(
 ) -> Result<(), SinkFault>
     requires from { report.now.from < length net.now.names }
     requires to { report.now.to < length net.now.names }
-    requires removed { IsAscending (removed_said report.now.answer) }
-    requires flow { IsAscending (flow_said report.now.answer) }
-    ensures run { IsDrawingOf (IsAskedPicture by_flow net.now report.now.from report.now.to (said_by report.now.answer)) (S.taken sink.old) (S.taken sink.new) result }
+    requires removed { IsAscending (answer_removed report.now.answer) }
+    requires flow { IsAscending (answer_flow report.now.answer) }
+    ensures run { IsDrawingOf (IsAskedPicture by_flow net.now report.now.from report.now.to (answer_claim report.now.answer)) (S.taken sink.old) (S.taken sink.new) result }
     ensures failures { S.failures sink.new ≡ failures_after result (S.failures sink.old) }
 {
     if by_flow {
@@ -52,11 +52,11 @@ fn dot_in<S: Sink>(
     by_flow: bool,
     sink: &mut S,
 ) -> Result<(), RunFault>
-    ensures run { IsDotRun (IsAskedPicture by_flow) (IsThis net.now) IsNeverRefused report.now (S.taken sink.old) (S.taken sink.new) result }
+    ensures run { IsDotRun (IsAskedPicture by_flow) (IsThis net.now) IsNeverRejected report.now (S.taken sink.old) (S.taken sink.new) result }
     ensures failures { S.failures sink.new ≡ failures_by is_device result (S.failures sink.old) }
 {
     let report = cut_report::read(alloc, report, net)?;
-    put_picture(alloc, net, &report, by_flow, sink)?;
+    write_picture(alloc, net, &report, by_flow, sink)?;
     Ok(())
 }
 
@@ -75,7 +75,7 @@ pub fn dot_net_bytes<S: Sink>(
 ) -> Result<(), RunFault>
     // With `Ok` the sink took exactly the requested picture. After `Device` or `Memory` it has at most a prefix of it, after another error
     // none.
-    ensures run { IsDotRun (IsAskedPicture by_flow) (IsNetOfPricedText network.now (option_copied prices.entry)) (IsRefusedPricedText network.now (option_copied prices.entry)) report.now (S.taken sink.old) (S.taken sink.new) result }
+    ensures run { IsDotRun (IsAskedPicture by_flow) (IsNetOfPricedText network.now (option_copied prices.entry)) (IsRejectedPricedText network.now (option_copied prices.entry)) report.now (S.taken sink.old) (S.taken sink.new) result }
     // The sink counts a failure if and only if the result is `Device`.
     ensures failures { S.failures sink.new ≡ failures_by is_device result (S.failures sink.old) }
 {
@@ -99,7 +99,7 @@ pub fn dot_tree<R: Threads + Sync, S: Sink>(
     requires { ArePathsInOrder sources.now }
     // With `Ok` the sink took exactly the requested picture. After `Device` or `Memory` it has at most a prefix of it, after another error
     // none.
-    ensures run { IsDotRun (IsAskedPicture by_flow) (IsNetOfPricedTree sources.now (option_copied prices.entry)) (IsRefusedPricedTree sources.now (option_copied prices.entry)) report.now (S.taken sink.old) (S.taken sink.new) result }
+    ensures run { IsDotRun (IsAskedPicture by_flow) (IsNetOfPricedTree sources.now (option_copied prices.entry)) (IsRejectedPricedTree sources.now (option_copied prices.entry)) report.now (S.taken sink.old) (S.taken sink.new) result }
     // The sink counts a failure if and only if the result is `Device`.
     ensures failures { S.failures sink.new ≡ failures_by is_device result (S.failures sink.old) }
 {

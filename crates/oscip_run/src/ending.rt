@@ -10,10 +10,10 @@ ghost use Rattle.text_escape.specs.Places.{style_of, Style};
 use crate::{RunFault, Stream, TreeRun, fault_line, status_of};
 use byte_sink::Sink;
 use oscip_job::JobFault;
-use oscip_tree::TreeFault;
+use source_tree::TreeFault;
 use std::alloc::{AllocError, Global};
 use std::process::ExitCode;
-use text_escape::PlaceStyle;
+use text_escape::LocationStyle;
 
 /// The exit status of a run: 0 if it returns true, 5 if it returns false, for example for a `no`, and otherwise the status of its fault.
 pub fn status_of_run(ended: &Result<bool, RunFault>) -> u8
@@ -43,7 +43,7 @@ pub fn status_of_words(fault: &JobFault) -> u8
 /// fails.
 pub fn line_of_run(
     alloc: Global,
-    style: PlaceStyle<'_>,
+    style: LocationStyle<'_>,
     ended: &Result<bool, RunFault>,
 ) -> Result<String, AllocError>
     // The line of the fault in this style, or an empty text.
@@ -59,7 +59,7 @@ pub fn line_of_run(
 fn report_fault<E: Sink>(
     alloc: Global,
     fault: &RunFault,
-    style: PlaceStyle<'_>,
+    style: LocationStyle<'_>,
     stderr: &mut Stream<E>,
 ) -> bool
     ensures { IsReported E.taken (style_of style.entry) fault.now result stderr.old stderr.new }
@@ -75,7 +75,7 @@ fn report_fault<E: Sink>(
 fn report_left_out<E: Sink>(
     alloc: Global,
     fault: TreeFault,
-    style: PlaceStyle<'_>,
+    style: LocationStyle<'_>,
     stderr: &mut Stream<E>,
 ) -> bool
     ensures { IsReported E.taken (style_of style.entry) (of_tree fault) result stderr.old stderr.new }
@@ -88,7 +88,7 @@ fn report_left_out<E: Sink>(
 fn report_faults<E: Sink>(
     alloc: Global,
     faults: Vec<TreeFault>,
-    style: PlaceStyle<'_>,
+    style: LocationStyle<'_>,
     stderr: &mut Stream<E>,
 ) -> bool
     ensures { AreReported E.taken (style_of style.entry) stderr.old faults.items result stderr.new }
@@ -104,7 +104,7 @@ fn report_faults<E: Sink>(
 fn report_end<E: Sink>(
     alloc: Global,
     ended: &Result<bool, RunFault>,
-    style: PlaceStyle<'_>,
+    style: LocationStyle<'_>,
     stderr: &mut Stream<E>,
 )
     ensures { MayReport E.taken (style_of style.entry) ended.now stderr.old stderr.new }
@@ -124,7 +124,7 @@ fn report_end<E: Sink>(
 pub fn end_of_tree<E: Sink>(
     alloc: Global,
     run: TreeRun,
-    style: PlaceStyle<'_>,
+    style: LocationStyle<'_>,
     stderr: &mut Stream<E>,
 ) -> Result<bool, RunFault>
     // The lines of the faults are written in the order of the files. The result is that of the run, false if files were left out, or

@@ -1,26 +1,26 @@
 //! The engines of `cut`, `check`, `cut-net` and `check-net`, over any sink.
 ghost use Rattle.std.specs.Prelude.{◌≡◌, ◌++◌, ◌≤◌, All, IfOk, IsSome, codes, option_copied};
 ghost use Rattle.std.specs.String.{string_bytes};
-ghost use Rattle.cut_dot.specs.Pictures.{flow_said};
-ghost use Rattle.cut_net.specs.Answers.{said_by};
+ghost use Rattle.cut_dot.specs.Pictures.{answer_flow};
+ghost use Rattle.cut_net.specs.Answers.{answer_claim};
 ghost use Rattle.cut_net.specs.Network.{index_of, name_of};
 ghost use Rattle.cut_solve.specs.Solving.{IsSolved};
 ghost use Rattle.byte_sink.specs.Sinks.{failures_by};
 ghost use Rattle.oscip_run.specs.Faults.{is_device};
 ghost use Rattle.oscip_run.specs.CutRuns.{IsCutRun};
-ghost use Rattle.oscip_job.specs.Jobs.{MayWork};
-ghost use Rattle.oscip_run.specs.PricedInputs.{IsNetOfPricedText, IsNetOfPricedTree, IsRefusedPricedText, IsRefusedPricedTree};
-ghost use Rattle.oscip_run.specs.Runs.{is_yes, verdict_text, IsCheckRun, IsNeverRefused, IsThis};
-ghost use Rattle.oscip_tree.specs.Sources.{ArePathsInOrder};
+ghost use Rattle.oscip_job.specs.Jobs.{IsWorkerCount};
+ghost use Rattle.oscip_run.specs.PricedInputs.{IsNetOfPricedText, IsNetOfPricedTree, IsRejectedPricedText, IsRejectedPricedTree};
+ghost use Rattle.oscip_run.specs.Runs.{is_yes, verdict_text, IsCheckRun, IsNeverRejected, IsThis};
+ghost use Rattle.source_tree.specs.Sources.{ArePathsInOrder};
 
 use crate::RunFault;
 use crate::priced::{net_of_text, net_of_tree};
-use byte_sink::{Sink, put_all};
+use byte_sink::{Sink, write_fully};
 use cut_check::{Verdict, check};
 use cut_net::{Answer, Net, Priced};
 use cut_report::write;
 use cut_solve::{Gate, solve};
-use oscip_tree::Source;
+use source_tree::Source;
 use std::alloc::{AllocError, Global};
 use std::sync::Wait;
 use std::thread::Threads;
@@ -85,13 +85,13 @@ fn check_in<S: Sink>(
     report: &[u8],
     sink: &mut S,
 ) -> Result<bool, RunFault>
-    ensures run { IsCheckRun (IsThis net.now) IsNeverRefused report.now (S.taken sink.old) (S.taken sink.new) result }
+    ensures run { IsCheckRun (IsThis net.now) IsNeverRejected report.now (S.taken sink.old) (S.taken sink.new) result }
     ensures failures { S.failures sink.new ≡ failures_by is_device result (S.failures sink.old) }
 {
     let report = cut_report::read(alloc, report, net)?;
     let verdict = check(alloc, net, report.from, report.to, &report.answer)?;
     let line = verdict_line(alloc, net, verdict)?;
-    put_all(sink, line.as_bytes())?;
+    write_fully(sink, line.as_bytes())?;
     Ok(is_yes(verdict))
 }
 
@@ -108,7 +108,7 @@ pub fn check_net_bytes<S: Sink>(
 ) -> Result<bool, RunFault>
     // With `Ok` the sink took exactly the line of the verdict on the report. After `Device` or `Memory` it has at most a prefix of the
     // line, after another error none.
-    ensures run { IsCheckRun (IsNetOfPricedText network.now (option_copied prices.entry)) (IsRefusedPricedText network.now (option_copied prices.entry)) report.now (S.taken sink.old) (S.taken sink.new) result }
+    ensures run { IsCheckRun (IsNetOfPricedText network.now (option_copied prices.entry)) (IsRejectedPricedText network.now (option_copied prices.entry)) report.now (S.taken sink.old) (S.taken sink.new) result }
     // The sink counts a failure if and only if the result is `Device`.
     ensures failures { S.failures sink.new ≡ failures_by is_device result (S.failures sink.old) }
 {
@@ -131,7 +131,7 @@ pub fn check_tree<R: Threads + Sync, S: Sink>(
     requires { ArePathsInOrder sources.now }
     // With `Ok` the sink took exactly the line of the verdict on the report. After `Device` or `Memory` it has at most a prefix of the
     // line, after another error none.
-    ensures run { IsCheckRun (IsNetOfPricedTree sources.now (option_copied prices.entry)) (IsRefusedPricedTree sources.now (option_copied prices.entry)) report.now (S.taken sink.old) (S.taken sink.new) result }
+    ensures run { IsCheckRun (IsNetOfPricedTree sources.now (option_copied prices.entry)) (IsRejectedPricedTree sources.now (option_copied prices.entry)) report.now (S.taken sink.old) (S.taken sink.new) result }
     // The sink counts a failure if and only if the result is `Device`.
     ensures failures { S.failures sink.new ≡ failures_by is_device result (S.failures sink.old) }
 {
@@ -162,7 +162,7 @@ fn most_of(lines: &[Priced]) -> u64
 
 /// The flow of an answer, which is empty if no cut exists.
 fn flow_of(answer: &Answer) -> &[Priced]
-    ensures { result.now ≡ flow_said answer.now }
+    ensures { result.now ≡ answer_flow answer.now }
 {
     match answer {
         Answer::Cut(cut) => cut.flow.as_slice(),
@@ -171,7 +171,7 @@ fn flow_of(answer: &Answer) -> &[Priced]
 }
 
 /// Writes the report of the answer for the modules of two names.
-fn put_answer<S: Sink>(
+fn write_cut<S: Sink>(
     alloc: Global,
     net: &Net,
     a: &str,
@@ -179,11 +179,11 @@ fn put_answer<S: Sink>(
     answer: &Answer,
     sink: &mut S,
 ) -> Result<(), RunFault>
-    requires { IsSolved net.now a.now b.now (said_by answer.now) }
-    ensures run { IsCutRun (IsThis net.now) IsNeverRefused a.now b.now (S.taken sink.old) (S.taken sink.new) result }
+    requires { IsSolved net.now a.now b.now (answer_claim answer.now) }
+    ensures run { IsCutRun (IsThis net.now) IsNeverRejected a.now b.now (S.taken sink.old) (S.taken sink.new) result }
     ensures failures { S.failures sink.new ≡ failures_by is_device result (S.failures sink.old) }
 {
-    net.keeps();
+    net.invariants();
     let from = module_of(net, a);
     let to = module_of(net, b);
     let _most = most_of(flow_of(answer));
@@ -202,12 +202,12 @@ fn cut_in<R: Threads + Wait + Sync, G: Gate + Sync, S: Sink>(
     gate: &G,
     sink: &mut S,
 ) -> Result<(), RunFault>
-    requires { MayWork workers }
-    ensures run { IsCutRun (IsThis net.now) IsNeverRefused a.now b.now (S.taken sink.old) (S.taken sink.new) result }
+    requires { IsWorkerCount workers }
+    ensures run { IsCutRun (IsThis net.now) IsNeverRejected a.now b.now (S.taken sink.old) (S.taken sink.new) result }
     ensures failures { S.failures sink.new ≡ failures_by is_device result (S.failures sink.old) }
 {
     let answer = solve(rt, alloc, net, a, b, workers, gate)?;
-    put_answer(alloc, net, a, b, &answer, sink)
+    write_cut(alloc, net, a, b, &answer, sink)
 }
 
 /// Reads a network and its prices, if they are given, and writes the report of a cheapest cut between the modules named `a` and `b`.
@@ -241,10 +241,10 @@ pub fn cut_net_bytes<R: Threads + Wait + Sync, G: Gate + Sync, S: Sink>(
     sink: &mut S,
 ) -> Result<(), RunFault>
     // The number of workers is 1 to 64.
-    requires workers { MayWork workers }
+    requires workers { IsWorkerCount workers }
     // With `Ok` the sink took the report of a cheapest cut, or of a path of pinned imports. After `Device` or `Memory` it has at most a
     // prefix of such a report, after another error none.
-    ensures run { IsCutRun (IsNetOfPricedText network.now (option_copied prices.entry)) (IsRefusedPricedText network.now (option_copied prices.entry)) a.now b.now (S.taken sink.old) (S.taken sink.new) result }
+    ensures run { IsCutRun (IsNetOfPricedText network.now (option_copied prices.entry)) (IsRejectedPricedText network.now (option_copied prices.entry)) a.now b.now (S.taken sink.old) (S.taken sink.new) result }
     // The sink counts a failure if and only if the result is `Device`.
     ensures failures { S.failures sink.new ≡ failures_by is_device result (S.failures sink.old) }
 {
@@ -281,10 +281,10 @@ pub fn cut_tree<R: Threads + Wait + Sync, G: Gate + Sync, S: Sink>(
     // The files are sorted by path, each path once.
     requires in_order { ArePathsInOrder sources.now }
     // The number of workers is 1 to 64.
-    requires workers { MayWork workers }
+    requires workers { IsWorkerCount workers }
     // With `Ok` the sink took the report of a cheapest cut, or of a path of pinned imports. After `Device` or `Memory` it has at most a
     // prefix of such a report, after another error none.
-    ensures run { IsCutRun (IsNetOfPricedTree sources.now (option_copied prices.entry)) (IsRefusedPricedTree sources.now (option_copied prices.entry)) a.now b.now (S.taken sink.old) (S.taken sink.new) result }
+    ensures run { IsCutRun (IsNetOfPricedTree sources.now (option_copied prices.entry)) (IsRejectedPricedTree sources.now (option_copied prices.entry)) a.now b.now (S.taken sink.old) (S.taken sink.new) result }
     // The sink counts a failure if and only if the result is `Device`.
     ensures failures { S.failures sink.new ≡ failures_by is_device result (S.failures sink.old) }
 {

@@ -11,14 +11,14 @@ use cut_report::ReportFault;
 use cut_rules::RulesFault;
 use cut_solve::SolveFault;
 use index_store::{QueryFault, query_fault_text, query_status};
-use oscip_tree::{TreeFault, after_spaces, tree_fault_text, wants_memory};
+use source_tree::{TreeFault, after_spaces, is_out_of_memory, tree_fault_text};
 use std::alloc::{AllocError, Global};
 use text_escape::laws::no_control;
-use text_escape::{EscapingWriter, PlaceStyle};
+use text_escape::{EscapingWriter, LocationStyle};
 use thiserror::Error;
 
-/// Why a run fails. The conversions from faults of other crates map a failed allocation to `Memory` and a failed device to `Device`.
-/// So no other variant that they make holds such a fault.
+/// Why a run fails. The conversions from faults of other crates map a failed allocation to `Memory` and a failed sink to `Device`, so no
+/// other variant that they return holds either.
 #[derive(Debug, Drop, Error)]
 pub enum RunFault {
     /// A file or a folder can't be read. For example it doesn't exist, isn't a regular file, has more than 2^30 bytes or a name that isn't
@@ -75,7 +75,7 @@ impl From<TreeFault> for RunFault {
     ghost from_gives = { λ lower fault. fault ≡ of_tree lower };
 
     fn from(fault: TreeFault) -> RunFault {
-        if wants_memory(&fault) {
+        if is_out_of_memory(&fault) {
             RunFault::Memory
         } else {
             RunFault::Tree(fault)
@@ -265,8 +265,9 @@ fn solve_fault_text(alloc: Global, fault: &SolveFault) -> Result<String, AllocEr
     }
 }
 
-/// The text of a fault, up to the last name if that may have as many bytes as the input. So no copy is made of such a name but that in the line.
-fn start_of(alloc: Global, style: PlaceStyle<'_>, fault: &RunFault) -> Result<String, AllocError>
+/// The text of a fault without the name at its end, if that name may have as many bytes as the input. So the name is copied only into the
+/// line.
+fn start_of(alloc: Global, style: LocationStyle<'_>, fault: &RunFault) -> Result<String, AllocError>
     ensures { IfOk result (λ t. string_bytes t ++ last_name fault.now ≡ fault_text (style_of style.entry) fault.now) }
 {
     match fault {
@@ -303,11 +304,11 @@ fn last_name(fault: &RunFault) -> &str
     }
 }
 
-/// The line that reports a fault: `oscip: `, the fault with the control characters of names and paths written out, and an LF. The places
-/// and paths of the fault of a tree are written in this style. Fails if memory runs out.
+/// The line that reports a fault: `oscip: `, the fault with the control characters of names and paths escaped, and an LF. The locations and
+/// paths in a fault of a tree are written in this style. Fails with `AllocError` if an allocation fails.
 pub fn fault_line(
     alloc: Global,
-    style: PlaceStyle<'_>,
+    style: LocationStyle<'_>,
     fault: &RunFault,
 ) -> Result<String, AllocError>
     // The whole line.
@@ -389,7 +390,7 @@ fn solve_status(fault: &SolveFault) -> u8
 fn tree_status(fault: &TreeFault) -> u8
     ensures { result ≡ tree_status fault.now }
 {
-    if wants_memory(fault) { 4 } else { 1 }
+    if is_out_of_memory(fault) { 4 } else { 1 }
 }
 
 /// The exit status of a fault: 1 for rejected input, 3 for a file or device that failed, 4 for memory.

@@ -1,31 +1,30 @@
 //! The engine of `faults`, which lists the faults of a tree's files, over any sink.
 ghost use Rattle.std.specs.Prelude.{◌≡◌, ◌++◌, IfErr, IfOk, OnOk};
 ghost use Rattle.std.specs.String.{string_bytes};
-ghost use Rattle.byte_sink.specs.Sinks.{failures_after, failures_by, AppendsFront, Puts};
-ghost use Rattle.oscip_run.specs.FaultRuns.{fault_lines, told_line, IsFaultsRun};
+ghost use Rattle.byte_sink.specs.Sinks.{failures_after, failures_by, AppendsPrefix, Writes};
+ghost use Rattle.oscip_run.specs.FaultRuns.{fault_lines, escaped_line, IsFaultsRun};
 ghost use Rattle.oscip_run.specs.Faults.{is_device};
-ghost use Rattle.oscip_tree.specs.Sources.{ArePathsInOrder};
-ghost use Rattle.oscip_tree.specs.TreeFaults.{tree_fault_text};
+ghost use Rattle.source_tree.specs.Sources.{ArePathsInOrder};
+ghost use Rattle.source_tree.specs.TreeFaults.{tree_fault_text};
 ghost use Rattle.text_escape.specs.Places.{style_of};
-ghost use Rattle.text_pieces.specs.Pieces.{PutsAllBut};
+ghost use Rattle.byte_sink.specs.Pieces.{WritesAllBut};
 
 use crate::RunFault;
 use crate::engine::READERS;
-use byte_sink::{Sink, SinkFault, put_all};
-use oscip_tree::{Source, TreeFault, faults_of, tree_fault_text};
+use byte_sink::{Sink, SinkFault, flush_if_full, write_fully};
+use source_tree::{Source, TreeFault, faults_of, tree_fault_text};
 use std::alloc::{AllocError, Global};
 use std::thread::Threads;
-use text_escape::{PlaceStyle, escaped};
-use text_pieces::put_enough;
+use text_escape::{LocationStyle, escaped};
 
 /// Appends the line of a fault to the text.
 fn push_line(
     alloc: Global,
-    style: PlaceStyle<'_>,
+    style: LocationStyle<'_>,
     text: &mut String,
     fault: &TreeFault,
 ) -> Result<(), AllocError>
-    ensures { IfOk result (λ _. string_bytes text.new ≡ string_bytes text.old ++ told_line (tree_fault_text (style_of style.entry) fault.now)) }
+    ensures { IfOk result (λ _. string_bytes text.new ≡ string_bytes text.old ++ escaped_line (tree_fault_text (style_of style.entry) fault.now)) }
 {
     let told = tree_fault_text(alloc, style, fault)?;
     let shown = escaped(alloc, told.as_str())?;
@@ -35,36 +34,36 @@ fn push_line(
 /// Appends the line of a fault to the text, and writes the text if it is long.
 fn gather_line<S: Sink>(
     alloc: Global,
-    style: PlaceStyle<'_>,
+    style: LocationStyle<'_>,
     text: &mut String,
     fault: &TreeFault,
     sink: &mut S,
 ) -> Result<(), SinkFault>
-    ensures gathered { OnOk result (PutsAllBut (S.taken sink.old) (S.taken sink.new)
-        (string_bytes text.old ++ told_line (tree_fault_text (style_of style.entry) fault.now)) (string_bytes text.new)) }
-    ensures broken { IfErr result (λ _. AppendsFront (S.taken sink.old) (S.taken sink.new)
-        (string_bytes text.old ++ told_line (tree_fault_text (style_of style.entry) fault.now))) }
+    ensures gathered { OnOk result (WritesAllBut (S.taken sink.old) (S.taken sink.new)
+        (string_bytes text.old ++ escaped_line (tree_fault_text (style_of style.entry) fault.now)) (string_bytes text.new)) }
+    ensures error_prefix { IfErr result (λ _. AppendsPrefix (S.taken sink.old) (S.taken sink.new)
+        (string_bytes text.old ++ escaped_line (tree_fault_text (style_of style.entry) fault.now))) }
     ensures failures { S.failures sink.new ≡ failures_after result (S.failures sink.old) }
 {
     push_line(alloc, style, text, fault).map_err(|_| SinkFault::Memory)?;
-    put_enough(text, sink)
+    flush_if_full(text, sink)
 }
 
 /// Writes the lines of faults, in their order. After an error the sink has a prefix of the lines.
-fn put_lines<S: Sink>(
+fn write_lines<S: Sink>(
     alloc: Global,
-    style: PlaceStyle<'_>,
+    style: LocationStyle<'_>,
     faults: &[TreeFault],
     sink: &mut S,
 ) -> Result<(), SinkFault>
-    ensures puts { Puts (S.taken sink.old) (S.taken sink.new) result (fault_lines (style_of style.entry) faults.now) }
+    ensures writes { Writes (S.taken sink.old) (S.taken sink.new) result (fault_lines (style_of style.entry) faults.now) }
     ensures failures { S.failures sink.new ≡ failures_after result (S.failures sink.old) }
 {
     let mut text = String::new(alloc);
     for fault in faults {
         gather_line(alloc, style, &mut text, fault, sink)?;
     }
-    put_all(sink, text.as_bytes())
+    write_fully(sink, text.as_bytes())
 }
 
 /// Reads the files of a tree, and writes a line for each file that has a fault of its own, in the order of the files.
@@ -75,7 +74,7 @@ pub fn faults_tree<R: Threads + Sync, S: Sink>(
     rt: &R,
     alloc: Global,
     sources: &[Source],
-    style: PlaceStyle<'_>,
+    style: LocationStyle<'_>,
     sink: &mut S,
 ) -> Result<bool, RunFault>
     // The files are sorted by path, each path once.
@@ -88,9 +87,9 @@ pub fn faults_tree<R: Threads + Sync, S: Sink>(
 {
     let faults = faults_of(rt, alloc, sources, READERS)?;
     if faults.is_empty() {
-        put_all(sink, b"yes\n")?;
+        write_fully(sink, b"yes\n")?;
         return Ok(true);
     }
-    put_lines(alloc, style, faults.as_slice(), sink)?;
+    write_lines(alloc, style, faults.as_slice(), sink)?;
     Ok(false)
 }

@@ -64,7 +64,7 @@ pub(crate) fn file_fault(alloc: Global, path: &str, error: &io::Error) -> ReadFa
 }
 
 /// The first bytes of a file, at most `most`.
-pub(crate) fn read_front<R: Files + AllocGlobal>(
+pub(crate) fn read_at_most<R: Files + AllocGlobal>(
     rt: &R,
     path: &str,
     most: u64,
@@ -92,13 +92,13 @@ fn is_longer<R: Files>(rt: &R, path: &str, most: u64) -> bool {
 }
 
 /// The bytes of a file, if they are within the limit.
-fn read_whole<R: Files + AllocGlobal>(rt: &R, path: &str) -> Result<Vec<u8>, ReadFault>
+fn read_limited<R: Files + AllocGlobal>(rt: &R, path: &str) -> Result<Vec<u8>, ReadFault>
     ensures { IfOk result (λ bytes. IsFile bytes.items) }
 {
     if is_longer(rt, path, FILE_LIMIT) {
         return Err(cannot_read(rt.alloc(), path));
     }
-    let bytes = read_front(rt, path, FILE_LIMIT + 1)?;
+    let bytes = read_at_most(rt, path, FILE_LIMIT + 1)?;
     if bytes.len() as u64 <= FILE_LIMIT {
         Ok(bytes)
     } else {
@@ -114,5 +114,5 @@ pub fn read_file<R: Files + AllocGlobal>(rt: &R, path: &str) -> Result<Vec<u8>, 
     // The error is `CannotRead` or `Memory`.
     ensures fault { IfErr result IsReadFault }
 {
-    Ok(read_whole(rt, path)?)
+    Ok(read_limited(rt, path)?)
 }

@@ -5,14 +5,14 @@ ghost use Rattle.cut_net.specs.Network.{texts};
 ghost use Rattle.glob.specs.Exclusions.{AreRead};
 ghost use Rattle.oscip_run.specs.Faults.{IsReadFault};
 ghost use Rattle.oscip_run.specs.Exclusions.{AreIncluded, AreIncludedPaths};
-ghost use Rattle.oscip_run.specs.Files.{AreFronts, IsFrontOfModule};
-ghost use Rattle.oscip_tree.specs.declared.source.Source.{Source as TreeSource};
-ghost use Rattle.oscip_tree.specs.Sources.{ArePathsInOrder};
+ghost use Rattle.oscip_run.specs.Files.{AreModulePrefixes, IsModulePrefix};
+ghost use Rattle.source_tree.specs.declared.source.Source.{Source as TreeSource};
+ghost use Rattle.source_tree.specs.Sources.{ArePathsInOrder};
 
 use crate::RunFault;
-use crate::files::{ReadFault, cannot_read, file_fault, read_front};
+use crate::files::{ReadFault, cannot_read, file_fault, read_at_most};
 use glob::Exclusion;
-use oscip_tree::{Source, in_order};
+use source_tree::{Source, in_order};
 use std::alloc::{AllocError, Global};
 use std::fs;
 use std::fs::ReadDir;
@@ -62,7 +62,7 @@ fn is_module(path: &str) -> bool {
 }
 
 /// Whether the path is too long for the system. Then the system doesn't report a link at the path either.
-fn is_too_long<R: Files>(rt: &R, path: &str) -> bool {
+fn exceeds_limit<R: Files>(rt: &R, path: &str) -> bool {
     match fs::symlink_metadata(rt, path) {
         Ok(_) => false,
         Err(error) => error.kind() == ErrorKind::InvalidFilename,
@@ -77,7 +77,7 @@ fn is_folder<R: Files + AllocGlobal>(rt: &R, path: &str) -> Result<bool, ReadFau
         Ok(metadata) => Ok(metadata.is_dir()),
         Err(_) if is_module(path) => Ok(false),
         Err(error) if error.kind() == ErrorKind::OutOfMemory => Err(ReadFault::Memory),
-        Err(_) if is_too_long(rt, path) => Err(cannot_read(rt.alloc(), path)),
+        Err(_) if exceeds_limit(rt, path) => Err(cannot_read(rt.alloc(), path)),
         Err(_) => Ok(false),
     }
 }
@@ -156,16 +156,16 @@ fn enter<R: Files + AllocGlobal + Clone + Drop>(
     rt: &R,
     folder: &str,
     opened: &str,
-    place: &PendingPath,
+    location: &PendingPath,
     walk: &mut Walk,
 ) -> Result<(), ReadFault>
     ensures { walk.new.files.items ≡ walk.old.files.items }
 {
-    if place.level > LEVELS {
+    if location.level > LEVELS {
         return Err(cannot_read(rt.alloc(), opened));
     }
     let names = listed(rt, folder, opened, &mut walk.left)?;
-    add_names(rt.alloc(), place, names.as_slice(), &mut walk.pending)?;
+    add_names(rt.alloc(), location, names.as_slice(), &mut walk.pending)?;
     Ok(())
 }
 
@@ -174,20 +174,20 @@ fn visit<R: Files + AllocGlobal + Clone + Drop>(
     rt: &R,
     folder: &str,
     exclusion: &Exclusion<'_>,
-    place: PendingPath,
+    location: PendingPath,
     walk: &mut Walk,
 ) -> Result<(), ReadFault>
     ensures { (patterns : List (List ℕ)) → AreRead patterns exclusion.now.globs.items → AreIncludedPaths patterns (texts walk.old.files.items) → AreIncludedPaths patterns (texts walk.new.files.items) }
 {
-    if exclusion.excludes(rt.alloc(), place.path.as_str())? {
+    if exclusion.excludes(rt.alloc(), location.path.as_str())? {
         return Ok(());
     }
-    let opened = joined(rt.alloc(), folder, place.path.as_str())?;
+    let opened = joined(rt.alloc(), folder, location.path.as_str())?;
     if is_folder(rt, opened.as_str())? {
-        return enter(rt, folder, opened.as_str(), &place, walk);
+        return enter(rt, folder, opened.as_str(), &location, walk);
     }
     if is_module(opened.as_str()) {
-        walk.files.push(place.path)?;
+        walk.files.push(location.path)?;
     }
     Ok(())
 }
@@ -202,10 +202,10 @@ fn finish<R: Files + AllocGlobal + Clone + Drop>(
     ensures { (patterns : List (List ℕ)) → AreRead patterns exclusion.now.globs.items → AreIncludedPaths patterns (texts walk.old.files.items) → AreIncludedPaths patterns (texts walk.new.files.items) }
 {
     for _ in 0..NAMES + 1 {
-        let Some(place) = walk.pending.pop() else {
+        let Some(location) = walk.pending.pop() else {
             return Ok(());
         };
-        visit(rt, folder, exclusion, place, walk)?;
+        visit(rt, folder, exclusion, location, walk)?;
     }
     Err(cannot_read(rt.alloc(), folder))
 }
@@ -248,10 +248,10 @@ fn sorted_paths_below<R: Files + AllocGlobal + Clone + Drop>(
 
 /// The bytes of the regular file at this path, at most one byte beyond the limit of a module.
 fn read_module<R: Files + AllocGlobal>(rt: &R, path: &str) -> Result<Vec<u8>, ReadFault>
-    ensures { IfOk result (λ bytes. IsFrontOfModule bytes.items) }
+    ensures { IfOk result (λ bytes. IsModulePrefix bytes.items) }
 {
     match fs::metadata(rt, path) {
-        Ok(metadata) if metadata.is_file() => read_front(rt, path, MODULE_LIMIT + 1),
+        Ok(metadata) if metadata.is_file() => read_at_most(rt, path, MODULE_LIMIT + 1),
         Ok(_) => Err(cannot_read(rt.alloc(), path)),
         Err(error) => Err(file_fault(rt.alloc(), path, &error)),
     }
@@ -262,7 +262,7 @@ fn source_at<R: Files + AllocGlobal>(
     folder: &str,
     path: String,
 ) -> Result<Source, ReadFault>
-    ensures most { IfOk result (λ source. IsFrontOfModule source.bytes.items) }
+    ensures most { IfOk result (λ source. IsModulePrefix source.bytes.items) }
     ensures path { IfOk result (λ source. string_bytes source.path ≡ string_bytes path) }
 {
     let opened = joined(rt.alloc(), folder, path.as_str())?;
@@ -275,7 +275,7 @@ fn read_all<R: Files + AllocGlobal>(
     folder: &str,
     paths: Vec<String>,
 ) -> Result<Vec<Source>, ReadFault>
-    ensures most { IfOk result (λ sources. AreFronts sources.items) }
+    ensures most { IfOk result (λ sources. AreModulePrefixes sources.items) }
     ensures paths { IfOk result (λ sources. map (λ (s : TreeSource). string_bytes s.path) sources.items ≡ texts paths.items) }
 {
     let mut sources = Vec::new(rt.alloc());
@@ -293,7 +293,7 @@ fn sources_below<R: Files + AllocGlobal + Clone + Drop>(
     excluded: &[String],
 ) -> Result<Vec<Source>, ReadFault>
     ensures order { IfOk result (λ sources. ArePathsInOrder sources.items) }
-    ensures most { IfOk result (λ sources. AreFronts sources.items) }
+    ensures most { IfOk result (λ sources. AreModulePrefixes sources.items) }
     ensures included { IfOk result (λ sources. AreIncluded (texts excluded.now) sources.items) }
 {
     let paths = sorted_paths_below(rt, folder, excluded)?;
@@ -321,7 +321,7 @@ pub fn sources_of<R: Files + AllocGlobal + Clone + Drop>(
     // The files are sorted by path, each path once.
     ensures order { IfOk result (λ sources. ArePathsInOrder sources.items) }
     // Of each file at most one byte beyond the limit of a module is read.
-    ensures most { IfOk result (λ sources. AreFronts sources.items) }
+    ensures most { IfOk result (λ sources. AreModulePrefixes sources.items) }
     // No pattern matches the path of a file or of a folder on it.
     ensures included { IfOk result (λ sources. AreIncluded (texts excluded.now) sources.items) }
     // The error is `CannotRead` or `Memory`.

@@ -6,29 +6,29 @@ ghost use Rattle.cut_solve.specs.Faults.{UnlessMemory};
 ghost use Rattle.cut_solve.specs.Solving.{IsSolveOutcome};
 ghost use Rattle.oscip_run.specs.Faults.{is_device};
 ghost use Rattle.oscip_run.specs.ImportRuns.{IsNetTextRun, IsWhyRun};
-ghost use Rattle.oscip_run.specs.Runs.{IsNetOfText, IsNeverRefused, IsRefusedText, IsRefusedTree, IsThis};
-ghost use Rattle.oscip_tree.specs.Sources.{ArePathsInOrder};
-ghost use Rattle.oscip_tree.specs.Trees.{IsNetOfTree};
+ghost use Rattle.oscip_run.specs.Runs.{IsNetOfText, IsNeverRejected, IsRejectedText, IsRejectedTree, IsThis};
+ghost use Rattle.source_tree.specs.Sources.{ArePathsInOrder};
+ghost use Rattle.source_tree.specs.Trees.{IsNetOfTree};
 
 use crate::RunFault;
 use crate::engine::READERS;
 use byte_sink::Sink;
 use cut_net::Net;
-use cut_report::laws::what_net_puts_is_the_network;
+use cut_report::laws::written_net_is_read;
 use cut_report::{least_chain_of, write_chain, write_net};
 use cut_solve::{SolveFault, module_of};
-use oscip_tree::{Source, net_of};
+use source_tree::{Source, net_of};
 use std::alloc::Global;
 use std::thread::Threads;
 
 /// Writes a network as text.
-fn put_net<S: Sink>(alloc: Global, net: &Net, sink: &mut S) -> Result<(), RunFault>
+fn write_net_text<S: Sink>(alloc: Global, net: &Net, sink: &mut S) -> Result<(), RunFault>
     requires { net.now.pins ≡ [] }
-    ensures run { IsNetTextRun (IsThis net.now) IsNeverRefused (S.taken sink.old) (S.taken sink.new) result }
+    ensures run { IsNetTextRun (IsThis net.now) IsNeverRejected (S.taken sink.old) (S.taken sink.new) result }
     ensures failures { S.failures sink.new ≡ failures_by is_device result (S.failures sink.old) }
 {
-    net.keeps();
-    what_net_puts_is_the_network();
+    net.invariants();
+    written_net_is_read();
     write_net(alloc, net, sink)?;
     Ok(())
 }
@@ -48,12 +48,12 @@ pub fn net_tree<R: Threads + Sync, S: Sink>(
     requires { ArePathsInOrder sources.now }
     // With `Ok` the sink took exactly the text of the tree's network. After `Device` or `Memory` it has at most a prefix of it, after
     // `Tree` none.
-    ensures run { IsNetTextRun (IsNetOfTree sources.now) (IsRefusedTree sources.now) (S.taken sink.old) (S.taken sink.new) result }
+    ensures run { IsNetTextRun (IsNetOfTree sources.now) (IsRejectedTree sources.now) (S.taken sink.old) (S.taken sink.new) result }
     // The sink counts a failure if and only if the result is `Device`.
     ensures failures { S.failures sink.new ≡ failures_by is_device result (S.failures sink.old) }
 {
     let net = net_of(rt, alloc, sources, READERS)?;
-    put_net(alloc, &net, sink)
+    write_net_text(alloc, &net, sink)
 }
 
 /// The numbers of the modules of two names, which differ. Fails with `NoSuchModule` for the first unknown name, with `SameModule` if both
@@ -79,10 +79,10 @@ fn why_in<S: Sink>(
     sink: &mut S,
 ) -> Result<bool, RunFault>
     requires { net.now.pins ≡ [] }
-    ensures run { IsWhyRun (IsThis net.now) IsNeverRefused a.now b.now (S.taken sink.old) (S.taken sink.new) result }
+    ensures run { IsWhyRun (IsThis net.now) IsNeverRejected a.now b.now (S.taken sink.old) (S.taken sink.new) result }
     ensures failures { S.failures sink.new ≡ failures_by is_device result (S.failures sink.old) }
 {
-    net.keeps();
+    net.invariants();
     let (from, to) = modules_of(alloc, net, a, b)?;
     let found = least_chain_of(alloc, net, from, to)?;
     let Some(chain) = found else {
@@ -107,7 +107,7 @@ pub fn why_net_bytes<S: Sink>(
 ) -> Result<bool, RunFault>
     // With `Ok` the sink took exactly the lines of the path, and the result is whether there is one. After `Device` or `Memory` it has at
     // most a prefix of the lines, after another error none.
-    ensures run { IsWhyRun (IsNetOfText network.now) (IsRefusedText network.now) a.now b.now (S.taken sink.old) (S.taken sink.new) result }
+    ensures run { IsWhyRun (IsNetOfText network.now) (IsRejectedText network.now) a.now b.now (S.taken sink.old) (S.taken sink.new) result }
     // The sink counts a failure if and only if the result is `Device`.
     ensures failures { S.failures sink.new ≡ failures_by is_device result (S.failures sink.old) }
 {
@@ -131,7 +131,7 @@ pub fn why_tree<R: Threads + Sync, S: Sink>(
     requires { ArePathsInOrder sources.now }
     // With `Ok` the sink took exactly the lines of the path, and the result is whether there is one. After `Device` or `Memory` it has at
     // most a prefix of the lines, after another error none.
-    ensures run { IsWhyRun (IsNetOfTree sources.now) (IsRefusedTree sources.now) a.now b.now (S.taken sink.old) (S.taken sink.new) result }
+    ensures run { IsWhyRun (IsNetOfTree sources.now) (IsRejectedTree sources.now) a.now b.now (S.taken sink.old) (S.taken sink.new) result }
     // The sink counts a failure if and only if the result is `Device`.
     ensures failures { S.failures sink.new ≡ failures_by is_device result (S.failures sink.old) }
 {

@@ -1,26 +1,26 @@
 //! Laws of runs: functions with an empty body, whose contracts are proved.
 ghost use Rattle.std.specs.Prelude.{ℕ, List, None};
 ghost use Rattle.cut_net.specs.Network.{Network};
-ghost use Rattle.oscip_run.specs.CutRuns.{IsCutText, IsPlainCutText};
+ghost use Rattle.oscip_run.specs.CutRuns.{IsCutText, IsUnpinnedCutText};
 ghost use Rattle.oscip_run.specs.PricedInputs.{IsNetOfPricedText, IsNetOfPricedTree};
-ghost use Rattle.oscip_run.specs.Runs.{IsNetOfText, IsRefusedTree};
+ghost use Rattle.oscip_run.specs.Runs.{IsNetOfText, IsRejectedTree};
 ghost use Rattle.oscip_run.specs.declared.fault.RunFault.{RunFault};
-ghost use Rattle.oscip_tree.specs.Trees.{IsNetOfTree};
-ghost use Rattle.oscip_tree.specs.declared.source.Source.{Source};
+ghost use Rattle.source_tree.specs.Trees.{IsNetOfTree};
+ghost use Rattle.source_tree.specs.declared.source.Source.{Source};
 
 /// A tree that has a network is never rejected.
 pub fn no_refusal_of_a_tree()
     // If these files have a network, the tree isn't rejected with any fault.
     ensures { (sources : List Source) (net : Network) (fault : RunFault) →
-        IsNetOfTree sources net → IsRefusedTree sources fault → ⊥ }
+        IsNetOfTree sources net → IsRejectedTree sources fault → ⊥ }
 {}
 
 /// Without prices nothing is pinned: the report is of a cheapest cut among all sets of imports, with a flow within the weights.
 pub fn without_prices()
     // What `cut_tree` writes without prices is such a report.
     ensures tree { (sources : List Source) (first second text : List ℕ) →
-        IsCutText (IsNetOfPricedTree sources None) first second text → IsPlainCutText (IsNetOfTree sources) first second text }
+        IsCutText (IsNetOfPricedTree sources None) first second text → IsUnpinnedCutText (IsNetOfTree sources) first second text }
     // What `cut_net_bytes` writes without prices is such a report.
     ensures network { (lines first second text : List ℕ) →
-        IsCutText (IsNetOfPricedText lines None) first second text → IsPlainCutText (IsNetOfText lines) first second text }
+        IsCutText (IsNetOfPricedText lines None) first second text → IsUnpinnedCutText (IsNetOfText lines) first second text }
 {}

@@ -1,12 +1,11 @@
 //! Runs of jobs: reads the files that a job names through any `Reader`, runs its engine into any `Sink`, and ends with a status.
-//! Depends on `oscip_job` for jobs, `oscip_tree` for trees, `index_store` for queries and the `cut_` crates for networks, cuts, rules and
+//! Depends on `oscip_job` for jobs, `source_tree` for trees, `index_store` for queries and the `cut_` crates for networks, cuts, rules and
 //! pictures.
-//! It also depends on `text_pieces` for long outputs and on `thiserror` for its errors.
+//! It also depends on `thiserror` for its errors.
 //! The main calls are `run_tree`, `run_net` and `run_question`, and the engine `cut_tree`, whose clause `run` is the headline theorem.
 //! They promise that the sink takes exactly what the definitions state about the files that the reader returned.
 #![tactic(auto)]
 
-mod asking;
 mod crossing;
 mod drawing;
 mod ending;
@@ -19,6 +18,7 @@ mod imports;
 pub mod laws;
 mod listing;
 mod priced;
+mod query_runs;
 mod reader;
 mod reading;
 mod ruling;
@@ -27,7 +27,6 @@ mod stream;
 mod style;
 mod tree_run;
 
-pub use asking::answer_question;
 pub use crossing::crossings_tree;
 pub use drawing::{dot_net_bytes, dot_tree};
 pub use ending::{
@@ -40,6 +39,7 @@ pub use files::read_file;
 pub use folder::sources_of;
 pub use imports::{net_tree, why_net_bytes, why_tree};
 pub use listing::{modules_tree, reach_net_bytes, reach_tree};
+pub use query_runs::answer_question;
 pub use reader::{Reader, SystemFiles};
 pub use reading::{run_net, run_question};
 pub use ruling::rules_tree;

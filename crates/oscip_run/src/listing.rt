@@ -1,29 +1,28 @@
 //! The engines of `reach`, `reach-net` and `modules`, which list modules, over any sink.
 ghost use Rattle.std.specs.Prelude.{◌≡◌, ◌↔◌, ◌++◌, ◌<◌, All, AllPairs, Contains, IfErr, IfOk, OnOk, length, map, option_copied, option_map, slice_index_or, ℕ, None};
 ghost use Rattle.std.specs.String.{string_bytes};
-ghost use Rattle.byte_sink.specs.Sinks.{failures_after, failures_by, AppendsFront, Puts};
+ghost use Rattle.byte_sink.specs.Sinks.{failures_after, failures_by, AppendsPrefix, Writes};
 ghost use Rattle.cut_net.specs.Network.{name_of};
 ghost use Rattle.oscip_run.specs.Faults.{is_device};
 ghost use Rattle.oscip_run.specs.ModuleRuns.{entry_line, entry_lines, entry_of, path_suffix, IsModulesRun, IsPathAt, ModuleEntry};
 ghost use Rattle.oscip_run.specs.ReachRuns.{named_entry, IsReached, IsReachRun};
-ghost use Rattle.oscip_run.specs.Runs.{IsNetOfText, IsNeverRefused, IsRefusedText, IsRefusedTree, IsThis};
-ghost use Rattle.oscip_tree.specs.Sources.{ArePathsInOrder};
-ghost use Rattle.oscip_tree.specs.Trees.{IsNetOfTree};
+ghost use Rattle.oscip_run.specs.Runs.{IsNetOfText, IsNeverRejected, IsRejectedText, IsRejectedTree, IsThis};
+ghost use Rattle.source_tree.specs.Sources.{ArePathsInOrder};
+ghost use Rattle.source_tree.specs.Trees.{IsNetOfTree};
 ghost use Rattle.text_escape.specs.Places.{style_of};
-ghost use Rattle.text_pieces.specs.Pieces.{PutsAllBut};
+ghost use Rattle.byte_sink.specs.Pieces.{WritesAllBut};
 
 use crate::RunFault;
 use crate::engine::READERS;
-use byte_sink::{Sink, SinkFault, put_all};
+use byte_sink::{Sink, SinkFault, flush_if_full, write_fully};
 use cut_net::Net;
 use cut_report::{reached_modules, reaching_modules};
 use cut_solve::module_of;
 use oscip_job::Direction;
-use oscip_tree::{Source, located_net_of, net_of};
+use source_tree::{Source, located_net_of, net_of};
 use std::alloc::{AllocError, Global};
 use std::thread::Threads;
-use text_escape::{PlaceStyle, escaped};
-use text_pieces::put_enough;
+use text_escape::{LocationStyle, escaped};
 
 /// A module in a list, and the path of its file if it has one.
 #[derive(Drop)]
@@ -35,7 +34,7 @@ struct ListedModule<'a> {
 /// Appends a space and the path to the text, if there is a path.
 fn push_path(
     alloc: Global,
-    style: PlaceStyle<'_>,
+    style: LocationStyle<'_>,
     text: &mut String,
     path: Option<&str>,
 ) -> Result<(), AllocError>
@@ -52,7 +51,7 @@ fn push_path(
 /// Appends the line of a module to the text.
 fn push_line(
     alloc: Global,
-    style: PlaceStyle<'_>,
+    style: LocationStyle<'_>,
     text: &mut String,
     listed: &ListedModule,
 ) -> Result<(), AllocError>
@@ -66,36 +65,36 @@ fn push_line(
 /// Appends the line of a module to the text, and writes the text if it is long.
 fn gather_line<S: Sink>(
     alloc: Global,
-    style: PlaceStyle<'_>,
+    style: LocationStyle<'_>,
     text: &mut String,
     listed: &ListedModule,
     sink: &mut S,
 ) -> Result<(), SinkFault>
-    ensures gathered { OnOk result (PutsAllBut (S.taken sink.old) (S.taken sink.new)
+    ensures gathered { OnOk result (WritesAllBut (S.taken sink.old) (S.taken sink.new)
         (string_bytes text.old ++ entry_line (style_of style.entry) (entry_of listed.now)) (string_bytes text.new)) }
-    ensures broken { IfErr result (λ _. AppendsFront (S.taken sink.old) (S.taken sink.new)
+    ensures error_prefix { IfErr result (λ _. AppendsPrefix (S.taken sink.old) (S.taken sink.new)
         (string_bytes text.old ++ entry_line (style_of style.entry) (entry_of listed.now))) }
     ensures failures { S.failures sink.new ≡ failures_after result (S.failures sink.old) }
 {
     push_line(alloc, style, text, listed).map_err(|_| SinkFault::Memory)?;
-    put_enough(text, sink)
+    flush_if_full(text, sink)
 }
 
 /// Writes the lines of modules, in their order. After an error the sink has a prefix of the lines.
 fn write_lines<S: Sink>(
     alloc: Global,
-    style: PlaceStyle<'_>,
+    style: LocationStyle<'_>,
     modules: &[ListedModule<'_>],
     sink: &mut S,
 ) -> Result<(), SinkFault>
-    ensures puts { Puts (S.taken sink.old) (S.taken sink.new) result (entry_lines (style_of style.entry) (map entry_of modules.now)) }
+    ensures writes { Writes (S.taken sink.old) (S.taken sink.new) result (entry_lines (style_of style.entry) (map entry_of modules.now)) }
     ensures failures { S.failures sink.new ≡ failures_after result (S.failures sink.old) }
 {
     let mut text = String::new(alloc);
     for listed in modules {
         gather_line(alloc, style, &mut text, listed, sink)?;
     }
-    put_all(sink, text.as_bytes())
+    write_fully(sink, text.as_bytes())
 }
 
 /// The modules of these numbers, without paths.
@@ -141,13 +140,13 @@ fn reach_in<S: Sink>(
     direction: Direction,
     sink: &mut S,
 ) -> Result<(), RunFault>
-    ensures run { IsReachRun (IsThis net.now) IsNeverRefused name.now direction (S.taken sink.old) (S.taken sink.new) result }
+    ensures run { IsReachRun (IsThis net.now) IsNeverRejected name.now direction (S.taken sink.old) (S.taken sink.new) result }
     ensures failures { S.failures sink.new ≡ failures_by is_device result (S.failures sink.old) }
 {
     let start = module_of(alloc, net, name)?;
     let reached = reach_of(alloc, net, start, direction)?;
     let listed = named_modules(alloc, net, reached.as_slice())?;
-    write_lines(alloc, PlaceStyle::Plain, listed.as_slice(), sink)?;
+    write_lines(alloc, LocationStyle::Plain, listed.as_slice(), sink)?;
     Ok(())
 }
 
@@ -164,7 +163,7 @@ pub fn reach_net_bytes<S: Sink>(
 ) -> Result<(), RunFault>
     // With `Ok` the sink took exactly the names of these modules. After `Device` or `Memory` it has at most a prefix of the lines, after
     // another error none.
-    ensures run { IsReachRun (IsNetOfText network.now) (IsRefusedText network.now) name.now direction (S.taken sink.old) (S.taken sink.new) result }
+    ensures run { IsReachRun (IsNetOfText network.now) (IsRejectedText network.now) name.now direction (S.taken sink.old) (S.taken sink.new) result }
     // The sink counts a failure if and only if the result is `Device`.
     ensures failures { S.failures sink.new ≡ failures_by is_device result (S.failures sink.old) }
 {
@@ -187,7 +186,7 @@ pub fn reach_tree<R: Threads + Sync, S: Sink>(
     requires { ArePathsInOrder sources.now }
     // With `Ok` the sink took exactly the names of these modules. After `Device` or `Memory` it has at most a prefix of the lines, after
     // another error none.
-    ensures run { IsReachRun (IsNetOfTree sources.now) (IsRefusedTree sources.now) name.now direction (S.taken sink.old) (S.taken sink.new) result }
+    ensures run { IsReachRun (IsNetOfTree sources.now) (IsRejectedTree sources.now) name.now direction (S.taken sink.old) (S.taken sink.new) result }
     // The sink counts a failure if and only if the result is `Device`.
     ensures failures { S.failures sink.new ≡ failures_by is_device result (S.failures sink.old) }
 {
@@ -208,8 +207,8 @@ fn paths_by_module<'a>(
     ensures paths { IfOk result (λ paths. (m : ℕ) → IsPathAt sources.now modules.now (length sources.now) m (option_map (λ path. path.now) (slice_index_or paths.items m None))) }
 {
     let mut paths = vec![in alloc; None; nodes]?;
-    for place in 0..sources.len() {
-        paths[modules[place] as usize] = Some(sources[place].path.as_str());
+    for location in 0..sources.len() {
+        paths[modules[location] as usize] = Some(sources[location].path.as_str());
     }
     Ok(paths)
 }
@@ -241,7 +240,7 @@ pub fn modules_tree<R: Threads + Sync, S: Sink>(
     rt: &R,
     alloc: Global,
     sources: &[Source],
-    style: PlaceStyle<'_>,
+    style: LocationStyle<'_>,
     sink: &mut S,
 ) -> Result<(), RunFault>
     // The files are sorted by path, each path once.

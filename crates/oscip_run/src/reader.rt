@@ -3,10 +3,10 @@ ghost use Rattle.std.specs.Prelude.{IfErr, IfOk};
 ghost use Rattle.cut_net.specs.Network.{texts};
 ghost use Rattle.oscip_run.specs.Faults.{IsReadFault};
 ghost use Rattle.oscip_run.specs.Readings.{FileOf, FolderOf, IsOfSystem, Reading, Refused};
-ghost use Rattle.oscip_tree.specs.Sources.{ArePathsInOrder};
+ghost use Rattle.source_tree.specs.Sources.{ArePathsInOrder};
 
 use crate::{RunFault, read_file, sources_of};
-use oscip_tree::Source;
+use source_tree::Source;
 use std::rt::Files;
 
 /// Reads files and folders by their paths.

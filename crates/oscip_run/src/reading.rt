@@ -1,10 +1,10 @@
-//! Runs of questions on a network or an index in a file, over any reader and any sink.
+//! Runs the commands whose input is a network file or an index file, over any reader and any sink.
 ghost use Rattle.std.specs.Prelude.{◌≡◌, IfErr, IfOk, option_copied};
 ghost use Rattle.byte_sink.specs.Sinks.{failures_by};
 ghost use Rattle.oscip_job.specs.Jobs.{HasNetWorkers};
 ghost use Rattle.oscip_run.specs.Faults.{is_device, IsReadFault};
 ghost use Rattle.oscip_run.specs.FileRuns.{IsNetRun, IsQuestionRun};
-ghost use Rattle.oscip_run.specs.Readings.{given_bytes, bytes_or_none, paths_beside, AreGiven, AreNotGiven, IsGiven, IsNotGiven};
+ghost use Rattle.oscip_run.specs.Readings.{returned_bytes, bytes_or_none, paths_beside, AreReturned, AreUnreadable, IsReturned, IsUnreadable};
 ghost use Rattle.text_escape.specs.Places.{style_of};
 
 use crate::{Reader, RunFault, answer, answer_question};
@@ -14,7 +14,7 @@ use oscip_job::{IndexQuestion, NetQuestion};
 use std::alloc::Global;
 use std::sync::Wait;
 use std::thread::Threads;
-use text_escape::PlaceStyle;
+use text_escape::LocationStyle;
 
 /// The path of the question's report, if it has one.
 fn report_of(question: &NetQuestion) -> Option<&str>
@@ -50,8 +50,8 @@ pub(crate) struct Beside {
 
 /// The bytes of a file, if a path is given.
 fn read_named<F: Reader>(reader: &F, path: Option<&str>) -> Result<Option<Vec<u8>>, RunFault>
-    ensures given { IfOk result (λ given. IsGiven (F.answers reader.now) (option_copied path.entry) (given_bytes given)) }
-    ensures refused { IfErr result (IsNotGiven (F.answers reader.now) (option_copied path.entry)) }
+    ensures given { IfOk result (λ given. IsReturned (F.answers reader.now) (option_copied path.entry) (returned_bytes given)) }
+    ensures refused { IfErr result (IsUnreadable (F.answers reader.now) (option_copied path.entry)) }
     ensures fault { IfErr result IsReadFault }
 {
     match path {
@@ -62,8 +62,8 @@ fn read_named<F: Reader>(reader: &F, path: Option<&str>) -> Result<Option<Vec<u8
 
 /// Reads the report first, and then the prices.
 pub(crate) fn read_beside<F: Reader>(reader: &F, question: &NetQuestion) -> Result<Beside, RunFault>
-    ensures given { IfOk result (λ beside. AreGiven (F.answers reader.now) (paths_beside question.now) (given_bytes beside.report) (given_bytes beside.prices)) }
-    ensures refused { IfErr result (AreNotGiven (F.answers reader.now) (paths_beside question.now)) }
+    ensures given { IfOk result (λ beside. AreReturned (F.answers reader.now) (paths_beside question.now) (returned_bytes beside.report) (returned_bytes beside.prices)) }
+    ensures refused { IfErr result (AreUnreadable (F.answers reader.now) (paths_beside question.now)) }
     ensures fault { IfErr result IsReadFault }
 {
     let report = read_named(reader, report_of(question))?;
@@ -73,7 +73,7 @@ pub(crate) fn read_beside<F: Reader>(reader: &F, question: &NetQuestion) -> Resu
 
 /// The bytes, or no bytes if none were given.
 pub(crate) fn bytes_or_none(given: &Option<Vec<u8>>) -> &[u8]
-    ensures { result.now ≡ bytes_or_none (given_bytes given.now) }
+    ensures { result.now ≡ bytes_or_none (returned_bytes given.now) }
 {
     match given {
         Some(bytes) => bytes.as_slice(),
@@ -117,7 +117,7 @@ pub fn run_question<F: Reader, S: Sink>(
     reader: &F,
     path: &str,
     question: &IndexQuestion,
-    style: PlaceStyle<'_>,
+    style: LocationStyle<'_>,
     sink: &mut S,
 ) -> Result<bool, RunFault>
     // `answer_question` runs on the bytes that the reader returned for this path. If the file can't be read, the sink is unchanged.

@@ -7,20 +7,20 @@ ghost use Rattle.cut_rules.specs.Folders.{ArePathsInOrder as AreFilesInOrder};
 ghost use Rattle.cut_rules.specs.declared.file.File.{File as TreeFile};
 ghost use Rattle.oscip_run.specs.Faults.{is_device};
 ghost use Rattle.oscip_run.specs.RuleRuns.{AreSitesIn, AreThese, IsRuledTree, IsRulesRun};
-ghost use Rattle.oscip_run.specs.Runs.{IsNeverRefused, IsRefusedTree};
-ghost use Rattle.oscip_tree.specs.Sources.{ArePathsInOrder};
-ghost use Rattle.oscip_tree.specs.declared.import_sites.ImportSite.{ImportSite as TreeSite};
-ghost use Rattle.oscip_tree.specs.declared.source.Source.{Source as TreeSource};
+ghost use Rattle.oscip_run.specs.Runs.{IsNeverRejected, IsRejectedTree};
+ghost use Rattle.source_tree.specs.Sources.{ArePathsInOrder};
+ghost use Rattle.source_tree.specs.declared.import_sites.ImportSite.{ImportSite as TreeSite};
+ghost use Rattle.source_tree.specs.declared.source.Source.{Source as TreeSource};
 
 use crate::RunFault;
 use crate::engine::READERS;
 use byte_sink::Sink;
 use cut_net::Net;
 use cut_rules::{File, Rules, Site, write_verdict};
-use oscip_tree::{ImportSite, Source, located_net_of};
+use source_tree::{ImportSite, Source, located_net_of};
 use std::alloc::{AllocError, Global};
 use std::thread::Threads;
-use text_escape::PlaceStyle;
+use text_escape::LocationStyle;
 
 /// A tree, as `cut_rules` takes it.
 #[derive(Clone, Copy)]
@@ -42,10 +42,10 @@ fn files_of<'a>(
     ensures modules { IfOk result (λ v. map (λ (f : TreeFile). f.module) v.items ≡ modules.now) }
 {
     let mut files = Vec::new(alloc);
-    for place in 0..sources.len() {
+    for location in 0..sources.len() {
         files.push(File {
-            path: sources[place].path.as_str(),
-            module: modules[place],
+            path: sources[location].path.as_str(),
+            module: modules[location],
         })?;
     }
     Ok(files)
@@ -76,12 +76,12 @@ fn judge<'a, S: Sink>(
     alloc: Global,
     tree: &RuledTree<'a>,
     rules: &'a [u8],
-    style: PlaceStyle<'a>,
+    style: LocationStyle<'a>,
     sink: &mut S,
 ) -> Result<bool, RunFault>
     requires files { AreFilesInOrder tree.now.files.now }
     requires sites { length tree.now.sites.now ≡ length tree.now.net.now.imports }
-    ensures run { IsRulesRun (AreThese tree.now.net.now tree.now.files.now tree.now.sites.now) IsNeverRefused (style_of style.entry) rules.now (S.taken sink.old) (S.taken sink.new) result }
+    ensures run { IsRulesRun (AreThese tree.now.net.now tree.now.files.now tree.now.sites.now) IsNeverRejected (style_of style.entry) rules.now (S.taken sink.old) (S.taken sink.new) result }
     ensures failures { S.failures sink.new ≡ failures_by is_device result (S.failures sink.old) }
 {
     let rules = Rules::read(alloc, tree.net, tree.files, rules)?;
@@ -97,14 +97,14 @@ pub fn rules_tree<R: Threads + Sync, S: Sink>(
     alloc: Global,
     sources: &[Source],
     rules: &[u8],
-    style: PlaceStyle<'_>,
+    style: LocationStyle<'_>,
     sink: &mut S,
 ) -> Result<bool, RunFault>
     // The files are sorted by path, each path once.
     requires { ArePathsInOrder sources.now }
     // With `Ok` the sink took exactly these lines or `yes`, and the result is whether it is `yes`. After `Device` or `Memory` it has at
     // most a prefix of them, after another error none.
-    ensures run { IsRulesRun (IsRuledTree sources.now) (IsRefusedTree sources.now) (style_of style.entry) rules.now (S.taken sink.old) (S.taken sink.new) result }
+    ensures run { IsRulesRun (IsRuledTree sources.now) (IsRejectedTree sources.now) (style_of style.entry) rules.now (S.taken sink.old) (S.taken sink.new) result }
     // The sink counts a failure if and only if the result is `Device`.
     ensures failures { S.failures sink.new ≡ failures_by is_device result (S.failures sink.old) }
 {

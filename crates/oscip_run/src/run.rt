@@ -4,8 +4,8 @@ ghost use Rattle.byte_sink.specs.Sinks.{failures_by};
 ghost use Rattle.oscip_job.specs.Jobs.{HasNetWorkers};
 ghost use Rattle.oscip_run.specs.Faults.{is_device};
 ghost use Rattle.oscip_run.specs.JobRuns.{IsJobRun};
-ghost use Rattle.oscip_run.specs.PricedInputs.{IsNetOfPricedText, IsNetOfPricedTree, IsRefusedPricedText, IsRefusedPricedTree};
-ghost use Rattle.oscip_tree.specs.Sources.{ArePathsInOrder};
+ghost use Rattle.oscip_run.specs.PricedInputs.{IsNetOfPricedText, IsNetOfPricedTree, IsRejectedPricedText, IsRejectedPricedTree};
+ghost use Rattle.source_tree.specs.Sources.{ArePathsInOrder};
 
 use crate::{
     RunFault, check_net_bytes, check_tree, cut_net_bytes, cut_tree, dot_net_bytes, dot_tree,
@@ -14,7 +14,7 @@ use crate::{
 use byte_sink::Sink;
 use cut_solve::Gate;
 use oscip_job::NetQuestion;
-use oscip_tree::Source;
+use source_tree::Source;
 use std::alloc::Global;
 use std::sync::Wait;
 use std::thread::Threads;
@@ -36,7 +36,7 @@ pub fn answer<R: Threads + Wait + Sync, G: Gate + Sync, S: Sink>(
     // A question with a number of workers has 1 to 64 of them.
     requires workers { HasNetWorkers question.now }
     // The engine of the question runs on these bytes, with the question's own names and options; `why` and `reach` ignore the prices.
-    ensures run { IsJobRun (IsNetOfPricedText network.now) (IsRefusedPricedText network.now) question.now report.now (option_copied prices.entry) (S.taken sink.old) (S.taken sink.new) result }
+    ensures run { IsJobRun (IsNetOfPricedText network.now) (IsRejectedPricedText network.now) question.now report.now (option_copied prices.entry) (S.taken sink.old) (S.taken sink.new) result }
     // The sink counts a failure if and only if the result is `Device`.
     ensures failures { S.failures sink.new ≡ failures_by is_device result (S.failures sink.old) }
 {
@@ -83,7 +83,7 @@ pub fn answer_tree<R: Threads + Wait + Sync, G: Gate + Sync, S: Sink>(
     requires workers { HasNetWorkers question.now }
     // The engine of the question runs on these files and bytes, with the question's own names and options; `why` and `reach` ignore the
     // prices.
-    ensures run { IsJobRun (IsNetOfPricedTree sources.now) (IsRefusedPricedTree sources.now) question.now report.now (option_copied prices.entry) (S.taken sink.old) (S.taken sink.new) result }
+    ensures run { IsJobRun (IsNetOfPricedTree sources.now) (IsRejectedPricedTree sources.now) question.now report.now (option_copied prices.entry) (S.taken sink.old) (S.taken sink.new) result }
     // The sink counts a failure if and only if the result is `Device`.
     ensures failures { S.failures sink.new ≡ failures_by is_device result (S.failures sink.old) }
 {

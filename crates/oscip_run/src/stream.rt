@@ -3,7 +3,7 @@ ghost use Rattle.std.specs.Prelude.{◌≡◌, MatchResult};
 ghost use Rattle.byte_sink.specs.Sinks.{failures_after};
 ghost use Rattle.oscip_run.specs.Streams.{WritesAll, WritesPrefix};
 
-use byte_sink::{Sink, SinkFault, put_all};
+use byte_sink::{Sink, SinkFault, write_fully};
 
 /// Standard output or standard error: its sink, and the number of texts that the sink didn't take whole. The count stops at 2^64 - 1.
 #[derive(Drop)]
@@ -32,7 +32,7 @@ impl<S: Sink> Stream<S> {
         // The sink itself counts a failure if and only if the fault is `Device`.
         ensures failures { S.failures self.new.sink ≡ failures_after result (S.failures self.old.sink) }
     {
-        let written = put_all(&mut self.sink, text.as_bytes());
+        let written = write_fully(&mut self.sink, text.as_bytes());
         if written.is_err() {
             self.failures = self.failures.saturating_add(1);
         }

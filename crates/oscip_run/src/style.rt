@@ -4,24 +4,24 @@ ghost use Rattle.oscip_run.specs.Styles.{style_of_job, style_of_tree};
 ghost use Rattle.text_escape.specs.Places.{style_of};
 
 use oscip_job::{Job, SourceTree};
-use text_escape::PlaceStyle;
+use text_escape::LocationStyle;
 
 /// The style of locations in the files of a tree.
-pub fn style_of_tree(tree: &SourceTree) -> PlaceStyle<'_>
+pub fn style_of_tree(tree: &SourceTree) -> LocationStyle<'_>
     // For editors it is the style of editors with the tree's folder, otherwise the plain style.
     ensures { style_of result ≡ style_of_tree tree.now }
 {
     if tree.for_editor {
-        PlaceStyle::Editor {
+        LocationStyle::Editor {
             folder: tree.folder.as_str(),
         }
     } else {
-        PlaceStyle::Plain
+        LocationStyle::Plain
     }
 }
 
 /// The style of the locations that a job writes.
-pub fn style_of_job(job: &Job) -> PlaceStyle<'_>
+pub fn style_of_job(job: &Job) -> LocationStyle<'_>
     // A job on a tree has the style of the tree. One on an index has the style of editors without a folder if it is for editors; any other
     // job has the plain style.
     ensures { style_of result ≡ style_of_job job.now }
@@ -32,7 +32,7 @@ pub fn style_of_job(job: &Job) -> PlaceStyle<'_>
         Job::Ask {
             for_editor: true,
             ..
-        } => PlaceStyle::Editor { folder: "" },
-        Job::Ask { .. } | Job::Network { .. } => PlaceStyle::Plain,
+        } => LocationStyle::Editor { folder: "" },
+        Job::Ask { .. } | Job::Network { .. } => LocationStyle::Plain,
     }
 }

@@ -10,12 +10,12 @@ ghost use Rattle.oscip_run.specs.CrossingRuns.{IsCrossingsRun};
 ghost use Rattle.oscip_run.specs.ImportRuns.{IsNetTextRun};
 ghost use Rattle.oscip_run.specs.JobRuns.{without_answer};
 ghost use Rattle.oscip_run.specs.ModuleRuns.{IsModulesRun};
-ghost use Rattle.oscip_run.specs.Readings.{given_bytes};
-ghost use Rattle.oscip_run.specs.Runs.{IsRefusedTree};
-ghost use Rattle.oscip_run.specs.TreeQuestionRuns.{IsRulesFileRun, IsTreeQuestionRun, NeverSaysNo};
+ghost use Rattle.oscip_run.specs.Readings.{returned_bytes};
+ghost use Rattle.oscip_run.specs.Runs.{IsRejectedTree};
+ghost use Rattle.oscip_run.specs.TreeQuestionRuns.{IsRulesFileRun, IsTreeQuestionRun, IsNeverFalse};
 ghost use Rattle.oscip_run.specs.TreeRuns.{AreTreeFiles, IsTreeQuestionRunOn, IsTreeUnread};
-ghost use Rattle.oscip_tree.specs.Sources.{ArePathsInOrder};
-ghost use Rattle.oscip_tree.specs.Trees.{IsNetOfTree};
+ghost use Rattle.source_tree.specs.Sources.{ArePathsInOrder};
+ghost use Rattle.source_tree.specs.Trees.{IsNetOfTree};
 ghost use Rattle.text_escape.specs.Places.{style_of};
 
 use crate::engine::READERS;
@@ -27,11 +27,11 @@ use crate::{
 use byte_sink::Sink;
 use cut_solve::OpenGate;
 use oscip_job::{NetQuestion, SourceTree, TreeQuestion, TwoNames};
-use oscip_tree::{PartedFiles, Source, TreeFault, part_files};
+use source_tree::{PartitionedFiles, Source, TreeFault, partition_files};
 use std::alloc::Global;
 use std::sync::Wait;
 use std::thread::Threads;
-use text_escape::PlaceStyle;
+use text_escape::LocationStyle;
 
 /// The outcome of a run on the modules of a tree.
 #[derive(Drop)]
@@ -51,7 +51,7 @@ pub fn tree_files<R: Threads + Sync, F: Reader>(
     reader: &F,
     tree: &SourceTree,
     workers: u32,
-) -> Result<PartedFiles, RunFault>
+) -> Result<PartitionedFiles, RunFault>
     // The files are those that the reader returned for the folder and its patterns, without the files that were left out; the faults are
     // those of the latter.
     ensures files { IfOk result (λ parted. AreTreeFiles (F.answers reader.now) tree.now parted.accepted.items parted.faults.items) }
@@ -62,9 +62,9 @@ pub fn tree_files<R: Threads + Sync, F: Reader>(
 {
     let sources = reader.modules(tree.folder.as_str(), tree.excluded.as_slice())?;
     if tree.skips_faults {
-        return Ok(part_files(rt, alloc, sources, workers)?);
+        return Ok(partition_files(rt, alloc, sources, workers)?);
     }
-    Ok(PartedFiles {
+    Ok(PartitionedFiles {
         accepted: sources,
         faults: Vec::new(alloc),
     })
@@ -98,12 +98,12 @@ fn ask_crossings<R: Threads + Sync, S: Sink>(
     alloc: Global,
     sources: &[Source],
     names: &TwoNames,
-    style: PlaceStyle<'_>,
+    style: LocationStyle<'_>,
     sink: &mut S,
 ) -> Result<bool, RunFault>
     requires { ArePathsInOrder sources.now }
     ensures run { IsCrossingsRun (style_of style.entry) sources.now (string_bytes names.now.from) (string_bytes names.now.to) (S.taken sink.old) (S.taken sink.new) (without_answer result) }
-    ensures answer { NeverSaysNo result }
+    ensures answer { IsNeverFalse result }
     ensures failures { S.failures sink.new ≡ failures_by is_device result (S.failures sink.old) }
 {
     let (from, to) = (names.from.as_str(), names.to.as_str());
@@ -119,8 +119,8 @@ fn ask_network<R: Threads + Sync, S: Sink>(
     sink: &mut S,
 ) -> Result<bool, RunFault>
     requires { ArePathsInOrder sources.now }
-    ensures run { IsNetTextRun (IsNetOfTree sources.now) (IsRefusedTree sources.now) (S.taken sink.old) (S.taken sink.new) (without_answer result) }
-    ensures answer { NeverSaysNo result }
+    ensures run { IsNetTextRun (IsNetOfTree sources.now) (IsRejectedTree sources.now) (S.taken sink.old) (S.taken sink.new) (without_answer result) }
+    ensures answer { IsNeverFalse result }
     ensures failures { S.failures sink.new ≡ failures_by is_device result (S.failures sink.old) }
 {
     net_tree(rt, alloc, sources, sink)?;
@@ -132,12 +132,12 @@ fn ask_modules<R: Threads + Sync, S: Sink>(
     rt: &R,
     alloc: Global,
     sources: &[Source],
-    style: PlaceStyle<'_>,
+    style: LocationStyle<'_>,
     sink: &mut S,
 ) -> Result<bool, RunFault>
     requires { ArePathsInOrder sources.now }
     ensures run { IsModulesRun (style_of style.entry) sources.now (S.taken sink.old) (S.taken sink.new) (without_answer result) }
-    ensures answer { NeverSaysNo result }
+    ensures answer { IsNeverFalse result }
     ensures failures { S.failures sink.new ≡ failures_by is_device result (S.failures sink.old) }
 {
     modules_tree(rt, alloc, sources, style, sink)?;
@@ -151,7 +151,7 @@ fn ask_rules<R: Threads + Sync, F: Reader, S: Sink>(
     reader: &F,
     sources: &[Source],
     path: &str,
-    style: PlaceStyle<'_>,
+    style: LocationStyle<'_>,
     sink: &mut S,
 ) -> Result<bool, RunFault>
     requires { ArePathsInOrder sources.now }
@@ -170,7 +170,7 @@ fn ask_tree<R: Threads + Wait + Sync, F: Reader, S: Sink>(
     reader: &F,
     sources: &[Source],
     question: &TreeQuestion,
-    style: PlaceStyle<'_>,
+    style: LocationStyle<'_>,
     sink: &mut S,
 ) -> Result<bool, RunFault>
     // The files are sorted by path, each path once.
@@ -213,7 +213,7 @@ pub fn run_tree<R: Threads + Wait + Sync, F: Reader, S: Sink>(
     // Without a run the sink counts no failure.
     ensures failed { IfErr result (λ _. S.failures sink.new ≡ S.failures sink.old) }
 {
-    let PartedFiles { accepted, faults } = tree_files(rt, alloc, reader, tree, READERS)?;
+    let PartitionedFiles { accepted, faults } = tree_files(rt, alloc, reader, tree, READERS)?;
     let sources = accepted.as_slice();
     let style = style_of_tree(tree);
     let ended = ask_tree(rt, alloc, reader, sources, question, style, sink);

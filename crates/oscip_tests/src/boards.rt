@@ -1,10 +1,10 @@
-//! Indexes by two workers, whose gate sees each module that they take.
+//! Indexes by two workers, with a gate that is called for each claimed module.
 use crate::inputs::{THREE, TWO, sources};
 use cut_solve::Gate;
 use index_run::index_to;
 use ob_board::{BoardGate, IndexOptions};
 use oscip_run::RunFault;
-use oscip_tree::{Source, in_order};
+use source_tree::{Source, in_order};
 use std::alloc::AllocError;
 use std::process::Abort;
 use std::sync::Wait;
@@ -15,7 +15,7 @@ use std::thread::Threads;
 use std::time::{Clock, Duration};
 use test_doubles::{AllCome, ByOne};
 
-/// A gate of a board at which all workers meet.
+/// A gate of the scheduler at which all workers meet.
 #[derive(Drop)]
 struct Meeting<'a, R>(AllCome<'a, R>);
 
@@ -25,12 +25,12 @@ impl<R: Clock> BoardGate for Meeting<'_, R> {
     }
 }
 
-/// A gate of a board that holds the first module that is claimed for a while, so that the other worker finds none ready, and lets
-/// both meet at the next two.
+/// A gate of the scheduler that delays the first claimed module, so that the other worker finds none ready, and lets both meet at the next
+/// two.
 #[derive(Drop)]
 struct Waking<'a, R> {
     clock: &'a R,
-    /// How many modules were claimed.
+    /// The number of claimed modules.
     came: AtomicU64,
     later: AllCome<'a, R>,
 }
@@ -55,8 +55,8 @@ impl<R: Clock> BoardGate for Waking<'_, R> {
     }
 }
 
-/// Whether an index by two workers, without package and root, is put. Want of memory is told.
-fn is_put<R: Abort + AllocGlobal + Threads + Wait + Sync, G: BoardGate + Sync>(
+/// Whether an index by two workers, without package and root, is written. A failed allocation is reported.
+fn is_written<R: Abort + AllocGlobal + Threads + Wait + Sync, G: BoardGate + Sync>(
     rt: &R,
     sources: &[Source],
     gate: &G,
@@ -78,7 +78,7 @@ fn is_put<R: Abort + AllocGlobal + Threads + Wait + Sync, G: BoardGate + Sync>(
 fn two_workers_hold_a_module_at_once(rt: HostRuntime) -> Result<(), Fail> {
     let sources = sources(rt.alloc(), TWO)?;
     let gate = Meeting(AllCome::new(&rt, 2));
-    assert!(rt; is_put(&rt, sources.as_slice(), &gate)?);
+    assert!(rt; is_written(&rt, sources.as_slice(), &gate)?);
     assert_eq!(rt; gate.0.let_go.load(Ordering::SeqCst), 2);
     Ok(())
 }
@@ -87,7 +87,7 @@ fn two_workers_hold_a_module_at_once(rt: HostRuntime) -> Result<(), Fail> {
 fn a_worker_that_finds_no_module_ready_waits_for_one(rt: HostRuntime) -> Result<(), Fail> {
     let sources = sources(rt.alloc(), THREE)?;
     let gate = Waking::new(&rt);
-    assert!(rt; is_put(&rt, sources.as_slice(), &gate)?);
+    assert!(rt; is_written(&rt, sources.as_slice(), &gate)?);
     assert_eq!(rt; gate.later.let_go.load(Ordering::SeqCst), 2);
     Ok(())
 }

@@ -1,9 +1,9 @@
-//! Commands, each from its words to what it puts: with a sink that fails at each put, and with a gate at which all workers meet.
+//! Commands with their arguments and their output, also with a sink that fails at each write, and with a gate at which all workers meet.
 ghost use Rattle.std.specs.Prelude.{IfOk};
 ghost use Rattle.oscip_job.specs.Jobs.{HasPackage, HasTreeWorkers, HasWorkers};
-ghost use Rattle.oscip_tree.specs.Sources.{ArePathsInOrder};
+ghost use Rattle.source_tree.specs.Sources.{ArePathsInOrder};
 
-use crate::faults::fault_told;
+use crate::faults::describe_fault;
 use crate::inputs::{
     FOUR, FOUR_BLOCKED, FOUR_BROKEN, FOUR_CROSSINGS, FOUR_CUT, FOUR_DOT, FOUR_MODULES, FOUR_NET,
     FOUR_PINS, FOUR_RULES, FOUR_WHY, NONE_INDEX, ONE, ONE_HEX, ONE_INDEX, SIX, SIX_BLOCKED,
@@ -15,7 +15,7 @@ use oscip_run::{
     RunFault, answer, answer_question, answer_tree, crossings_tree, faults_tree, modules_tree,
     net_tree, rules_tree,
 };
-use oscip_tree::{Source, in_order};
+use source_tree::{Source, in_order};
 use std::alloc::{AllocError, Global};
 use std::process::Abort;
 use std::sync::Wait;
@@ -24,9 +24,9 @@ use std::test::Fail;
 use std::thread::Threads;
 use std::time::Clock;
 use test_doubles::{AllCome, ByOne};
-use text_escape::PlaceStyle;
+use text_escape::LocationStyle;
 
-/// Words behind the program's name, files, prices, and what is put.
+/// The arguments after the program's name, the files, the prices, and the output.
 type Command = (
     &'static [&'static str],
     &'static [(&'static str, &'static str)],
@@ -125,7 +125,7 @@ const PUTS: &[Command] = &[
     ),
 ];
 
-/// The words of cuts, each with the number of workers and what is put. Zeros and a plus may stand before it.
+/// The arguments of cuts, with the number of workers and the output. Leading zeros and a plus sign are permitted.
 const WORKERS: &[(&[&str], u64, &[u8])] = &[
     (&["cut", "four", "A", "D"], 4, FOUR_CUT),
     (&["cut", "four", "A", "D", "--workers", "8"], 8, FOUR_CUT),
@@ -157,7 +157,7 @@ const WORKERS: &[(&[&str], u64, &[u8])] = &[
     ),
 ];
 
-/// The program's name and the words behind it.
+/// The program's name and its arguments.
 fn line_of(alloc: Global, words: &[&str]) -> Result<Vec<String>, AllocError> {
     let mut line = Vec::new(alloc);
     line.push(String::from_str(alloc, "oscip")?)?;
@@ -179,7 +179,7 @@ fn boxed(alloc: Global, job: Job) -> Result<Box<Job>, JobFault>
     }
 }
 
-/// The job of words.
+/// The job of the arguments.
 fn job_in(alloc: Global, words: &[String]) -> Result<Box<Job>, JobFault>
     ensures workers { IfOk result (λ job. HasWorkers job.value) }
     ensures package { IfOk result (λ job. HasPackage job.value) }
@@ -188,24 +188,24 @@ fn job_in(alloc: Global, words: &[String]) -> Result<Box<Job>, JobFault>
 }
 
 /// `yes` or `no`, or the fault.
-fn answer_told(alloc: Global, ended: &Result<bool, RunFault>) -> Result<String, AllocError> {
+fn describe_verdict(alloc: Global, ended: &Result<bool, RunFault>) -> Result<String, AllocError> {
     match ended {
         Ok(true) => String::from_str(alloc, "yes"),
         Ok(false) => String::from_str(alloc, "no"),
-        Err(fault) => fault_told(alloc, fault),
+        Err(fault) => describe_fault(alloc, fault),
     }
 }
 
-/// `put`, or the fault.
-fn puts_told(alloc: Global, ended: &Result<(), RunFault>) -> Result<String, AllocError> {
+/// `put` for success, or the fault.
+fn describe_end(alloc: Global, ended: &Result<(), RunFault>) -> Result<String, AllocError> {
     match ended {
         Ok(()) => String::from_str(alloc, "put"),
-        Err(fault) => fault_told(alloc, fault),
+        Err(fault) => describe_fault(alloc, fault),
     }
 }
 
-/// How what is asked of a tree ends.
-fn tree_told<R: Threads + Wait + AllocGlobal + Clock + Sync>(
+/// The result of a question about a tree.
+fn describe_tree_run<R: Threads + Wait + AllocGlobal + Clock + Sync>(
     rt: &R,
     question: &TreeQuestion,
     sources: &[Source],
@@ -218,35 +218,35 @@ fn tree_told<R: Threads + Wait + AllocGlobal + Clock + Sync>(
 {
     let alloc = rt.alloc();
     match question {
-        TreeQuestion::OfNet(question) => answer_told(
+        TreeQuestion::OfNet(question) => describe_verdict(
             alloc,
             &answer_tree(rt, alloc, question, sources, FOUR_CUT, gate, prices, sink),
         ),
         TreeQuestion::Crossings(names) => {
             let (from, to) = (names.from.as_str(), names.to.as_str());
-            puts_told(
+            describe_end(
                 alloc,
-                &crossings_tree(rt, alloc, sources, from, to, PlaceStyle::Plain, sink),
+                &crossings_tree(rt, alloc, sources, from, to, LocationStyle::Plain, sink),
             )
         }
-        TreeQuestion::Net => puts_told(alloc, &net_tree(rt, alloc, sources, sink)),
-        TreeQuestion::Modules => puts_told(
+        TreeQuestion::Net => describe_end(alloc, &net_tree(rt, alloc, sources, sink)),
+        TreeQuestion::Modules => describe_end(
             alloc,
-            &modules_tree(rt, alloc, sources, PlaceStyle::Plain, sink),
+            &modules_tree(rt, alloc, sources, LocationStyle::Plain, sink),
         ),
-        TreeQuestion::Rules(_) => answer_told(
+        TreeQuestion::Rules(_) => describe_verdict(
             alloc,
-            &rules_tree(rt, alloc, sources, FOUR_RULES, PlaceStyle::Plain, sink),
+            &rules_tree(rt, alloc, sources, FOUR_RULES, LocationStyle::Plain, sink),
         ),
-        TreeQuestion::Faults => answer_told(
+        TreeQuestion::Faults => describe_verdict(
             alloc,
-            &faults_tree(rt, alloc, sources, PlaceStyle::Plain, sink),
+            &faults_tree(rt, alloc, sources, LocationStyle::Plain, sink),
         ),
     }
 }
 
-/// How a job ends.
-fn told<R: Threads + Wait + AllocGlobal + Clock + Sync>(
+/// The result of a job.
+fn description<R: Threads + Wait + AllocGlobal + Clock + Sync>(
     rt: &R,
     job: &Job,
     sources: &[Source],
@@ -260,22 +260,22 @@ fn told<R: Threads + Wait + AllocGlobal + Clock + Sync>(
 {
     let alloc = rt.alloc();
     match job {
-        Job::Network { question, .. } => answer_told(
+        Job::Network { question, .. } => describe_verdict(
             alloc,
             &answer(rt, alloc, question, SIX, SIX_CUT, gate, prices, sink),
         ),
-        Job::Tree { question, .. } => tree_told(rt, question, sources, prices, gate, sink),
-        Job::Index(indexing) => puts_told(
+        Job::Tree { question, .. } => describe_tree_run(rt, question, sources, prices, gate, sink),
+        Job::Index(indexing) => describe_end(
             alloc,
             &answer_index(rt, alloc, indexing, sources, &OpenBoard, sink),
         ),
-        Job::Unresolved { .. } => puts_told(
+        Job::Unresolved { .. } => describe_end(
             alloc,
-            &unresolved_to(rt, alloc, sources, PlaceStyle::Plain, sink),
+            &unresolved_to(rt, alloc, sources, LocationStyle::Plain, sink),
         ),
         Job::Ask { question, .. } => {
-            let style = PlaceStyle::Plain;
-            puts_told(
+            let style = LocationStyle::Plain;
+            describe_end(
                 alloc,
                 &answer_question(alloc, question, ONE_INDEX, style, sink),
             )
@@ -283,7 +283,7 @@ fn told<R: Threads + Wait + AllocGlobal + Clock + Sync>(
     }
 }
 
-/// Checks how a job ends.
+/// Checks the result of a job.
 fn ends<R: Abort + Threads + Wait + AllocGlobal + Clock + Sync>(
     rt: &R,
     job: &Job,
@@ -297,12 +297,12 @@ fn ends<R: Abort + Threads + Wait + AllocGlobal + Clock + Sync>(
     requires package { HasPackage job.now }
 {
     assert!(rt; in_order(sources));
-    let told = told(rt, job, sources, prices, gate, sink)?;
-    assert_eq!(rt; told.as_str(), want);
+    let description = description(rt, job, sources, prices, gate, sink)?;
+    assert_eq!(rt; description.as_str(), want);
     Ok(())
 }
 
-/// Checks that a sink that fails at each put in turn has the front of the text.
+/// Checks that a sink that fails at each write in turn has a prefix of the output.
 fn has_fronts<R: Abort + Threads + Wait + AllocGlobal + Clock + Sync>(
     rt: &R,
     job: &Job,
@@ -313,8 +313,8 @@ fn has_fronts<R: Abort + Threads + Wait + AllocGlobal + Clock + Sync>(
     requires workers { HasWorkers job.now }
     requires package { HasPackage job.now }
 {
-    for puts in 0..text.len() {
-        let mut sink = ByOne::new(rt.alloc(), puts as u64);
+    for writes in 0..text.len() {
+        let mut sink = ByOne::new(rt.alloc(), writes as u64);
         let gate = AllCome::new(rt, 0);
         ends(
             rt,
@@ -325,15 +325,15 @@ fn has_fronts<R: Abort + Threads + Wait + AllocGlobal + Clock + Sync>(
             &mut sink,
             "3 oscip: cannot write\n",
         )?;
-        assert_eq!(rt; (sink.taken.len(), sink.failures), (puts, 1));
+        assert_eq!(rt; (sink.taken.len(), sink.failures), (writes, 1));
         assert_eq!(rt; sink.empty, 0);
         assert!(rt; text.starts_with(sink.taken.as_slice()));
     }
     Ok(())
 }
 
-/// Checks that a sink that takes one byte a put has the whole text, and is never asked to take none.
-fn has_whole<R: Abort + Threads + Wait + AllocGlobal + Clock + Sync>(
+/// Checks that a sink that takes one byte per write has the whole output, and that no write is empty.
+fn check_bytewise<R: Abort + Threads + Wait + AllocGlobal + Clock + Sync>(
     rt: &R,
     job: &Job,
     sources: &[Source],
@@ -346,16 +346,20 @@ fn has_whole<R: Abort + Threads + Wait + AllocGlobal + Clock + Sync>(
     assert!(rt; in_order(sources));
     let mut sink = ByOne::new(rt.alloc(), u64::MAX);
     let gate = AllCome::new(rt, 0);
-    let told = told(rt, job, sources, prices, &gate, &mut sink)?;
-    let put = if told.as_str() == "put" { "put" } else { "yes" };
+    let description = description(rt, job, sources, prices, &gate, &mut sink)?;
+    let put = if description.as_str() == "put" {
+        "put"
+    } else {
+        "yes"
+    };
     let want = if text == FOUR_BROKEN { "no" } else { put };
-    assert_eq!(rt; told.as_str(), want);
+    assert_eq!(rt; description.as_str(), want);
     assert_eq!(rt; (sink.failures, sink.empty), (0, 0));
     assert_eq!(rt; sink.taken.as_slice(), text);
     Ok(())
 }
 
-/// Checks that all workers of a cut come to its gate, and what it puts.
+/// Checks that all workers of a cut come to its gate, and the output.
 fn has_workers<R: Abort + Threads + Wait + AllocGlobal + Clock + Sync>(
     rt: &R,
     job: &Job,
@@ -375,7 +379,7 @@ fn has_workers<R: Abort + Threads + Wait + AllocGlobal + Clock + Sync>(
 }
 
 #[test]
-fn a_sink_that_fails_has_the_front(rt: HostRuntime) -> Result<(), Fail> {
+fn a_sink_that_fails_has_the_prefix(rt: HostRuntime) -> Result<(), Fail> {
     for (words, files, prices, text) in PUTS {
         let line = line_of(rt.alloc(), words)?;
         let sources = sources(rt.alloc(), files)?;
@@ -386,12 +390,12 @@ fn a_sink_that_fails_has_the_front(rt: HostRuntime) -> Result<(), Fail> {
 }
 
 #[test]
-fn a_sink_of_one_byte_a_put_has_the_whole(rt: HostRuntime) -> Result<(), Fail> {
+fn a_sink_of_one_byte_a_write_has_all(rt: HostRuntime) -> Result<(), Fail> {
     for (words, files, prices, text) in PUTS {
         let line = line_of(rt.alloc(), words)?;
         let sources = sources(rt.alloc(), files)?;
         let job = job_in(rt.alloc(), line.as_slice())?;
-        has_whole(&rt, &job, sources.as_slice(), *prices, text)?;
+        check_bytewise(&rt, &job, sources.as_slice(), *prices, text)?;
     }
     Ok(())
 }

@@ -1,14 +1,14 @@
-//! Faults that the program can't be brought to by what it reads, each with its status and its line.
+//! Faults that no input of the program causes, each with its exit status and its line.
 use cut_net::PriceFault;
 use ob_imports::GraphFault;
 use ob_scan::{Position, ScanFault};
 use oscip_run::{RunFault, fault_line, status_of};
-use oscip_tree::TreeFault;
+use source_tree::TreeFault;
 use std::alloc::{AllocError, Global};
 use std::test::Fail;
-use text_escape::PlaceStyle;
+use text_escape::LocationStyle;
 
-/// What fails, or wants memory.
+/// The part that fails or runs out of memory.
 enum Failing {
     Sink,
     Run,
@@ -27,7 +27,7 @@ const FAULTS: &[(Failing, &str)] = &[
     (Failing::Prices, "4 oscip: Memory\n"),
 ];
 
-/// The fault of a place, with this path where it has one.
+/// The fault of a part, with this path if it has one.
 fn failing_fault(place: &Failing, path: String) -> RunFault {
     match place {
         Failing::Sink => RunFault::Device,
@@ -43,10 +43,10 @@ fn failing_fault(place: &Failing, path: String) -> RunFault {
     }
 }
 
-/// The status and the line of a fault.
-pub fn fault_told(alloc: Global, fault: &RunFault) -> Result<String, AllocError> {
+/// The exit status and the line of a fault.
+pub fn describe_fault(alloc: Global, fault: &RunFault) -> Result<String, AllocError> {
     let status = status_of(fault);
-    let line = fault_line(alloc, PlaceStyle::Plain, fault)?;
+    let line = fault_line(alloc, LocationStyle::Plain, fault)?;
     format!(in alloc; "{status} {line}")
 }
 
@@ -54,8 +54,8 @@ pub fn fault_told(alloc: Global, fault: &RunFault) -> Result<String, AllocError>
 fn want_of_memory_and_a_sink_that_fails_have_their_lines(rt: HostRuntime) -> Result<(), Fail> {
     for (place, want) in FAULTS {
         let path = String::from_str(rt.alloc(), "a/M.Mod")?;
-        let told = fault_told(rt.alloc(), &failing_fault(place, path))?;
-        assert_eq!(rt; told.as_str(), *want);
+        let description = describe_fault(rt.alloc(), &failing_fault(place, path))?;
+        assert_eq!(rt; description.as_str(), *want);
     }
     Ok(())
 }

@@ -1,8 +1,8 @@
-//! Tests of the program's libraries, of what no command shows: sinks that fail at each put, gates at which workers meet, a board at which
-//! the test's own threads work, trees that are read whole, and fault lines that the program can't be brought to. What a command prints,
-//! tells and ends with stands in `rows/`.
-//! Stands on `oscip_job`, `oscip_tree`, `ob_board`, `oscip_run` and `index_run`, with the doubles that tests share.
-//! Its contract: none, since it has no function but tests.
+//! Tests of the program's libraries, of what no command shows: sinks that fail at each write, gates at which workers meet, a scheduler with
+//! the test's own threads, trees that are read completely, and faults that no input causes.
+//! The output of commands is in `rows/`.
+//! Depends on `oscip_job`, `source_tree`, `ob_board`, `oscip_run` and `index_run`, which it tests, and on `test_doubles`. It has nothing but
+//! tests.
 #![tactic(auto)]
 
 #[cfg(test)]

@@ -1,22 +1,22 @@
-//! The index of a tree as a message, which no command makes any more, beside its parts, which commands put: the same bytes. The trees
-//! stand on both sides of the lengths from which on a document's room is reckoned, and of those at which it is cut.
+//! The index of a tree as a message, which no command makes, compared with its parts, which commands write: their bytes are equal.
+//! The trees are below and above the sizes from which a document's capacity is estimated, and at which it is shrunk.
 ghost use Rattle.std.specs.Prelude.{◌≡◌, false};
 ghost use Rattle.std.specs.String.{string_bytes};
-ghost use Rattle.oscip_tree.specs.Sources.{ArePathsInOrder};
+ghost use Rattle.source_tree.specs.Sources.{ArePathsInOrder};
 ghost use Rattle.scip_symbol.specs.Outcomes.{is_wrong_part};
 
 use crate::inputs::{FOUR, ONE, THREE, TWO, WRONG, sources};
-use index_run::{OpenBoard, index_to, put_index};
+use index_run::{OpenBoard, index_to, write_index};
 use ob_board::{IndexOptions, index_tree};
-use oscip_tree::{Source, in_order};
 use scip_index::Index;
+use source_tree::{Source, in_order};
 use std::alloc::{AllocError, Global};
 use std::process::Abort;
 use std::sync::Wait;
 use std::test::Fail;
 use std::thread::Threads;
 
-/// How many letters the package has, and how many rounds of statements the module.
+/// The number of letters of the package, and of rounds of statements in the module.
 const SIZES: &[(usize, usize)] = &[
     (0, 0),
     (0, 1),
@@ -33,10 +33,10 @@ const SIZES: &[(usize, usize)] = &[
     (0, 1_500),
 ];
 
-/// Trees of files that stand elsewhere.
+/// Trees of files that other tests use too.
 const TREES: &[&[(&str, &str)]] = &[ONE, TWO, THREE, FOUR, WRONG];
 
-/// Whether no symbol's text can hold this package.
+/// Whether no symbol string can contain this package.
 pub(crate) fn is_wrong(part: &str) -> bool
     ensures { result ≡ is_wrong_part part.now }
 {
@@ -57,7 +57,7 @@ pub(crate) fn options_of(alloc: Global, letters: usize) -> Result<IndexOptions, 
     Ok(IndexOptions { package, root })
 }
 
-/// A module with so many rounds of uses of its own, of another module's, and of one that isn't there.
+/// A module with this many rounds of uses of its own declarations, of another module's, and of a missing module's.
 fn module_of(alloc: Global, rounds: usize) -> Result<String, AllocError> {
     let mut text = String::from_str(
         alloc,
@@ -70,25 +70,25 @@ fn module_of(alloc: Global, rounds: usize) -> Result<String, AllocError> {
     Ok(text)
 }
 
-/// That module and the other.
+/// This module and the other one.
 fn tree_of(alloc: Global, rounds: usize) -> Result<Vec<Source>, AllocError> {
     let text = module_of(alloc, rounds)?;
     let other = "MODULE N; VAR w*: INTEGER; END N.";
     sources(alloc, &[("M.Mod", text.as_str()), ("N.Mod", other)])
 }
 
-/// The bytes of a message.
-pub(crate) fn put_message(alloc: Global, index: Index) -> Result<Vec<u8>, Fail> {
+/// The written form of a message.
+pub(crate) fn encode_message(alloc: Global, index: Index) -> Result<Vec<u8>, Fail> {
     if index.metadata.is_none() {
         return Err(Fail::new("an index says nothing of itself"));
     }
     let mut bytes = Vec::new(alloc);
-    put_index(alloc, index, &mut bytes)?;
+    write_index(alloc, index, &mut bytes)?;
     Ok(bytes)
 }
 
-/// The index as a message, and then its bytes.
-pub(crate) fn put_whole<R: AllocGlobal + Threads + Wait + Sync>(
+/// The index as a message, and its written form.
+pub(crate) fn message_bytes<R: AllocGlobal + Threads + Wait + Sync>(
     rt: &R,
     sources: &[Source],
     options: &IndexOptions,
@@ -96,11 +96,11 @@ pub(crate) fn put_whole<R: AllocGlobal + Threads + Wait + Sync>(
     requires { is_wrong_part (string_bytes options.now.package) ≡ false }
 {
     let index = index_tree(rt, rt.alloc(), sources, options, 2, &OpenBoard)?;
-    put_message(rt.alloc(), index)
+    encode_message(rt.alloc(), index)
 }
 
-/// The index in its parts, put as they are.
-fn put_parts<R: AllocGlobal + Threads + Wait + Sync>(
+/// The index as its parts, written as they are.
+fn write_parts<R: AllocGlobal + Threads + Wait + Sync>(
     rt: &R,
     sources: &[Source],
     options: &IndexOptions,
@@ -113,8 +113,8 @@ fn put_parts<R: AllocGlobal + Threads + Wait + Sync>(
     Ok(bytes)
 }
 
-/// Whether both put the same.
-fn are_the_same<R: AllocGlobal + Threads + Wait + Sync>(
+/// Whether both write equal bytes.
+fn agree<R: AllocGlobal + Threads + Wait + Sync>(
     rt: &R,
     sources: &[Source],
     options: &IndexOptions,
@@ -122,13 +122,13 @@ fn are_the_same<R: AllocGlobal + Threads + Wait + Sync>(
     requires order { ArePathsInOrder sources.now }
     requires right { is_wrong_part (string_bytes options.now.package) ≡ false }
 {
-    let whole = put_whole(rt, sources, options)?;
-    let parts = put_parts(rt, sources, options)?;
+    let whole = message_bytes(rt, sources, options)?;
+    let parts = write_parts(rt, sources, options)?;
     Ok(whole.as_slice() == parts.as_slice())
 }
 
-/// Checks that both put the same.
-fn put_the_same<R: Abort + AllocGlobal + Threads + Wait + Sync>(
+/// Checks that both write equal bytes.
+fn check_agreement<R: Abort + AllocGlobal + Threads + Wait + Sync>(
     rt: &R,
     sources: &[Source],
     letters: usize,
@@ -136,7 +136,7 @@ fn put_the_same<R: Abort + AllocGlobal + Threads + Wait + Sync>(
     let options = options_of(rt.alloc(), letters)?;
     assert!(rt; in_order(sources));
     assert!(rt; !is_wrong(options.package.as_str()));
-    assert!(rt; are_the_same(rt, sources, &options)?);
+    assert!(rt; agree(rt, sources, &options)?);
     Ok(())
 }
 
@@ -144,7 +144,7 @@ fn put_the_same<R: Abort + AllocGlobal + Threads + Wait + Sync>(
 fn parts_of_an_index_are_its_message_in_bytes(rt: HostRuntime) -> Result<(), Fail> {
     for (letters, rounds) in SIZES {
         let sources = tree_of(rt.alloc(), *rounds)?;
-        put_the_same(&rt, sources.as_slice(), *letters)?;
+        check_agreement(&rt, sources.as_slice(), *letters)?;
     }
     Ok(())
 }
@@ -153,7 +153,7 @@ fn parts_of_an_index_are_its_message_in_bytes(rt: HostRuntime) -> Result<(), Fai
 fn parts_of_small_indexes_are_their_messages_in_bytes(rt: HostRuntime) -> Result<(), Fail> {
     for files in TREES {
         let sources = sources(rt.alloc(), files)?;
-        put_the_same(&rt, sources.as_slice(), 3)?;
+        check_agreement(&rt, sources.as_slice(), 3)?;
     }
     Ok(())
 }

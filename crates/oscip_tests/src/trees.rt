@@ -1,16 +1,16 @@
-//! What is read of trees by one call: what each module of the tree imports of the graph's modules, by their numbers, and of each module how
-//! many tokens it has, its name's and that behind its last END, its import items, procedures and body, and its aliases with the uses that
-//! they qualify; or the fault of the tree.
+//! Trees that are read by one call: the numbers of the modules that each module of the tree imports. Of each module the numbers of its
+//! tokens, of its name's and of the last token after END, of its import items, procedures and statements, and its aliases with the uses
+//! that they qualify; or the fault of the tree.
 use crate::inputs::{FOUR, ONE, sources};
 use ob_imports::Graph;
-use oscip_tree::{ReadModule, ReadTree, read_tree, tree_fault_text};
+use source_tree::{ReadModule, ReadTree, read_tree, tree_fault_text};
 use std::alloc::{AllocError, Global};
 use std::process::Abort;
 use std::test::Fail;
 use std::thread::Threads;
-use text_escape::PlaceStyle;
+use text_escape::LocationStyle;
 
-/// Files, and what is told of their tree.
+/// Files with the description of their tree.
 const TREES: &[(&[(&str, &str)], &str)] = &[
     (&[], ""),
     (
@@ -25,7 +25,7 @@ const TREES: &[(&[(&str, &str)], &str)] = &[
          C: 20 tokens, named 1 and 18, 1 imports, 1 procedures, D 1; \
          D: 13 tokens, named 1 and 11, 0 imports, 1 procedures; ",
     ),
-    // The first file with a fault is told, whatever its kind.
+    // The fault of the first wrong file is reported, whatever its kind.
     (
         &[
             ("A.Mod", "MODULE A; END A."),
@@ -45,7 +45,7 @@ const TREES: &[(&[(&str, &str)], &str)] = &[
         ],
         "B.Mod:0:10: OpenString",
     ),
-    // The imports are refused once each file is accepted.
+    // Faults of imports are reported once each file is accepted.
     (
         &[
             ("A.Mod", "MODULE A; IMPORT B; END A."),
@@ -55,21 +55,21 @@ const TREES: &[(&[(&str, &str)], &str)] = &[
     ),
 ];
 
-/// Tells what each module of the tree imports.
-fn tell_imports(told: &mut String, graph: &Graph) -> Result<(), AllocError> {
-    graph.keeps();
+/// Appends the imports of each module of the tree.
+fn append_imports(description: &mut String, graph: &Graph) -> Result<(), AllocError> {
+    graph.invariants();
     for node in 0..graph.modules() {
-        write!(told, "{node} imports")?;
+        write!(description, "{node} imports")?;
         for import in graph.imports_of(node) {
-            write!(told, " {import}")?;
+            write!(description, " {import}")?;
         }
-        told.push_str("; ")?;
+        description.push_str("; ")?;
     }
     Ok(())
 }
 
-/// Tells of a module its tokens and its syntax tree.
-fn tell_syntax(told: &mut String, read: &ReadModule) -> Result<(), AllocError> {
+/// Appends the tokens and the syntax tree of a module.
+fn append_syntax(description: &mut String, read: &ReadModule) -> Result<(), AllocError> {
     let tree = &*read.tree;
     let imports = match &tree.imports {
         Some(items) => items.rest.len() + 1,
@@ -78,64 +78,64 @@ fn tell_syntax(told: &mut String, read: &ReadModule) -> Result<(), AllocError> {
     let tokens = read.parts.tokens.len();
     let procedures = tree.declarations.procedures.len();
     write!(
-        told,
+        description,
         ": {tokens} tokens, named {} and {}, {imports} imports, {procedures} procedures",
         tree.name, tree.end_name
     )?;
     match &tree.body {
-        Some(_) => told.push_str(", a body"),
+        Some(_) => description.push_str(", a body"),
         None => Ok(()),
     }
 }
 
-/// Tells what is read of a module.
-fn tell_module(told: &mut String, read: &ReadModule) -> Result<(), AllocError> {
-    told.push_str(read.parts.scopes.name())?;
-    tell_syntax(told, read)?;
+/// Appends the data of a module.
+fn append_module(description: &mut String, read: &ReadModule) -> Result<(), AllocError> {
+    description.push_str(read.parts.scopes.name())?;
+    append_syntax(description, read)?;
     for alias in read.parts.scopes.aliases() {
         let uses = read.parts.scopes.qualified_uses(alias.decl);
-        write!(told, ", {} {uses}", alias.module)?;
+        write!(description, ", {} {uses}", alias.module)?;
     }
-    told.push_str("; ")
+    description.push_str("; ")
 }
 
-fn told_tree(alloc: Global, tree: &ReadTree) -> Result<String, AllocError> {
-    let mut told = String::new(alloc);
-    tell_imports(&mut told, &tree.graph)?;
+fn describe_tree(alloc: Global, tree: &ReadTree) -> Result<String, AllocError> {
+    let mut description = String::new(alloc);
+    append_imports(&mut description, &tree.graph)?;
     for read in tree.modules.iter() {
-        tell_module(&mut told, read)?;
+        append_module(&mut description, read)?;
     }
-    Ok(told)
+    Ok(description)
 }
 
-/// What is told of the tree of these files, read by so many workers.
-fn told_of<R: AllocGlobal + Threads + Sync>(
+/// The description of the tree of these files, read by this many workers.
+fn describe_reading<R: AllocGlobal + Threads + Sync>(
     rt: &R,
     files: &[(&str, &str)],
     workers: u32,
 ) -> Result<String, AllocError> {
     let sources = sources(rt.alloc(), files)?;
     match read_tree(rt, rt.alloc(), sources.as_slice(), workers) {
-        Ok(tree) => told_tree(rt.alloc(), &tree),
-        Err(fault) => tree_fault_text(rt.alloc(), PlaceStyle::Plain, &fault),
+        Ok(tree) => describe_tree(rt.alloc(), &tree),
+        Err(fault) => tree_fault_text(rt.alloc(), LocationStyle::Plain, &fault),
     }
 }
 
-/// Checks what is told.
-fn are_told<R: Abort + AllocGlobal + Threads + Sync>(rt: &R, workers: u32) -> Result<(), Fail> {
+/// Checks the description.
+fn check_rows<R: Abort + AllocGlobal + Threads + Sync>(rt: &R, workers: u32) -> Result<(), Fail> {
     for (files, want) in TREES {
-        let told = told_of(rt, files, workers)?;
-        assert_eq!(rt; told.as_str(), *want);
+        let description = describe_reading(rt, files, workers)?;
+        assert_eq!(rt; description.as_str(), *want);
     }
     Ok(())
 }
 
 #[test]
-fn trees_are_read_whole(rt: HostRuntime) -> Result<(), Fail> {
-    are_told(&rt, 1)
+fn trees_are_read(rt: HostRuntime) -> Result<(), Fail> {
+    check_rows(&rt, 1)
 }
 
 #[test]
-fn trees_are_read_whole_by_three_workers(rt: HostRuntime) -> Result<(), Fail> {
-    are_told(&rt, 3)
+fn trees_are_read_by_three_workers(rt: HostRuntime) -> Result<(), Fail> {
+    check_rows(&rt, 3)
 }

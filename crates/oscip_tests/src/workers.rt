@@ -1,19 +1,20 @@
-//! The board of a tree of four modules, at which two threads of the test's own work: A imports B and C, and these D. The entry of C is
-//! offered for B before that of B is delivered.
+//! A scheduler of a tree of four modules with two threads of the test itself: A imports B and C, which import D. The entry of C is offered
+//! for B before B is delivered.
 ghost use Rattle.std.specs.Prelude.{◌≡◌, false, List};
 ghost use Rattle.std.specs.String.{string_bytes};
-ghost use Rattle.ob_board.specs.Seen.{all_seen};
-ghost use Rattle.oscip_tree.specs.Parts.{ArePartsOfTree};
-ghost use Rattle.oscip_tree.specs.Trees.{ModuleFile};
+ghost use Rattle.ob_board.specs.Seen.{file_models};
+ghost use Rattle.source_tree.specs.Parts.{ArePartsOfTree};
+ghost use Rattle.source_tree.specs.Trees.{ModuleFile};
 ghost use Rattle.scip_symbol.specs.Outcomes.{is_wrong_part};
 
 use crate::inputs::{FOUR, sources};
-use crate::models::{is_wrong, options_of, put_message, put_whole};
+use crate::models::{encode_message, is_wrong, message_bytes, options_of};
 use ob_board::{
-    BoardFault, Claim, IndexOptions, Job, Made, Making, NamedIndex, TreeBoard, board_graph,
+    BoardFault, Claim, EntryBuilder, IndexEntry, IndexOptions, Job, NamedIndex, TreeBoard,
+    board_graph,
 };
-use oscip_tree::{Source, TreeParts, tree_parts};
 use scip_index::Index;
+use source_tree::{Source, TreeParts, tree_parts};
 use std::alloc::{AllocError, Global};
 use std::marker::Brand;
 use std::process::Abort;
@@ -28,12 +29,12 @@ const B: u32 = 1;
 
 const C: u32 = 2;
 
-/// The board of a tree behind a lock, and the board whose lock is held.
+/// The scheduler of a tree, guarded by a lock, and the scheduler while the lock is held.
 type Locked<'g, F> = Mutex<TreeBoard<'g, F>>;
 
 type Held<'l, 'g, F> = MutexGuard<'l, TreeBoard<'g, F>>;
 
-/// How often the entry of C was offered for B, and how often it was refused as that of the wrong module.
+/// The number of times that the entry of C was offered for B, and that it was rejected as another module's.
 #[derive(Drop)]
 struct Offers {
     made: AtomicU64,
@@ -52,7 +53,7 @@ impl Offers {
 /// No module is ready.
 struct Later;
 
-/// Claims a module and takes its job; none where the board is over.
+/// Claims a module and takes its input; `None` if the scheduler is done.
 fn take<F: NamedIndex>(board: &mut TreeBoard<'_, F>) -> Result<Option<Job<F>>, Later> {
     match board.claim() {
         Claim::Finished => Ok(None),
@@ -67,7 +68,7 @@ fn take<F: NamedIndex>(board: &mut TreeBoard<'_, F>) -> Result<Option<Job<F>>, L
     }
 }
 
-/// Waits until there is a job; none where the board is over.
+/// Waits until a module is ready; `None` if the scheduler is done.
 fn next<F: NamedIndex, R: Wait>(
     rt: &R,
     locked: &Locked<'_, F>,
@@ -83,12 +84,12 @@ fn next<F: NamedIndex, R: Wait>(
     unreachable!()
 }
 
-/// Offers the entry of C for B, and tells the entry if it is handed back.
+/// Offers the entry of C for B, and returns the entry if it is handed back.
 fn offer<F: NamedIndex>(
     board: &mut TreeBoard<'_, F>,
     offers: &Offers,
-    entry: Made<F>,
-) -> Option<Made<F>> {
+    entry: IndexEntry<F>,
+) -> Option<IndexEntry<F>> {
     offers.made.fetch_add(1, Ordering::SeqCst);
     match board.deliver(B, entry) {
         Ok(()) => None,
@@ -100,7 +101,7 @@ fn offer<F: NamedIndex>(
     }
 }
 
-/// Waits until the entry of C was offered, or memory was refused.
+/// Waits until the entry of C was offered, or an allocation failed.
 fn after_offer<'l, 'g, F: NamedIndex, R: Wait>(
     rt: &R,
     changed: &Condvar,
@@ -124,7 +125,7 @@ fn hand_in<F: NamedIndex, R: Wait>(
     changed: &Condvar,
     offers: &Offers,
     number: u32,
-    made: Made<F>,
+    made: IndexEntry<F>,
 ) {
     let mut board = locked.lock(rt);
     if number == B {
@@ -140,13 +141,13 @@ fn hand_in<F: NamedIndex, R: Wait>(
     }
 }
 
-/// Works until the board is over.
+/// Processes modules until the scheduler is done.
 fn worker<F: NamedIndex, R: Wait>(
     rt: &R,
     locked: &Locked<'_, F>,
     changed: &Condvar,
     offers: &Offers,
-    work: &Making<'_, F, Made<F>>,
+    work: &EntryBuilder<'_, F, IndexEntry<F>>,
 ) {
     for _ in rt.forever() {
         let Some(job) = next(rt, locked, changed) else {
@@ -167,7 +168,7 @@ fn in_threads<F: NamedIndex + Send + Sync, R: Threads + Wait + Sync>(
     rt: &R,
     locked: &Locked<'_, F>,
     offers: &Offers,
-    work: &Making<'_, F, Made<F>>,
+    work: &EntryBuilder<'_, F, IndexEntry<F>>,
 ) -> Result<(), AllocError> {
     let changed = Condvar::new();
     let waked = &changed;
@@ -178,7 +179,7 @@ fn in_threads<F: NamedIndex + Send + Sync, R: Threads + Wait + Sync>(
     })
 }
 
-/// The index that is gathered of the board of a tree, with this package.
+/// The index that is gathered from the scheduler of a tree, with this package.
 fn gathered<F: NamedIndex + Send + Sync, R: Threads + Wait + Sync>(
     rt: &R,
     alloc: Global,
@@ -188,21 +189,21 @@ fn gathered<F: NamedIndex + Send + Sync, R: Threads + Wait + Sync>(
     offers: &Offers,
 ) -> Result<Option<Index>, AllocError>
     requires parts { (files : List ModuleFile) × ArePartsOfTree sources.now files tree.now }
-    requires files { F.files ≡ all_seen sources.now tree.now.modules.items }
+    requires files { F.files ≡ file_models sources.now tree.now.modules.items }
     requires graph { F.graph ≡ tree.now.graph }
     requires package { F.package_name ≡ string_bytes options.now.package }
     requires right { is_wrong_part F.package_name ≡ false }
 {
     let package = options.package.as_str();
-    let work = Making::<F, Made<F>>::of_tree(alloc, sources, tree, package)?;
+    let work = EntryBuilder::<F, IndexEntry<F>>::of_tree(alloc, sources, tree, package)?;
     let graph = board_graph(alloc, &tree.graph)?;
     let locked: Locked<'_, F> = Mutex::new(TreeBoard::new(alloc, &graph)?);
     in_threads(rt, &locked, offers, &work)?;
     work.gather(locked.into_inner(), options.root.as_str())
 }
 
-/// The bytes of the index that is gathered of a tree.
-fn put_gathered<R: AllocGlobal + Threads + Wait + Sync>(
+/// The written form of the index that is gathered for a tree.
+fn gathered_bytes<R: AllocGlobal + Threads + Wait + Sync>(
     rt: &R,
     sources: &[Source],
     options: &IndexOptions,
@@ -213,12 +214,12 @@ fn put_gathered<R: AllocGlobal + Threads + Wait + Sync>(
     let tree = tree_parts(rt, rt.alloc(), sources, 2)?;
     let index = gathered::<Brand, R>(rt, rt.alloc(), sources, &tree, options, offers)?;
     match index {
-        Some(index) => put_message(rt.alloc(), index),
+        Some(index) => encode_message(rt.alloc(), index),
         None => Err(Fail::new("a module isn't delivered: memory ran out")),
     }
 }
 
-/// Checks that the index that is gathered is the index, and that the entry of C was refused for B.
+/// Checks that the gathered index is the tree's, and that the entry of C was rejected for B.
 fn gathers_the_index<R: Abort + AllocGlobal + Threads + Wait + Sync>(
     rt: &R,
     sources: &[Source],
@@ -226,8 +227,8 @@ fn gathers_the_index<R: Abort + AllocGlobal + Threads + Wait + Sync>(
     let options = options_of(rt.alloc(), 3)?;
     assert!(rt; !is_wrong(options.package.as_str()));
     let offers = Offers::new();
-    let by_threads = put_gathered(rt, sources, &options, &offers)?;
-    let whole = put_whole(rt, sources, &options)?;
+    let by_threads = gathered_bytes(rt, sources, &options, &offers)?;
+    let whole = message_bytes(rt, sources, &options)?;
     assert!(rt; by_threads.as_slice() == whole.as_slice());
     assert_eq!(rt; offers.made.load(Ordering::SeqCst), 1);
     assert_eq!(rt; offers.wrong.load(Ordering::SeqCst), 1);

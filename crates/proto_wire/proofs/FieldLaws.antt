@@ -7,13 +7,13 @@ use Rattle.proto_wire.specs.declared.fault.WireFault.{WireFault}
 use Rattle.proto_wire.specs.declared.fault.WireFault.TheVariants.{BadText}
 use Rattle.proto_wire.specs.declared.record.WireValue.{WireValue}
 use Rattle.proto_wire.specs.declared.record.WireValue.TheVariants.{Bytes}
-use Rattle.proto_wire.specs.Messages.{field_fault, text_fault, text_fault_given}
+use Rattle.proto_wire.specs.Messages.{field_fault, text_fault, value_text_fault}
 use Rattle.proto_wire.specs.Records.{PayloadRecord}
 
-pub text-good : (value : WireValue) (count at : ℕ) (payload : List ℕ) → value ≡ Bytes count → IsUtf8 payload → text_fault_given value at payload ≡ None
+pub text-good : (value : WireValue) (count at : ℕ) (payload : List ℕ) → value ≡ Bytes count → IsUtf8 payload → value_text_fault value at payload ≡ None
 text-good value count at payload e h = rw (e, is_utf8-from_IsUtf8 payload h) refl
 
-pub text-bad : (value : WireValue) (count at : ℕ) (payload : List ℕ) → value ≡ Bytes count → (IsUtf8 payload → ⊥) → text_fault_given value at payload ≡ Some (BadText at)
+pub text-bad : (value : WireValue) (count at : ℕ) (payload : List ℕ) → value ≡ Bytes count → (IsUtf8 payload → ⊥) → value_text_fault value at payload ≡ Some (BadText at)
 text-bad value count at payload e h = rw (e, false_from_ne_true (is_utf8 payload) (λ t. h (IsUtf8-from_is_utf8 payload t))) refl
 
 field_fault-hit : (k : ℕ) (p : PayloadRecord) (fault : Option WireFault) → p.wire.field ≡ k → field_fault k p.wire fault ≡ fault

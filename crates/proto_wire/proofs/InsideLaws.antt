@@ -10,7 +10,7 @@ use Rattle.proto_wire.specs.Readings.{payload_records}
 use Rattle.proto_wire.specs.Packed.{packed}
 use Rattle.proto_wire.specs.declared.record.WireValue.{WireValue}
 use Rattle.proto_wire.specs.declared.record.WireValue.TheVariants.{Varint, Eight, Bytes, Four}
-use Rattle.proto_wire.specs.Messages.{if_field, each_of, field_fault, latest, numbers_fault, numbers_fault_given, numbers_given, numbers_in}
+use Rattle.proto_wire.specs.Messages.{if_field, each_of, field_fault, latest, numbers_fault, value_numbers_fault, value_numbers, numbers_in}
 use Rattle.proto_wire.proofs.MessageSteps.{latest-append}
 use Rattle.proto_wire.proofs.PieceLaws.{ended}
 use Rattle.proto_wire.proofs.PieceReadings.{records_found, stop_found, pieces_read, PiecesRead, PiecesRead-cons}
@@ -78,7 +78,7 @@ numbers_none k p fault e =
     none (Ok zs) e = absurd cc
     none (Err other) e = refl
 
-    wrong : (value : WireValue) (at : ℕ) (payload : List ℕ) → numbers_fault_given value at payload ≡ Some fault → numbers_given value at payload ≡ []
+    wrong : (value : WireValue) (at : ℕ) (payload : List ℕ) → value_numbers_fault value at payload ≡ Some fault → value_numbers value at payload ≡ []
     wrong (Varint n) at payload e = absurd cc
     wrong Eight at payload e = absurd cc
     wrong (Bytes count) at payload e = none (packed at payload) e

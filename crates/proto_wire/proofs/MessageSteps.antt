@@ -7,7 +7,7 @@ use Rattle.proto_wire.specs.declared.fault.WireFault.{WireFault}
 use Rattle.proto_wire.specs.declared.record.WireValue.TheVariants.{Bytes}
 use Rattle.proto_wire.specs.Records.{PayloadRecord}
 use Rattle.proto_wire.specs.Readings.{payload_records}
-use Rattle.proto_wire.specs.Messages.{if_field, each_of, latest, records_inside, IsClean}
+use Rattle.proto_wire.specs.Messages.{if_field, each_of, latest, nested_records, IsClean}
 use Rattle.proto_wire.specs.Writing.{Field, FieldFits, payload_fields, spelled_fields, pieces_at, Carries, CarryAll}
 use Rattle.proto_wire.proofs.PieceReadings.{records_found}
 use Rattle.proto_wire.proofs.WritingLaws.{records_again}
@@ -38,17 +38,17 @@ pieces-again at fs fits = records_found at (spelled_fields fs) (pieces_at at fs)
 abbrev pub Restores : {V : Type 0} → (List PayloadRecord → V) → V → List ℕ → Type 0
 Restores of v bytes = (start : ℕ) → of (payload_records start bytes).0 ≡ v
 
-inside_carried : (p : PayloadRecord) (bytes : List ℕ) → (p.wire.value ≡ Bytes (length bytes)) × (p.payload ≡ bytes) → records_inside p ≡ (payload_records p.wire.body bytes).0 ∷ []
+inside_carried : (p : PayloadRecord) (bytes : List ℕ) → (p.wire.value ≡ Bytes (length bytes)) × (p.payload ≡ bytes) → nested_records p ≡ (payload_records p.wire.body bytes).0 ∷ []
 inside_carried p bytes h = rw (h.0, h.1) refl
 
 -- messages that were written are read again
-pub messages-given : {V : Type 0} (k : ℕ) (of : List PayloadRecord → V) (written : V → List ℕ) (vs : List V) (ps : List PayloadRecord) → AllByRecursion (λ v. Restores of v (written v)) vs → CarryAll ps (payload_fields k (map written vs)) → map of (each_of k records_inside ps) ≡ vs
+pub messages-given : {V : Type 0} (k : ℕ) (of : List PayloadRecord → V) (written : V → List ℕ) (vs : List V) (ps : List PayloadRecord) → AllByRecursion (λ v. Restores of v (written v)) vs → CarryAll ps (payload_fields k (map written vs)) → map of (each_of k nested_records ps) ≡ vs
 unfolding each_of
 messages-given k of written [] [] restores h = refl
 messages-given k of written [] (p ∷ ps) restores h = absurd h
 messages-given k of written (v ∷ vs) [] restores h = absurd h
 messages-given k of written (v ∷ vs) (p ∷ ps) restores h =
-    rw (if_field-hit k p (records_inside p) h.0.number, inside_carried p (written v) h.0.content, messages-given k of written vs ps restores.1 h.1) (ap (λ x. x ∷ vs) (restores.0 p.wire.body))
+    rw (if_field-hit k p (nested_records p) h.0.number, inside_carried p (written v) h.0.content, messages-given k of written vs ps restores.1 h.1) (ap (λ x. x ∷ vs) (restores.0 p.wire.body))
 
 -- fields that leave no fault in any record that carries them
 pub IsClean-from : (inside : PayloadRecord → Option WireFault) (ps : List PayloadRecord) (fs : List Field) → CarryAll ps fs → AllByRecursion (λ f. (p : PayloadRecord) → Carries p f → inside p ≡ None) fs → IsClean inside ps

@@ -8,7 +8,7 @@ use Rattle.proto_wire.specs.declared.record.WireValue.{WireValue}
 use Rattle.proto_wire.specs.declared.record.WireValue.TheVariants.{Varint, Eight, Bytes, Four}
 use Rattle.proto_wire.specs.Faults.{◌>>=◌, Gives, Shows}
 use Rattle.proto_wire.specs.Varints.{IsVarint, IsNoVarint, varint_in}
-use Rattle.proto_wire.specs.Records.{PayloadRecord, IsField, IsKey, IsValue, IsRecord, HasKey, IsTruncated, in_key, in_varint, in_eight, in_length, in_payload, in_four, IsTooLong, as_key, as_varint, as_length, IsGroup, IsNoField, IsWrongRecord, IsFirst}
+use Rattle.proto_wire.specs.Records.{PayloadRecord, IsField, IsKey, IsValue, IsRecord, HasKey, IsTruncated, in_key, in_varint, in_eight, in_length, in_payload, in_four, HasOverlongVarint, as_key, as_varint, as_length, IsGroup, IsNoField, IsWrongRecord, IsFirst}
 use Rattle.proto_wire.specs.Readings.{piece, is_field, fixed_in, payload_in, value_in, record_in}
 use Rattle.proto_wire.proofs.VarintReadings.{varint_found, open_found, long_found, VarintRead, varint_read, varint_bytes}
 
@@ -119,7 +119,7 @@ truncated_found at bytes (in_length rest k o) = has_key_found at bytes rest 2 k 
 truncated_found at bytes (in_payload size rest count k v short) = has_key_found at bytes (size ++ rest) 2 k ∙ payload_cut k.field at (at + length k.key) size rest count v short
 truncated_found at bytes (in_four rest k short) = has_key_found at bytes rest 5 k ∙ four_cut k.field at (at + length k.key) rest short
 
-too_long_found : (at : ℕ) (bytes : List ℕ) → IsTooLong bytes → record_in at bytes ≡ Err (LongVarint at)
+too_long_found : (at : ℕ) (bytes : List ℕ) → HasOverlongVarint bytes → record_in at bytes ≡ Err (LongVarint at)
 too_long_found at bytes (as_key l) = no_key_found at bytes (LongVarint at) (long_found at bytes l)
 too_long_found at bytes (as_varint rest k l) = has_key_found at bytes rest 0 k ∙ varint_cut k.field at (at + length k.key) rest (LongVarint at) (long_found at rest l)
 too_long_found at bytes (as_length rest k l) = has_key_found at bytes rest 2 k ∙ length_cut k.field at (at + length k.key) rest (LongVarint at) (long_found at rest l)

@@ -5,7 +5,7 @@ use Rattle.std.proofs.lemmas.List.{length-append}
 use Rattle.proto_wire.specs.declared.fault.WireFault.{WireFault}
 use Rattle.proto_wire.specs.declared.fault.WireFault.TheVariants.{Truncated, LongVarint, Group, ZeroField, BadText, Device, Memory}
 use Rattle.proto_wire.specs.Faults.{◌>>=◌}
-use Rattle.proto_wire.specs.Varints.{GoOn, value_of, IsVarint, EndsInside, IsLong, IsNoVarint, varint_in}
+use Rattle.proto_wire.specs.Varints.{GoOn, value_of, IsVarint, IsUnterminated, IsOverlong, IsNoVarint, varint_in}
 
 alone : (last : ℕ) → last < 128 → last ≡ (last % 128 + 128 * 0) % 2 ^ 64
 alone last ends = omega arith
@@ -33,7 +33,7 @@ open_within zero at bytes go_on short = absurd (omega arith)
 open_within (suc k) at [] go_on short = refl
 open_within (suc k) at (b ∷ bytes) go_on short = rw (le-ltb b 128 go_on.0, open_within k at bytes go_on.1 (omega arith)) refl
 
-pub open_found : (at : ℕ) (bytes : List ℕ) → EndsInside bytes → varint_in 10 at bytes ≡ Err (Truncated at)
+pub open_found : (at : ℕ) (bytes : List ℕ) → IsUnterminated bytes → varint_in 10 at bytes ≡ Err (Truncated at)
 open_found at bytes o = open_within 10 at bytes o.go_on o.short
 
 long_within : (k at : ℕ) (ten rest : List ℕ) → GoOn ten → length ten ≡ k → varint_in k at (ten ++ rest) ≡ Err (LongVarint at)
@@ -43,7 +43,7 @@ long_within zero at (b ∷ ten) rest go_on all = absurd (omega arith)
 long_within (suc k) at [] rest go_on all = absurd (omega arith)
 long_within (suc k) at (b ∷ ten) rest go_on all = rw (le-ltb b 128 go_on.0, long_within k at ten rest go_on.1 (omega arith)) refl
 
-pub long_found : (at : ℕ) (bytes : List ℕ) → IsLong bytes → varint_in 10 at bytes ≡ Err (LongVarint at)
+pub long_found : (at : ℕ) (bytes : List ℕ) → IsOverlong bytes → varint_in 10 at bytes ≡ Err (LongVarint at)
 long_found at bytes l = rw l.form (long_within 10 at l.ten l.rest l.go_on l.ten_bytes)
 
 -- why no varint was found

@@ -6,4 +6,4 @@ pub mod Readings
 pub mod Messages
 pub mod Writing
 pub mod Writers
-pub mod Inside
+pub mod MessageBytes

@@ -1,22 +1,22 @@
--- What a writer over a sink answers.
+-- The results of a writer to a sink.
 use Rattle.std.specs.Prelude.{Bool, true, false, List, ℕ, Option, Some, None, Result, Ok, Err}
 use Rattle.byte_sink.specs.declared.sink.SinkFault.{SinkFault}
 use Rattle.byte_sink.specs.declared.sink.SinkFault.TheVariants as sink_faults
-use Rattle.byte_sink.specs.Sinks.{PutsBy}
+use Rattle.byte_sink.specs.Sinks.{WritesBy}
 use Rattle.proto_wire.specs.declared.fault.WireFault.{WireFault}
 use Rattle.proto_wire.specs.declared.fault.WireFault.TheVariants as faults
 
--- the fault of a sink, as one of a record
+-- the error of a sink as an error of this crate
 abbrev pub fault_of_sink : SinkFault → WireFault
 fault_of_sink sink_faults.Memory = faults.Memory
 fault_of_sink sink_faults.Device = faults.Device
 
--- what a writer with this refusal answers
+-- the result of a call of a writer with this error, if any
 abbrev pub answer_of : Option SinkFault → Result (Unit {0}) WireFault
 answer_of None = Ok tt
 answer_of (Some fault) = Err (fault_of_sink fault)
 
--- a device failed
+-- the error is `Device`
 abbrev pub is_failure : WireFault → Bool
 is_failure (faults.Truncated at) = false
 is_failure (faults.LongVarint at) = false
@@ -26,6 +26,6 @@ is_failure (faults.BadText at) = false
 is_failure faults.Device = true
 is_failure faults.Memory = false
 
--- what a sink has taken grows by the record at Ok, and by a front of it at a refusal
-abbrev pub PutsRecord : {T : Type 0} → Option (List ℕ) → Option (List ℕ) → Result T WireFault → List ℕ → Type 0
-PutsRecord old new result bytes = PutsBy (λ _. true) old new result bytes
+-- with `Ok` the sink took the whole record, otherwise a prefix of it
+abbrev pub WritesRecord : {T : Type 0} → Option (List ℕ) → Option (List ℕ) → Result T WireFault → List ℕ → Type 0
+WritesRecord old new result bytes = WritesBy (λ _. true) old new result bytes

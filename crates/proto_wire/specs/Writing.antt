@@ -1,4 +1,4 @@
--- The one way in which fields are written.
+-- The one written form of fields.
 use Rattle.std.specs.Prelude.{◌≡◌, ◌<◌, ◌^◌, ℕ, zero, suc, ◌+◌, ◌*◌, ℤ, pos, negsuc, List, [], ◌∷◌, ◌++◌, length, map}
 use Rattle.std.specs.List.{flat_map}
 use Rattle.std.specs.Int.{w64, cast_unsigned}
@@ -7,12 +7,12 @@ use Rattle.proto_wire.specs.Varints.{varint}
 use Rattle.proto_wire.specs.Records.{PayloadRecord, IsField}
 use Rattle.proto_wire.specs.Readings.{piece}
 
--- what a record carries
+-- the content of a record: a number or a payload
 pub data Content : Type 0 where
   Number : (n : ℕ) → Content
   Payload : (bytes : List ℕ) → Content
 
--- a record before it has a place
+-- a field to be written: its number and its content
 pub record Field : Type 0 where
   pub number : ℕ
   pub content : Content
@@ -23,15 +23,15 @@ number_field k n = record { number = k; content = Number n }
 abbrev pub payload_field : ℕ → List ℕ → Field
 payload_field k bytes = record { number = k; content = Payload bytes }
 
--- the key of this field and wire type
+-- the bytes of the key of this field number and wire type
 abbrev pub key_of : ℕ → ℕ → List ℕ
 key_of k kind = varint (8 * k + kind)
 
--- what stands in front of a payload of so many bytes: a key and the length
+-- the bytes that precede a payload of this many bytes: a key and the length
 abbrev pub head_of : ℕ → ℕ → List ℕ
 head_of k count = key_of k 2 ++ varint count
 
--- a key, and a varint, or a length and so many bytes
+-- the bytes of a field: a key, then a varint, or a length and a payload
 abbrev pub spelled_as : ℕ → Content → List ℕ
 spelled_as k (Number n) = key_of k 0 ++ varint n
 spelled_as k (Payload bytes) = head_of k (length bytes) ++ bytes
@@ -39,7 +39,7 @@ spelled_as k (Payload bytes) = head_of k (length bytes) ++ bytes
 abbrev pub spelled : Field → List ℕ
 spelled f = spelled_as f.number f.content
 
--- the records of these fields in a row
+-- the bytes of these fields, concatenated
 abbrev pub spelled_fields : List Field → List ℕ
 spelled_fields fields = flat_map spelled fields
 
@@ -48,7 +48,7 @@ abbrev pub ContentFits : Content → Type 0
 ContentFits (Number n) = n < 2 ^ 64
 ContentFits (Payload bytes) = length bytes < 2 ^ 64
 
--- the field can be written as a record
+-- the field has a valid number, and its content fits
 pub record FieldFits (f : Field) : Type 0 where
   pub is_field : IsField f.number
   pub content : ContentFits f.content
@@ -61,12 +61,12 @@ placed at k (Payload bytes) = piece k (Bytes (length bytes)) at (at + length (he
 abbrev pub piece_at : ℕ → Field → PayloadRecord
 piece_at at f = placed at f.number f.content
 
--- the records of these fields in a row, the first at this offset
+-- the records of these fields, the first at this offset
 abbrev pub pieces_at : ℕ → List Field → List PayloadRecord
 pieces_at at [] = []
 pieces_at at (f ∷ fs) = piece_at at f ∷ pieces_at (at + length (spelled f)) fs
 
--- the record carries the field, wherever it stands
+-- the record has the content of the field, at whatever offset
 abbrev pub CarriesContent : PayloadRecord → Content → Type 0
 CarriesContent p (Number n) = p.wire.value ≡ Varint n
 CarriesContent p (Payload bytes) = (p.wire.value ≡ Bytes (length bytes)) × (p.payload ≡ bytes)
@@ -75,37 +75,37 @@ pub record Carries (p : PayloadRecord) (f : Field) : Type 0 where
   pub number : p.wire.field ≡ f.number
   pub content : CarriesContent p f.content
 
--- each record carries its field
+-- each record has the number and the content of its field
 abbrev pub CarryAll : List PayloadRecord → List Field → Type 0
 CarryAll [] [] = Unit {0}
 CarryAll [] (f ∷ fs) = ⊥
 CarryAll (p ∷ ps) [] = ⊥
 CarryAll (p ∷ ps) (f ∷ fs) = Carries p f × CarryAll ps fs
 
--- a signed number as the 64 bits that are written; a negative one takes ten bytes
+-- the 64 bits that encode a signed number; a negative one takes ten bytes
 abbrev pub bits_of : ℤ → ℕ
 bits_of z = cast_unsigned w64 z
 
--- a number, unless it is 0
+-- the fields for a number: none if it is 0
 abbrev pub number_fields : ℕ → ℤ → List Field
 number_fields k (pos zero) = []
 number_fields k (pos (suc n)) = number_field k (bits_of (pos (suc n))) ∷ []
 number_fields k (negsuc n) = number_field k (bits_of (negsuc n)) ∷ []
 
--- a text, unless it is empty
+-- the fields for a string: none if it is empty
 abbrev pub text_fields : ℕ → List ℕ → List Field
 text_fields k [] = []
 text_fields k (b ∷ bytes) = payload_field k (b ∷ bytes) ∷ []
 
--- numbers in a row, each a varint
+-- the payload of packed numbers: a varint for each
 abbrev pub packing : List ℤ → List ℕ
 packing zs = flat_map (λ z. varint (bits_of z)) zs
 
--- packed numbers, unless there are none
+-- the fields for packed numbers: none if there are no numbers
 abbrev pub packed_fields : ℕ → List ℤ → List Field
 packed_fields k [] = []
 packed_fields k (z ∷ zs) = payload_field k (packing (z ∷ zs)) ∷ []
 
--- texts or messages, empty ones too
+-- the fields for payloads: one for each, even an empty one
 abbrev pub payload_fields : ℕ → List (List ℕ) → List Field
 payload_fields k payloads = map (payload_field k) payloads

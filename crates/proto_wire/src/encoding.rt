@@ -1,4 +1,4 @@
-//! Keys, numbers and payloads as bytes: the one place where they are made.
+//! The encoding of keys, numbers and payloads, which all writers of this crate use.
 ghost use Rattle.std.specs.Prelude.{◌≡◌, ◌<◌, ◌++◌, FitsSigned, OnOk};
 ghost use Rattle.std.specs.Int.{w32};
 ghost use Rattle.std.specs.List.{AllByRecursion};
@@ -8,7 +8,7 @@ ghost use Rattle.proto_wire.specs.Writing.{bits_of, head_of, key_of, number_fiel
 use crate::varint::push_varint;
 use std::alloc::AllocError;
 
-/// Puts the key of this field and wire type at the end.
+/// Appends the key of this field number and wire type.
 fn push_key(out: &mut Vec<u8>, field: u32, kind: u64) -> Result<(), AllocError>
     requires { kind < 8 }
     ensures { OnOk result (out.new.items ≡ out.old.items ++ key_of field kind) }
@@ -16,7 +16,7 @@ fn push_key(out: &mut Vec<u8>, field: u32, kind: u64) -> Result<(), AllocError>
     push_varint(out, 8 * u64::from(field) + kind)
 }
 
-/// Puts a record with a varint at the end.
+/// Appends a record with a varint.
 pub(crate) fn push_number(out: &mut Vec<u8>, field: u32, number: u64) -> Result<(), AllocError>
     ensures { OnOk result (out.new.items ≡ out.old.items ++ spelled (number_field field number)) }
 {
@@ -24,7 +24,7 @@ pub(crate) fn push_number(out: &mut Vec<u8>, field: u32, number: u64) -> Result<
     push_varint(out, number)
 }
 
-/// Puts at the end what stands in front of a payload of so many bytes: a key and the length.
+/// Appends what precedes a payload of `count` bytes: a key and the length.
 pub(crate) fn push_head(out: &mut Vec<u8>, field: u32, count: usize) -> Result<(), AllocError>
     ensures { OnOk result (out.new.items ≡ out.old.items ++ head_of field count) }
 {
@@ -32,7 +32,7 @@ pub(crate) fn push_head(out: &mut Vec<u8>, field: u32, count: usize) -> Result<(
     push_varint(out, count as u64)
 }
 
-/// Puts a record with this payload at the end.
+/// Appends a record with this payload.
 pub(crate) fn push_payload(out: &mut Vec<u8>, field: u32, payload: &[u8]) -> Result<(), AllocError>
     ensures { OnOk result (out.new.items ≡ out.old.items ++ spelled (payload_field field payload.now)) }
 {
@@ -40,14 +40,14 @@ pub(crate) fn push_payload(out: &mut Vec<u8>, field: u32, payload: &[u8]) -> Res
     out.extend_from_slice(payload)
 }
 
-/// The 64 bits as which a signed number is written: a negative one takes ten bytes.
+/// The 64 bits that encode a signed number: a negative one is sign-extended and takes ten bytes.
 pub(crate) fn bits_of(number: i32) -> u64
     ensures { result ≡ bits_of number }
 {
     i64::from(number).cast_unsigned()
 }
 
-/// Puts numbers in a row at the end, each a varint.
+/// Appends a varint for each number.
 pub(crate) fn push_packing(out: &mut Vec<u8>, numbers: &[i32]) -> Result<(), AllocError>
     ensures bytes { OnOk result (out.new.items ≡ out.old.items ++ packing numbers.now) }
     ensures fits { OnOk result (AllByRecursion (FitsSigned w32) numbers.now) }

@@ -1,32 +1,31 @@
-//! Why wire bytes could not be read or written.
+//! Why bytes can't be decoded, or why a record can't be written.
 
 use byte_sink::SinkFault;
 use std::alloc::{AllocError, AllocFailed};
 use thiserror::Error;
 
-/// The first fault of wire bytes, with the offset of its record's key in the whole input, in bytes from 0; or why a record
-/// could not be written.
+/// The first fault of bytes, with the offset of its record's key in the whole input, in bytes from 0; or why a record can't be written.
 #[derive(Clone, Copy, Debug, PartialEq, Eq, Error)]
 pub enum WireFault {
     /// The bytes end inside the record, or a packed payload inside a number.
     #[error("the record at {at} is cut off")]
     Truncated { at: usize },
-    /// Ten bytes of a varint all go on.
+    /// The tenth byte of a varint has the continuation bit.
     #[error("the record at {at} has a varint of more than ten bytes")]
     LongVarint { at: usize },
-    /// A wire type that is no plain value: 3, 4, 6 or 7.
+    /// The wire type is 3, 4, 6 or 7: a group, or unknown.
     #[error("the record at {at} is a group")]
     Group { at: usize },
-    /// A field number that is 0 or above 536,870,911.
+    /// The field number is 0 or above 536,870,911.
     #[error("the record at {at} has no field number")]
     ZeroField { at: usize },
-    /// A text that isn't UTF-8.
+    /// A string field isn't UTF-8.
     #[error("the text of the record at {at} is no UTF-8")]
     BadText { at: usize },
-    /// The device failed.
+    /// The sink failed.
     #[error("the device failed")]
     Device,
-    /// A growth of memory was refused.
+    /// An allocation failed.
     #[error("memory ran out")]
     Memory,
 }

@@ -1,16 +1,16 @@
-//! The fields of a message, each taken from one record. A record of another field or wire type is passed over.
+//! The fields of a message, each decoded from one record. Records of other fields or wire types are skipped.
 ghost use Rattle.std.specs.Prelude.{◌≡◌, ◌++◌, ◌↔◌, [], ℤ, List, None, Some, Result, OnOk, OnErr, IfErr, length, map, take, true};
 ghost use Rattle.proto_wire.specs.declared.fault.WireFault.{WireFault};
 ghost use Rattle.proto_wire.specs.declared.fault.WireFault.TheVariants.{Memory};
 ghost use Rattle.std.specs.Result.{result_err, result_unwrap_or};
 ghost use Rattle.std.specs.String.{string_bytes};
-ghost use Rattle.proto_wire.specs.Faults.{Stops, Tells};
+ghost use Rattle.proto_wire.specs.Faults.{Stops, HasOutcome};
 ghost use Rattle.proto_wire.specs.Packed.{int32, packed, IsPackedOutcome};
-ghost use Rattle.proto_wire.specs.Messages.{payload_record, latest, if_field, field_fault, number_given, numbers_in, numbers_fault, bytes_in, text_fault};
+ghost use Rattle.proto_wire.specs.Messages.{payload_record, latest, if_field, field_fault, value_number, numbers_in, numbers_fault, bytes_in, text_fault};
 
 use crate::fault::WireFault;
 use crate::record::{WireRecord, WireValue};
-use crate::varint::varint_at_front;
+use crate::varint::read_varint;
 use std::alloc::{AllocError, Global};
 
 pub(crate) fn int32(number: u64) -> i32
@@ -19,38 +19,39 @@ pub(crate) fn int32(number: u64) -> i32
     ((number % (1 << 32)) as u32).cast_signed()
 }
 
-/// Adds the numbers of a packed payload, the key of whose record has this offset. After a refusal some are added.
+/// Appends the numbers of a packed payload, whose record's key is at offset `at`. After an error some numbers may be appended.
 fn push_packed(numbers: &mut Vec<i32>, payload: &[u8], at: usize) -> Result<(), WireFault>
     ensures clean { OnOk result (result_err (packed at payload.now) ≡ None) }
     ensures numbers { OnOk result (numbers.new.items ≡ numbers.old.items ++ result_unwrap_or (packed at payload.now) []) }
     ensures err { IfErr result (λ e. Stops e (result_err (packed at payload.now))) }
-    ensures kept { take (length numbers.old.items) numbers.new.items ≡ numbers.old.items }
+    ensures retained { take (length numbers.old.items) numbers.new.items ≡ numbers.old.items }
 {
     let mut rest = payload;
     while !rest.is_empty() {
-        let (number, after) = varint_at_front(at, rest)?;
+        let (number, after) = read_varint(at, rest)?;
         numbers.push(int32(number))?;
         rest = after;
     }
     Ok(())
 }
 
-/// The numbers of a packed payload, the key of whose record has this offset: the low 32 bits of each varint.
-/// Refuses with `Truncated` and `LongVarint`, with that offset, and with `Memory`.
-/// Protocol Buffers encoding, "Packed Repeated Fields".
+/// Decodes a packed payload whose record's key is at offset `at` (Protocol Buffers encoding, "Packed Repeated Fields"). A number is the low
+/// 32 bits of a varint.
+/// Fails with `Truncated` or `LongVarint`, with that offset, and with `Memory` if an allocation fails.
 pub fn packed_values(alloc: Global, payload: &[u8], at: usize) -> Result<Vec<i32>, WireFault>
-    // They are the numbers of the payload, or it is the fault of the first varint that is wrong.
-    ensures exact { Tells (λ v. v.items) result (IsPackedOutcome at payload.now) }
-    // The numbers of the payload, or its fault, are answered unless memory runs out.
-    ensures only { (o : Result (List ℤ) WireFault) → IsPackedOutcome at payload.now o → Tells (λ v. v.items) result (λ p. p ≡ o) }
+    // The result is the list of numbers of the payload, or the fault of its first wrong varint, or `Memory`.
+    ensures exact { HasOutcome (λ v. v.items) result (IsPackedOutcome at payload.now) }
+    // Each outcome of the payload, a list of numbers or a fault, is the result, unless the result is `Memory`.
+    ensures only { (o : Result (List ℤ) WireFault) → IsPackedOutcome at payload.now o → HasOutcome (λ v. v.items) result (λ p. p ≡ o) }
 {
     let mut numbers = Vec::new(alloc);
     push_packed(&mut numbers, payload, at)?;
     Ok(numbers)
 }
 
-/// Adds the numbers of the record, packed or not, if it is of this repeated field.
-/// Refuses with `Truncated` and `LongVarint`, with the offset of the record's key, and with `Memory`; some are then added.
+/// Appends the numbers of the record, packed or not, if the record is of this repeated field.
+/// Fails with `Truncated` or `LongVarint`, with the offset of the record's key, and with `Memory` if an allocation fails. Some numbers may
+/// then be appended.
 #[tactic(auto, unfolding(crate::specs::Messages::if_field, crate::specs::Messages::field_fault))]
 pub fn take_numbers(
     field: u32,
@@ -58,11 +59,14 @@ pub fn take_numbers(
     wire: &WireRecord,
     payload: &[u8],
 ) -> Result<(), WireFault>
+    // With `Ok` a record of this field has no fault.
     ensures clean { let p = payload_record wire.now payload.now in OnOk result (field_fault field wire.now (numbers_fault p) ≡ None) }
+    // With `Ok` the numbers of a record of this field are appended.
     ensures numbers { let p = payload_record wire.now payload.now in OnOk result (numbers.new.items ≡ numbers.old.items ++ if_field field wire.now (numbers_in p)) }
+    // The error is the fault of the record, or `Memory`.
     ensures err { let p = payload_record wire.now payload.now in IfErr result (λ e. Stops e (field_fault field wire.now (numbers_fault p))) }
-    // What was there stands in front, also after a refusal.
-    ensures kept { take (length numbers.old.items) numbers.new.items ≡ numbers.old.items }
+    // The earlier numbers are a prefix of the new ones, also after an error.
+    ensures retained { take (length numbers.old.items) numbers.new.items ≡ numbers.old.items }
 {
     if wire.field != field {
         return Ok(());
@@ -77,23 +81,25 @@ pub fn take_numbers(
     }
 }
 
-/// Refuses as `push_packed` does, and keeps no number.
+/// Validates a packed payload, and fails as `push_packed` does. Stores no number.
 fn check_packed(payload: &[u8], at: usize) -> Result<(), WireFault>
     ensures clean { OnOk result (result_err (packed at payload.now) ≡ None) }
     ensures err { IfErr result (λ e. result_err (packed at payload.now) ≡ Some e) }
 {
     let mut rest = payload;
     while !rest.is_empty() {
-        let (_, after) = varint_at_front(at, rest)?;
+        let (_, after) = read_varint(at, rest)?;
         rest = after;
     }
     Ok(())
 }
 
-/// Refuses as `take_numbers` does where the record is of this repeated field, and keeps no number.
+/// Validates the numbers of the record if it is of this repeated field, and fails as `take_numbers` does. Allocates nothing.
 #[tactic(auto, unfolding(crate::specs::Messages::field_fault))]
 pub fn check_numbers(field: u32, wire: &WireRecord, payload: &[u8]) -> Result<(), WireFault>
+    // With `Ok` a record of this field has no fault.
     ensures clean { let p = payload_record wire.now payload.now in OnOk result (field_fault field wire.now (numbers_fault p) ≡ None) }
+    // The error is the fault of the record.
     ensures err { let p = payload_record wire.now payload.now in IfErr result (λ e. field_fault field wire.now (numbers_fault p) ≡ Some e) }
 {
     if wire.field != field {
@@ -105,7 +111,7 @@ pub fn check_numbers(field: u32, wire: &WireRecord, payload: &[u8]) -> Result<()
     }
 }
 
-/// Whether it is want of memory.
+/// Whether the fault is `Memory`.
 fn is_memory(fault: WireFault) -> bool
     ensures { result ≡ true ↔ fault ≡ Memory }
 {
@@ -120,10 +126,10 @@ fn is_memory(fault: WireFault) -> bool
     }
 }
 
-/// Adds the numbers of the record, packed or not, if it is of this repeated field: of a payload that is no row of varints none.
-/// Fails where memory is refused; some are then added.
+/// Appends the numbers of the record, as `take_numbers` does, but none of a payload that isn't a sequence of varints.
+/// Fails with `AllocError` if an allocation fails. Some numbers may then be appended.
 #[tactic(auto, unfolding(crate::specs::Messages::if_field))]
-pub(crate) fn push_given(
+pub(crate) fn push_field_numbers(
     field: u32,
     numbers: &mut Vec<i32>,
     wire: &WireRecord,
@@ -142,10 +148,11 @@ pub(crate) fn push_given(
     }
 }
 
-/// Takes the number of the record, if it is of this field.
+/// Stores the number of the record if the record is of this field: the low 32 bits of its varint.
 #[tactic(auto, unfolding(crate::specs::Messages::if_field))]
 pub fn take_number(field: u32, number: &mut i32, wire: &WireRecord)
-    ensures { number.new ≡ latest number.old (if_field field wire.now (number_given wire.now.value)) }
+    // The number is that of the record if the record is of this field and has one, and otherwise unchanged.
+    ensures { number.new ≡ latest number.old (if_field field wire.now (value_number wire.now.value)) }
 {
     if wire.field != field {
         return;
@@ -155,10 +162,12 @@ pub fn take_number(field: u32, number: &mut i32, wire: &WireRecord)
     }
 }
 
-/// Refuses as `take_text` does where the record is of this field, and copies no text.
+/// Validates the string of the record if the record is of this field, and fails as `take_text` does. Allocates nothing.
 #[tactic(auto, unfolding(crate::specs::Messages::field_fault))]
 pub fn check_text(field: u32, wire: &WireRecord, payload: &[u8]) -> Result<(), WireFault>
+    // With `Ok` a record of this field has no fault.
     ensures clean { let p = payload_record wire.now payload.now in OnOk result (field_fault field wire.now (text_fault p) ≡ None) }
+    // The error is the fault of the record.
     ensures err { let p = payload_record wire.now payload.now in IfErr result (λ e. field_fault field wire.now (text_fault p) ≡ Some e) }
 {
     if wire.field != field {
@@ -172,8 +181,9 @@ pub fn check_text(field: u32, wire: &WireRecord, payload: &[u8]) -> Result<(), W
     Ok(())
 }
 
-/// Takes the text of the record, if it is of this field.
-/// Refuses with `BadText`, with the offset of the record's key, and with `Memory`; the text is then as it was.
+/// Stores the string of the record if the record is of this field.
+/// Fails with `BadText`, with the offset of the record's key, if the payload isn't UTF-8, and with `Memory` if an allocation fails. The
+/// string is then unchanged.
 #[tactic(auto, unfolding(crate::specs::Messages::if_field, crate::specs::Messages::field_fault))]
 pub fn take_text(
     alloc: Global,
@@ -182,10 +192,14 @@ pub fn take_text(
     wire: &WireRecord,
     payload: &[u8],
 ) -> Result<(), WireFault>
+    // With `Ok` a record of this field has no fault.
     ensures clean { let p = payload_record wire.now payload.now in OnOk result (field_fault field wire.now (text_fault p) ≡ None) }
+    // With `Ok` the string is that of the record if the record is of this field and has a payload, and otherwise unchanged.
     ensures text { let p = payload_record wire.now payload.now in OnOk result (string_bytes text.new ≡ latest (string_bytes text.old) (if_field field wire.now (bytes_in p))) }
+    // The error is the fault of the record, or `Memory`.
     ensures err { let p = payload_record wire.now payload.now in IfErr result (λ e. Stops e (field_fault field wire.now (text_fault p))) }
-    ensures kept { OnErr result (string_bytes text.new ≡ string_bytes text.old) }
+    // After an error nothing is changed.
+    ensures retained { OnErr result (string_bytes text.new ≡ string_bytes text.old) }
 {
     if wire.field != field {
         return Ok(());
@@ -199,8 +213,9 @@ pub fn take_text(
     Ok(())
 }
 
-/// Adds the text of the record, if it is of this repeated field.
-/// Refuses with `BadText`, with the offset of the record's key, and with `Memory`; the texts are then as they were.
+/// Appends the string of the record if the record is of this repeated field.
+/// Fails with `BadText`, with the offset of the record's key, if the payload isn't UTF-8, and with `Memory` if an allocation fails. The
+/// list is then unchanged.
 #[tactic(auto, unfolding(crate::specs::Messages::if_field, crate::specs::Messages::field_fault))]
 pub fn take_texts(
     alloc: Global,
@@ -209,10 +224,14 @@ pub fn take_texts(
     wire: &WireRecord,
     payload: &[u8],
 ) -> Result<(), WireFault>
+    // With `Ok` a record of this field has no fault.
     ensures clean { let p = payload_record wire.now payload.now in OnOk result (field_fault field wire.now (text_fault p) ≡ None) }
+    // With `Ok` the string of a record of this field is appended.
     ensures texts { let p = payload_record wire.now payload.now in OnOk result (map string_bytes texts.new.items ≡ map string_bytes texts.old.items ++ if_field field wire.now (bytes_in p)) }
+    // The error is the fault of the record, or `Memory`.
     ensures err { let p = payload_record wire.now payload.now in IfErr result (λ e. Stops e (field_fault field wire.now (text_fault p))) }
-    ensures kept { OnErr result (texts.new.items ≡ texts.old.items) }
+    // After an error nothing is changed.
+    ensures retained { OnErr result (texts.new.items ≡ texts.old.items) }
 {
     if wire.field != field {
         return Ok(());

@@ -1,24 +1,25 @@
-//! What stands inside a message, found by walking its records: no message is made, and nothing is copied.
-//! A record that is wrong ends a walk, so these are for bytes that were checked; of any bytes they give what the records in front say.
+//! Lookups in the bytes of a message: they walk its records, build no message and copy nothing.
+//! A wrong record ends a walk, so the bytes should be validated first. For any bytes a lookup considers the records before the first wrong
+//! one.
 ghost use Rattle.std.specs.Prelude.{◌≡◌, ◌<◌, ◌≤◌, ◌+◌, ◌^◌, ◌∷◌, [], pos, FitsSigned, IfNone, IfOk, IfSome, OnOk, length};
 ghost use Rattle.std.specs.Int.{w32};
-ghost use Rattle.proto_wire.specs.Inside.{records_of, IsRecordBefore};
-ghost use Rattle.proto_wire.specs.Messages.{bytes_in, each_of, if_field, latest, number_given, number_in, numbers_in, payload_record, records_inside};
+ghost use Rattle.proto_wire.specs.MessageBytes.{records_of, IsRecordBefore};
+ghost use Rattle.proto_wire.specs.Messages.{bytes_in, each_of, if_field, latest, value_number, number_in, numbers_in, payload_record, nested_records};
 
-use crate::field::{int32, push_given};
-use crate::record::{WireRecord, WireValue, record_at_front, short_record};
+use crate::field::{int32, push_field_numbers};
+use crate::record::{WireRecord, WireValue, compact_record, read_record};
 use std::alloc::AllocError;
 
-/// The bytes of a message, and the offset of the first of them in the whole input, in bytes from 0.
+/// The bytes of a message, and the offset of the first byte in the whole input.
 #[derive(Clone, Copy)]
-pub struct Inside<'a> {
+pub struct MessageBytes<'a> {
     pub start: usize,
     pub bytes: &'a [u8],
 }
 
-/// The next record with its payload, and what follows it; none at the end, or where a record is wrong.
+/// Reads the next record and removes it from `rest`. Returns it with its payload, or `None` at the end or at a wrong record.
 #[inline(always)]
-fn next_record<'a>(rest: &mut Inside<'a>) -> Option<(WireRecord, &'a [u8])>
+fn next_record<'a>(rest: &mut MessageBytes<'a>) -> Option<(WireRecord, &'a [u8])>
     requires { rest.old.start + length rest.old.bytes.now < 2 ^ 64 }
     ensures none { IfNone result (records_of rest.old ≡ []) }
     ensures some { IfSome result (λ x. records_of rest.old ≡ payload_record x.0 x.1.now ∷ records_of rest.new) }
@@ -29,7 +30,7 @@ fn next_record<'a>(rest: &mut Inside<'a>) -> Option<(WireRecord, &'a [u8])>
     if rest.bytes.is_empty() {
         return None;
     }
-    match record_at_front(rest.start, rest.bytes) {
+    match read_record(rest.start, rest.bytes) {
         Err(_) => None,
         Ok((wire, payload, after)) => {
             rest.start += rest.bytes.len() - after.len();
@@ -39,33 +40,36 @@ fn next_record<'a>(rest: &mut Inside<'a>) -> Option<(WireRecord, &'a [u8])>
     }
 }
 
-/// The next record with its payload, and what follows it, where its key and its number or length take one byte each, as nearly all
-/// do; none else. A caller that knows what mostly stands in a message goes on by these, with no loop and no other form looked for.
+/// Reads the next record and removes it from `rest`, if its key takes one byte, and its number or length takes one byte too. Most records
+/// have this form. Returns the record with its payload, or `None` for any other record.
+/// A caller that expects certain records needs no loop over other forms.
 #[inline(always)]
-pub fn next_short<'a>(rest: &mut Inside<'a>) -> Option<(WireRecord, &'a [u8])>
+pub fn next_compact<'a>(rest: &mut MessageBytes<'a>) -> Option<(WireRecord, &'a [u8])>
+    // Offsets fit 64 bits.
     requires { rest.old.start + length rest.old.bytes.now < 2 ^ 64 }
-    // It is the first of the records, and the others with their fault are those of what follows.
+    // The result is the first record, and the rest has the other records and their fault.
     ensures first { IfSome result (λ x. IsRecordBefore rest.old rest.new (payload_record x.0 x.1.now)) }
+    // The end of the rest is unchanged.
     ensures within { rest.new.start + length rest.new.bytes.now ≡ rest.old.start + length rest.old.bytes.now }
 {
-    let (wire, payload, after) = short_record(rest.start, rest.bytes)?;
+    let (wire, payload, after) = compact_record(rest.start, rest.bytes)?;
     rest.start += rest.bytes.len() - after.len();
     rest.bytes = after;
     Some((wire, payload))
 }
 
-/// The message that a record carries, if it is of this field.
+/// The bytes of the message in a record, if the record is of this field.
 #[tactic(auto, unfolding(crate::specs::Messages::if_field))]
-fn message_of<'a>(field: u32, wire: &WireRecord, payload: &'a [u8]) -> Option<Inside<'a>>
-    ensures none { IfNone result (if_field field wire.now (records_inside (payload_record wire.now payload.now)) ≡ []) }
-    ensures some { IfSome result (λ m. if_field field wire.now (records_inside (payload_record wire.now payload.now)) ≡ records_of m ∷ []) }
+fn message_of<'a>(field: u32, wire: &WireRecord, payload: &'a [u8]) -> Option<MessageBytes<'a>>
+    ensures none { IfNone result (if_field field wire.now (nested_records (payload_record wire.now payload.now)) ≡ []) }
+    ensures some { IfSome result (λ m. if_field field wire.now (nested_records (payload_record wire.now payload.now)) ≡ records_of m ∷ []) }
     ensures here { IfSome result (λ m. m.start + length m.bytes.now ≡ wire.now.body + length payload.now) }
 {
     if wire.field != field {
         return None;
     }
     match wire.value {
-        WireValue::Bytes(_) => Some(Inside {
+        WireValue::Bytes(_) => Some(MessageBytes {
             start: wire.body,
             bytes: payload,
         }),
@@ -73,7 +77,7 @@ fn message_of<'a>(field: u32, wire: &WireRecord, payload: &'a [u8]) -> Option<In
     }
 }
 
-/// The bytes that a record carries, if it is of this field, or else those that there were.
+/// The payload of a record, if the record is of this field and has one, and otherwise `last`.
 #[tactic(auto, unfolding(crate::specs::Messages::if_field))]
 fn later_bytes<'a>(field: u32, last: &'a [u8], wire: &WireRecord, payload: &'a [u8]) -> &'a [u8]
     ensures { result.now ≡ latest last.now (if_field field wire.now (bytes_in (payload_record wire.now payload.now))) }
@@ -87,10 +91,10 @@ fn later_bytes<'a>(field: u32, last: &'a [u8], wire: &WireRecord, payload: &'a [
     }
 }
 
-/// The number that a record carries, if it is of this field, or else the one that there was.
+/// The number of a record, if the record is of this field and has one, and otherwise `last`.
 #[tactic(auto, unfolding(crate::specs::Messages::if_field))]
 fn later_number(field: u32, last: i32, wire: &WireRecord) -> i32
-    ensures exact { result ≡ latest last (if_field field wire.now (number_given wire.now.value)) }
+    ensures exact { result ≡ latest last (if_field field wire.now (value_number wire.now.value)) }
     ensures fits { FitsSigned w32 result }
 {
     if wire.field != field {
@@ -102,13 +106,19 @@ fn later_number(field: u32, last: i32, wire: &WireRecord) -> i32
     }
 }
 
-/// The next message of this field among the records of the rest, which goes on behind it; or none.
-pub fn next_message<'a>(field: u32, rest: &mut Inside<'a>) -> Option<Inside<'a>>
+/// Returns the next message of this field, and removes the records up to it from `rest`. `None` if there is no other.
+pub fn next_message<'a>(field: u32, rest: &mut MessageBytes<'a>) -> Option<MessageBytes<'a>>
+    // Offsets fit 64 bits.
     requires { rest.old.start + length rest.old.bytes.now < 2 ^ 64 }
-    ensures none { IfNone result (each_of field records_inside (records_of rest.old) ≡ []) }
-    ensures some { IfSome result (λ m. each_of field records_inside (records_of rest.old) ≡ records_of m ∷ each_of field records_inside (records_of rest.new)) }
+    // Without a result there is no further message of this field.
+    ensures none { IfNone result (each_of field nested_records (records_of rest.old) ≡ []) }
+    // The result is the first message of this field, and the rest has the other messages.
+    ensures some { IfSome result (λ m. each_of field nested_records (records_of rest.old) ≡ records_of m ∷ each_of field nested_records (records_of rest.new)) }
+    // With a result the rest is shorter.
     ensures shorter { IfSome result (λ _. length rest.new.bytes.now < length rest.old.bytes.now) }
+    // The end of the rest is unchanged.
     ensures within { rest.new.start + length rest.new.bytes.now ≡ rest.old.start + length rest.old.bytes.now }
+    // The result ends within the rest before the call.
     ensures inside { IfSome result (λ m. m.start + length m.bytes.now ≤ rest.old.start + length rest.old.bytes.now) }
 {
     while let Some((wire, payload)) = next_record(rest) {
@@ -119,21 +129,30 @@ pub fn next_message<'a>(field: u32, rest: &mut Inside<'a>) -> Option<Inside<'a>>
     None
 }
 
-/// The next message of this field, as `next_message` tells it, and the bytes of the last text or message of another field on the
-/// way to it, or else those that there were: at the end, of the whole rest. One walk for both.
-pub fn next_message_and_bytes<'a>(
+/// Returns the next message of this field, as `next_message` does, and the last payload of another field in the records that are removed,
+/// or `before` if there is none.
+/// One pass replaces two. At the end the payload is the last one of the whole rest.
+pub fn next_message_with_bytes<'a>(
     field: u32,
     bytes_field: u32,
     before: &'a [u8],
-    rest: &mut Inside<'a>,
-) -> (Option<Inside<'a>>, &'a [u8])
+    rest: &mut MessageBytes<'a>,
+) -> (Option<MessageBytes<'a>>, &'a [u8])
+    // Offsets fit 64 bits.
     requires { rest.old.start + length rest.old.bytes.now < 2 ^ 64 }
-    ensures none { IfNone result.0 (each_of field records_inside (records_of rest.old) ≡ []) }
-    ensures some { IfSome result.0 (λ m. each_of field records_inside (records_of rest.old) ≡ records_of m ∷ each_of field records_inside (records_of rest.new)) }
+    // Without a result there is no further message of this field.
+    ensures none { IfNone result.0 (each_of field nested_records (records_of rest.old) ≡ []) }
+    // The result is the first message of this field, and the rest has the other messages.
+    ensures some { IfSome result.0 (λ m. each_of field nested_records (records_of rest.old) ≡ records_of m ∷ each_of field nested_records (records_of rest.new)) }
+    // Without a message the payload is the last one of all removed records, or `before`.
     ensures whole { IfNone result.0 (latest before.now (each_of bytes_field bytes_in (records_of rest.old)) ≡ result.1.now) }
+    // With a message the payload is the last one of the removed records, or `before`.
     ensures so_far { IfSome result.0 (λ _. latest before.now (each_of bytes_field bytes_in (records_of rest.old)) ≡ latest result.1.now (each_of bytes_field bytes_in (records_of rest.new))) }
+    // With a result the rest is shorter.
     ensures shorter { IfSome result.0 (λ _. length rest.new.bytes.now < length rest.old.bytes.now) }
+    // The end of the rest is unchanged.
     ensures within { rest.new.start + length rest.new.bytes.now ≡ rest.old.start + length rest.old.bytes.now }
+    // The result ends within the rest before the call.
     ensures inside { IfSome result.0 (λ m. m.start + length m.bytes.now ≤ rest.old.start + length rest.old.bytes.now) }
 {
     let mut last = before;
@@ -146,9 +165,11 @@ pub fn next_message_and_bytes<'a>(
     (None, last)
 }
 
-/// The bytes of the last text or message of this field, or none of them.
-pub fn last_bytes<'a>(field: u32, message: Inside<'a>) -> &'a [u8]
+/// The last payload of this field; empty if there is none.
+pub fn last_bytes<'a>(field: u32, message: MessageBytes<'a>) -> &'a [u8]
+    // Offsets fit 64 bits.
     requires { message.start + length message.bytes.now < 2 ^ 64 }
+    // The result is the last payload of the field, or is empty.
     ensures { result.now ≡ latest [] (each_of field bytes_in (records_of message.entry)) }
 {
     let mut rest = message;
@@ -159,9 +180,11 @@ pub fn last_bytes<'a>(field: u32, message: Inside<'a>) -> &'a [u8]
     last
 }
 
-/// The last number of this field, or 0.
-pub fn last_number(field: u32, message: Inside<'_>) -> i32
+/// The last number of this field; 0 if there is none.
+pub fn last_number(field: u32, message: MessageBytes<'_>) -> i32
+    // Offsets fit 64 bits.
     requires { message.start + length message.bytes.now < 2 ^ 64 }
+    // The result is the last number of the field, or 0.
     ensures { result ≡ latest (pos 0) (each_of field number_in (records_of message.entry)) }
 {
     let mut rest = message;
@@ -172,14 +195,17 @@ pub fn last_number(field: u32, message: Inside<'_>) -> i32
     last
 }
 
-/// The bytes of the last text or message of one field, or none of them, and the last number of another, or 0: one walk for both.
+/// The last payload of one field, or empty bytes, and the last number of another field, or 0, in one pass.
 pub fn last_bytes_and_number<'a>(
     text_field: u32,
     number_field: u32,
-    message: Inside<'a>,
+    message: MessageBytes<'a>,
 ) -> (&'a [u8], i32)
+    // Offsets fit 64 bits.
     requires { message.start + length message.bytes.now < 2 ^ 64 }
+    // The first result is the last payload of its field, or is empty.
     ensures text { result.0.now ≡ latest [] (each_of text_field bytes_in (records_of message.entry)) }
+    // The second result is the last number of its field, or 0.
     ensures number { result.1 ≡ latest (pos 0) (each_of number_field number_in (records_of message.entry)) }
 {
     let mut rest = message;
@@ -192,34 +218,40 @@ pub fn last_bytes_and_number<'a>(
     (text, number)
 }
 
-/// Puts the numbers of this repeated field, packed or not, in the place of those that are there: of a payload that is no row of
-/// varints none. Fails where memory is refused; some are then there.
-pub fn numbers_inside(
+/// Replaces the content of `numbers` by the numbers of this repeated field, packed or not. A payload that isn't a sequence of varints has
+/// none.
+/// Fails with `AllocError` if an allocation fails. Some numbers may then be in the list.
+pub fn field_numbers(
     field: u32,
-    message: Inside<'_>,
+    message: MessageBytes<'_>,
     numbers: &mut Vec<i32>,
 ) -> Result<(), AllocError>
+    // Offsets fit 64 bits.
     requires { message.start + length message.bytes.now < 2 ^ 64 }
+    // With `Ok` the list has exactly the numbers of the field, in order.
     ensures { OnOk result (numbers.new.items ≡ each_of field numbers_in (records_of message.entry)) }
 {
     let mut rest = message;
     numbers.clear();
     while let Some((wire, payload)) = next_record(&mut rest) {
-        push_given(field, numbers, &wire, payload)?;
+        push_field_numbers(field, numbers, &wire, payload)?;
     }
     Ok(())
 }
 
-/// The bytes of the last text or message of one field, or none of them; the numbers of another are put as by `numbers_inside`, in
-/// the same walk.
+/// The last payload of one field, or empty bytes. Replaces the content of `numbers` by the numbers of another field, as `field_numbers`
+/// does, in one pass.
 pub fn last_bytes_and_numbers<'a>(
     text_field: u32,
     numbers_field: u32,
-    message: Inside<'a>,
+    message: MessageBytes<'a>,
     numbers: &mut Vec<i32>,
 ) -> Result<&'a [u8], AllocError>
+    // Offsets fit 64 bits.
     requires { message.start + length message.bytes.now < 2 ^ 64 }
+    // The first result is the last payload of its field, or is empty.
     ensures text { IfOk result (λ text. text.now ≡ latest [] (each_of text_field bytes_in (records_of message.entry))) }
+    // With `Ok` the list has exactly the numbers of the field, in order.
     ensures numbers { OnOk result (numbers.new.items ≡ each_of numbers_field numbers_in (records_of message.entry)) }
 {
     let mut rest = message;
@@ -227,7 +259,7 @@ pub fn last_bytes_and_numbers<'a>(
     numbers.clear();
     while let Some((wire, payload)) = next_record(&mut rest) {
         text = later_bytes(text_field, text, &wire, payload);
-        push_given(numbers_field, numbers, &wire, payload)?;
+        push_field_numbers(numbers_field, numbers, &wire, payload)?;
     }
     Ok(text)
 }

@@ -1,6 +1,8 @@
-//! The wire format of Protocol Buffers: its records, read and written, and messages that are taken in record by record.
-//! Stands on the `Sink` of `byte_sink`, with `thiserror` for its faults.
-//! Its contract: bytes are read as the records in a row that they are, or their first fault is told; a record is put whole, or a front of it; what was written is read again.
+//! The wire format of Protocol Buffers (Protocol Buffers encoding): reads and writes records, and decodes messages record by record.
+//! Depends on `byte_sink` for the output of `Writer` and on `thiserror` for errors.
+//! The main calls are `records`, `read_message` and the methods of `Writer`. `records` returns exactly the records that the bytes are, or
+//! the first fault.
+//! `Writer` writes a whole record, or a prefix of it if the sink fails. Records that are written can be read back.
 #![tactic(auto)]
 
 mod encoding;
@@ -20,14 +22,15 @@ pub use field::{
     check_numbers, check_text, packed_values, take_number, take_numbers, take_text, take_texts,
 };
 pub use inside::{
-    Inside, last_bytes, last_bytes_and_number, last_bytes_and_numbers, last_number, next_message,
-    next_message_and_bytes, next_short, numbers_inside,
+    MessageBytes, field_numbers, last_bytes, last_bytes_and_number, last_bytes_and_numbers,
+    last_number, next_compact, next_message, next_message_with_bytes,
 };
 pub use message::{Message, check_message, merge_message, read_message, take_messages};
-pub use record::{WireRecord, WireValue, record_at_front, records};
+pub use record::{WireRecord, WireValue, read_record, records};
 pub use scratch::Scratch;
 pub use varint::push_varint;
 pub use writer::Writer;
 pub use writing::{
-    Written, push_message, put_message, put_messages, put_number, put_packed, put_text, put_texts,
+    Written, push_message, write_message, write_messages, write_number, write_packed, write_text,
+    write_texts,
 };

@@ -1,29 +1,29 @@
-//! Messages, read record by record.
+//! The decoding of messages, record by record.
 ghost use Rattle.std.specs.Prelude.{◌≡◌, ◌<◌, ◌+◌, ◌^◌, ◌++◌, ◌∷◌, [], List, Option, None, length, OnOk, OnErr, IfOk, IfErr};
 ghost use Rattle.proto_wire.specs.declared.fault.WireFault.{WireFault};
 ghost use Rattle.proto_wire.specs.Faults.{Stops};
 ghost use Rattle.proto_wire.specs.Records.{PayloadRecord};
 ghost use Rattle.proto_wire.specs.Readings.{payload_records};
-ghost use Rattle.proto_wire.specs.Messages.{AddsMessages, IsMerged, if_field, field_fault, fault_of, message_fault, records_inside, payload_record};
+ghost use Rattle.proto_wire.specs.Messages.{AddsMessages, IsMerged, if_field, field_fault, fault_of, message_fault, nested_records, payload_record};
 
 use crate::fault::WireFault;
-use crate::record::{WireRecord, WireValue, record_at_front};
+use crate::record::{WireRecord, WireValue, read_record};
 use std::alloc::Global;
 
-/// A message that takes in one record after the other; the records of bytes that are merged into it follow those that it has.
+/// A message that is decoded one record at a time. The records of bytes that are merged into it follow those that it already has.
 pub trait Message {
-    /// The message is what these records say.
+    /// The message is the one that these records encode.
     ghost means: { Self → List PayloadRecord → Type 0 };
 
     /// The first fault inside a record.
     ghost fault_in: { PayloadRecord → Option WireFault };
 
-    /// A message of no records.
+    /// The message of an empty list of records.
     fn blank(alloc: Global) -> Self
         ensures { means result [] };
 
-    /// Takes in a record with its payload. Refuses with the first fault inside it, and with `Memory`; the message is then of
-    /// no use.
+    /// Decodes a record and its payload into the message. Fails with the first fault inside the record, and with `Memory` if an allocation
+    /// fails. The message is then unspecified.
     fn take(&mut self, alloc: Global, wire: &WireRecord, payload: &[u8]) -> Result<(), WireFault>
         requires { wire.now.body + length payload.now < 2 ^ 64 }
         ensures clean { OnOk result (fault_in (payload_record wire.now payload.now) ≡ None) }
@@ -31,8 +31,9 @@ pub trait Message {
         ensures err { IfErr result (λ e. Stops e (fault_in (payload_record wire.now payload.now))) };
 }
 
-/// Takes in all records of the bytes, the first of which has this offset in the whole input. Refuses with the first fault of
-/// the bytes, an outer record's before those of the records inside it, and with `Memory`; the message is then of no use.
+/// Decodes all records of the bytes, which begin at offset `start` of the whole input, into the message.
+/// Fails with the first fault of the bytes and with `Memory`. A record's own fault comes before the faults inside the record. The message
+/// is unspecified after an error.
 fn read_into<M: Message>(
     alloc: Global,
     message: &mut M,
@@ -47,7 +48,7 @@ fn read_into<M: Message>(
     let mut at = start;
     let mut rest = bytes;
     while !rest.is_empty() {
-        let (wire, payload, after) = record_at_front(at, rest)?;
+        let (wire, payload, after) = read_record(at, rest)?;
         message.take(alloc, &wire, payload)?;
         at += rest.len() - after.len();
         rest = after;
@@ -55,16 +56,20 @@ fn read_into<M: Message>(
     Ok(())
 }
 
-/// The message that the bytes mean, the first of which has this offset in the whole input. Refuses with the first fault of the
-/// bytes, and with `Memory`.
+/// Decodes the message that the bytes encode, which begin at offset `start` of the whole input. Fails with the first fault of the bytes,
+/// and with `Memory` if an allocation fails.
 pub fn read_message<M: Message + Drop>(
     alloc: Global,
     start: usize,
     bytes: &[u8],
 ) -> Result<M, WireFault>
+    // Offsets fit 64 bits.
     requires { start + length bytes.now < 2 ^ 64 }
+    // With `Ok` there is no fault.
     ensures clean { OnOk result (fault_of M.fault_in start bytes.now ≡ None) }
+    // With `Ok` the result is what the records encode.
     ensures means { IfOk result (λ m. M.means m (payload_records start bytes.now).0) }
+    // The error is the first fault, or `Memory`.
     ensures err { IfErr result (λ e. Stops e (fault_of M.fault_in start bytes.now)) }
 {
     let mut message = M::blank(alloc);
@@ -72,8 +77,8 @@ pub fn read_message<M: Message + Drop>(
     Ok(message)
 }
 
-/// Adds the message that the record carries, if it is of this repeated field. A record of another field or wire type adds none.
-/// Refuses with the first fault of the message, and with `Memory`; the messages are then as they were.
+/// Appends the message in the record, if the record is of this repeated field. A record of another field or wire type has none.
+/// Fails with the first fault of the message, and with `Memory` if an allocation fails. The list is then unchanged.
 #[tactic(auto, unfolding(crate::specs::Messages::if_field, crate::specs::Messages::field_fault))]
 pub fn take_messages<M: Message + Drop>(
     alloc: Global,
@@ -82,11 +87,16 @@ pub fn take_messages<M: Message + Drop>(
     wire: &WireRecord,
     payload: &[u8],
 ) -> Result<(), WireFault>
+    // Offsets fit 64 bits.
     requires { wire.now.body + length payload.now < 2 ^ 64 }
+    // With `Ok` there is no fault.
     ensures clean { let p = payload_record wire.now payload.now in OnOk result (field_fault field wire.now (message_fault M.fault_in p) ≡ None) }
-    ensures means { let p = payload_record wire.now payload.now in OnOk result (AddsMessages M.means (if_field field wire.now (records_inside p)) messages.old.items messages.new.items) }
+    // With `Ok` the result is what the records encode.
+    ensures means { let p = payload_record wire.now payload.now in OnOk result (AddsMessages M.means (if_field field wire.now (nested_records p)) messages.old.items messages.new.items) }
+    // The error is the first fault, or `Memory`.
     ensures err { let p = payload_record wire.now payload.now in IfErr result (λ e. Stops e (field_fault field wire.now (message_fault M.fault_in p))) }
-    ensures kept { OnErr result (messages.new.items ≡ messages.old.items) }
+    // After an error the list is unchanged.
+    ensures retained { OnErr result (messages.new.items ≡ messages.old.items) }
 {
     if wire.field != field {
         return Ok(());
@@ -98,7 +108,7 @@ pub fn take_messages<M: Message + Drop>(
     Ok(())
 }
 
-/// Refuses as `take_messages` does where the record is of this field, and keeps no message.
+/// Validates the message in the record if the record is of this field, and fails as `take_messages` does. Stores no message.
 #[tactic(auto, unfolding(crate::specs::Messages::field_fault))]
 pub fn check_message<M: Message + Drop>(
     alloc: Global,
@@ -106,8 +116,11 @@ pub fn check_message<M: Message + Drop>(
     wire: &WireRecord,
     payload: &[u8],
 ) -> Result<(), WireFault>
+    // Offsets fit 64 bits.
     requires { wire.now.body + length payload.now < 2 ^ 64 }
+    // With `Ok` there is no fault.
     ensures clean { let p = payload_record wire.now payload.now in OnOk result (field_fault field wire.now (message_fault M.fault_in p) ≡ None) }
+    // The error is the first fault, or `Memory`.
     ensures err { let p = payload_record wire.now payload.now in IfErr result (λ e. Stops e (field_fault field wire.now (message_fault M.fault_in p))) }
 {
     if wire.field != field {
@@ -119,9 +132,9 @@ pub fn check_message<M: Message + Drop>(
     Ok(())
 }
 
-/// Merges the message that the record carries, if it is of this singular field, into the one that there was. A record of
-/// another field or wire type changes nothing. Refuses with the first fault of the message, and with `Memory`; there is then
-/// no message.
+/// Merges the message in the record into the present one, if the record is of this singular field. A record of another field or wire type
+/// changes nothing.
+/// Fails with the first fault of the message, and with `Memory` if an allocation fails. The message is then `None`.
 #[tactic(auto, unfolding(crate::specs::Messages::if_field, crate::specs::Messages::field_fault))]
 pub fn merge_message<M: Message + Drop>(
     alloc: Global,
@@ -130,9 +143,13 @@ pub fn merge_message<M: Message + Drop>(
     wire: &WireRecord,
     payload: &[u8],
 ) -> Result<(), WireFault>
+    // Offsets fit 64 bits.
     requires { wire.now.body + length payload.now < 2 ^ 64 }
+    // With `Ok` there is no fault.
     ensures clean { let p = payload_record wire.now payload.now in OnOk result (field_fault field wire.now (message_fault M.fault_in p) ≡ None) }
-    ensures means { let p = payload_record wire.now payload.now in OnOk result ((front : List (List PayloadRecord)) → IsMerged M.means message.old front → IsMerged M.means message.new (front ++ if_field field wire.now (records_inside p))) }
+    // With `Ok` the result is what the records encode.
+    ensures means { let p = payload_record wire.now payload.now in OnOk result ((front : List (List PayloadRecord)) → IsMerged M.means message.old front → IsMerged M.means message.new (front ++ if_field field wire.now (nested_records p))) }
+    // The error is the first fault, or `Memory`.
     ensures err { let p = payload_record wire.now payload.now in IfErr result (λ e. Stops e (field_fault field wire.now (message_fault M.fault_in p))) }
 {
     if wire.field != field {

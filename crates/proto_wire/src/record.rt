@@ -1,46 +1,45 @@
-//! Wire records: a key and a value.
+//! The reader of wire records (Protocol Buffers encoding, "Message Structure"). A record is a key and a value.
 ghost use Rattle.std.specs.Prelude.{◌≡◌, ◌<◌, ◌≤◌, ◌+◌, ◌-◌, ◌^◌, List, Result, length, IfOk, IfSome, Ok};
 ghost use Rattle.proto_wire.specs.declared.record.WireRecord.{WireRecord};
 ghost use Rattle.proto_wire.specs.declared.fault.WireFault.{WireFault};
-ghost use Rattle.proto_wire.specs.Faults.{Gives, Shows, Tells};
+ghost use Rattle.proto_wire.specs.Faults.{Gives, Shows, HasOutcome};
 ghost use Rattle.proto_wire.specs.Records.{IsFirst, IsOutcome};
 ghost use Rattle.proto_wire.specs.Readings.{payload_record_view, fixed_in, payload_in, record_in, value_in};
 
 use crate::fault::WireFault;
-use crate::varint::varint_at_front;
+use crate::varint::read_varint;
 use std::alloc::Global;
 
-/// The greatest field number.
+/// The maximum field number, 2^29 - 1.
 const MAX_FIELD: u64 = 536_870_911;
 
-/// The value of a record, by its wire type.
+/// The value of a record, by its wire type. The bytes of a value other than a varint aren't stored here.
 #[derive(Clone, Copy)]
 pub enum WireValue {
-    /// Type 0: a varint, without the bits beyond 64.
+    /// Type 0: a varint, modulo 2^64.
     Varint(u64),
     /// Type 1: eight bytes.
     Eight,
-    /// Type 2: a payload of so many bytes.
+    /// Type 2: a payload, by its number of bytes.
     Bytes(usize),
     /// Type 5: four bytes.
     Four,
 }
 
-/// A record: its field number, its value, and the offsets of its key and of its payload (where it has none, of its value) in
-/// the whole input, in bytes from 0.
+/// A record of a message. Offsets are in bytes from the start of the whole input.
 #[derive(Clone, Copy)]
 pub struct WireRecord {
     /// The field number, from 1 to 536,870,911.
     pub field: u32,
-    /// The value.
+    /// The value, without its bytes.
     pub value: WireValue,
     /// The offset of the key.
     pub at: usize,
-    /// The offset of the payload.
+    /// The offset of the payload, or of the value if the wire type has no length.
     pub body: usize,
 }
 
-/// What a key says: its field number, its offset, and the offset behind it.
+/// A decoded key: its field number, its offset, and the offset of the byte after it.
 #[derive(Clone, Copy)]
 struct Key {
     field: u32,
@@ -61,8 +60,8 @@ impl Key {
     }
 }
 
-/// So many bytes without a length of their own, and what follows them.
-fn fixed_at_front(
+/// Reads a value of `count` bytes that has no length prefix. Returns its record with the remaining bytes.
+fn read_fixed(
     key: Key,
     value: WireValue,
     count: usize,
@@ -78,14 +77,14 @@ fn fixed_at_front(
     Ok((key.record(value), &[], &bytes[count..]))
 }
 
-/// A length and so many bytes, and what follows them.
-fn payload_at_front(key: Key, bytes: &[u8]) -> Result<(WireRecord, &[u8], &[u8]), WireFault>
+/// Reads a length and a payload of that many bytes. Returns the record with its payload and the remaining bytes.
+fn read_payload(key: Key, bytes: &[u8]) -> Result<(WireRecord, &[u8], &[u8]), WireFault>
     requires { key.body + length bytes.now < 2 ^ 64 }
     ensures value { Gives payload_record_view result (payload_in key.field key.at key.body bytes.now) }
     ensures shorter { IfOk result (λ x. length x.2.now ≤ length bytes.now) }
     ensures inside { IfOk result (λ x. x.0.body + length x.1.now ≤ key.body + length bytes.now) }
 {
-    let (count, rest) = varint_at_front(key.at, bytes)?;
+    let (count, rest) = read_varint(key.at, bytes)?;
     let count = count as usize;
     if rest.len() < count {
         return Err(WireFault::Truncated { at: key.at });
@@ -99,13 +98,9 @@ fn payload_at_front(key: Key, bytes: &[u8]) -> Result<(WireRecord, &[u8], &[u8])
     ))
 }
 
-/// The value at the front, its bytes where it has a length, and what follows.
+/// Reads a value of the wire type `kind`. Returns the record with its payload and the remaining bytes.
 #[tactic(auto, unfolding(crate::specs::Readings::value_in))]
-fn value_at_front(
-    key: Key,
-    kind: u64,
-    bytes: &[u8],
-) -> Result<(WireRecord, &[u8], &[u8]), WireFault>
+fn read_value(key: Key, kind: u64, bytes: &[u8]) -> Result<(WireRecord, &[u8], &[u8]), WireFault>
     requires { key.body + length bytes.now < 2 ^ 64 }
     ensures value { Gives payload_record_view result (value_in kind key.field key.at key.body bytes.now) }
     ensures shorter { IfOk result (λ x. length x.2.now ≤ length bytes.now) }
@@ -113,17 +108,17 @@ fn value_at_front(
 {
     match kind {
         0 => {
-            let (number, rest) = varint_at_front(key.at, bytes)?;
+            let (number, rest) = read_varint(key.at, bytes)?;
             Ok((key.record(WireValue::Varint(number)), &[], rest))
         }
-        1 => fixed_at_front(key, WireValue::Eight, 8, bytes),
-        2 => payload_at_front(key, bytes),
-        5 => fixed_at_front(key, WireValue::Four, 4, bytes),
+        1 => read_fixed(key, WireValue::Eight, 8, bytes),
+        2 => read_payload(key, bytes),
+        5 => read_fixed(key, WireValue::Four, 4, bytes),
         _ => Err(WireFault::Group { at: key.at }),
     }
 }
 
-/// The record at the front, its bytes where it has a length, and what follows.
+/// Reads the first record. Returns it with its payload and the remaining bytes.
 #[tactic(auto, unfolding(crate::specs::Readings::record_in))]
 fn first_record(at: usize, bytes: &[u8]) -> Result<(WireRecord, &[u8], &[u8]), WireFault>
     requires { at + length bytes.now < 2 ^ 64 }
@@ -131,20 +126,20 @@ fn first_record(at: usize, bytes: &[u8]) -> Result<(WireRecord, &[u8], &[u8]), W
     ensures shorter { IfOk result (λ x. length x.2.now < length bytes.now) }
     ensures inside { IfOk result (λ x. x.0.body + length x.1.now ≤ at + length bytes.now) }
 {
-    let (key, rest) = varint_at_front(at, bytes)?;
+    let (key, rest) = read_varint(at, bytes)?;
     let field = key / 8;
     if field == 0 || field > MAX_FIELD {
         return Err(WireFault::ZeroField { at });
     }
     let body = at + (bytes.len() - rest.len());
     let field = field as u32;
-    value_at_front(Key { field, at, body }, key % 8, rest)
+    read_value(Key { field, at, body }, key % 8, rest)
 }
 
-/// The record at the front, where its key is one byte and a number or a length of one byte follows, as nearly all are: none of the
-/// varints is walked.
+/// Reads the first record if its key takes one byte, and its number or length takes one byte too. Most records have this form. No loop over
+/// the bytes of a varint is needed.
 #[inline(always)]
-pub(crate) fn short_record(at: usize, bytes: &[u8]) -> Option<(WireRecord, &[u8], &[u8])>
+pub(crate) fn compact_record(at: usize, bytes: &[u8]) -> Option<(WireRecord, &[u8], &[u8])>
     requires { at + length bytes.now < 2 ^ 64 }
     ensures exact { IfSome result (λ x. IsFirst at bytes.now (Ok (payload_record_view x))) }
     ensures shorter { IfSome result (λ x. length x.2.now < length bytes.now) }
@@ -191,7 +186,7 @@ pub(crate) fn short_record(at: usize, bytes: &[u8]) -> Option<(WireRecord, &[u8]
     }
 }
 
-/// The record at the front, where its key is one byte and bytes without a length follow.
+/// Reads the first record if its key takes one byte and its value has eight or four bytes without a length prefix.
 fn fixed_record(at: usize, bytes: &[u8]) -> Option<(WireRecord, &[u8], &[u8])>
     requires { at + length bytes.now < 2 ^ 64 }
     ensures exact { IfSome result (λ x. IsFirst at bytes.now (Ok (payload_record_view x))) }
@@ -220,10 +215,9 @@ fn fixed_record(at: usize, bytes: &[u8]) -> Option<(WireRecord, &[u8], &[u8])>
     }
 }
 
-/// The record at the front, its bytes where it has a length, and what follows: no call is laid out for one of another form than the
-/// short one.
+/// Reads the first record, of any form. It isn't inlined, so that the fast path of `read_record` stays small in its callers.
 #[inline(never)]
-fn long_record(at: usize, bytes: &[u8]) -> Result<(WireRecord, &[u8], &[u8]), WireFault>
+fn general_record(at: usize, bytes: &[u8]) -> Result<(WireRecord, &[u8], &[u8]), WireFault>
     requires { at + length bytes.now < 2 ^ 64 }
     ensures exact { Shows payload_record_view result (IsFirst at bytes.now) }
     ensures shorter { IfOk result (λ x. length x.2.now < length bytes.now) }
@@ -235,38 +229,40 @@ fn long_record(at: usize, bytes: &[u8]) -> Result<(WireRecord, &[u8], &[u8]), Wi
     }
 }
 
-/// The record at the front of the bytes, the first of which has this offset in the whole input; its payload, which is empty
-/// where its wire type has no length; and the bytes behind it.
-/// Refuses with `Truncated`, `LongVarint`, `ZeroField` and `Group`, with that offset: what comes first in the record is told.
-/// Protocol Buffers encoding, "Message Structure".
+/// Reads the first record of the bytes, which begin at offset `at` of the whole input (Protocol Buffers encoding, "Message Structure").
+/// Returns the record, its payload, which is empty if the wire type has no length, and the remaining bytes.
+/// Fails with the first fault of the record: `Truncated`, `LongVarint`, `ZeroField` or `Group`, with the offset `at`.
 #[inline(always)]
-pub fn record_at_front(at: usize, bytes: &[u8]) -> Result<(WireRecord, &[u8], &[u8]), WireFault>
+pub fn read_record(at: usize, bytes: &[u8]) -> Result<(WireRecord, &[u8], &[u8]), WireFault>
+    // Offsets fit 64 bits.
     requires { at + length bytes.now < 2 ^ 64 }
-    // It is the record that stands in front, with what follows it, or the fault of the one that is wrong.
+    // The result is the first record with its payload and the remaining bytes, or the record's fault.
     ensures exact { Shows payload_record_view result (IsFirst at bytes.now) }
+    // The record has at least one byte.
     ensures shorter { IfOk result (λ x. length x.2.now < length bytes.now) }
+    // The payload ends within the bytes.
     ensures inside { IfOk result (λ x. x.0.body + length x.1.now ≤ at + length bytes.now) }
 {
-    match short_record(at, bytes) {
+    match compact_record(at, bytes) {
         Some(found) => Ok(found),
-        None => long_record(at, bytes),
+        None => general_record(at, bytes),
     }
 }
 
-/// The records of the bytes, in a row. Refuses with the fault of the first record that is wrong, and the offset of its key:
-/// `Truncated`, `LongVarint`, `ZeroField` or `Group`; and with `Memory` where a growth was refused.
-/// Protocol Buffers encoding, "Message Structure".
+/// Reads all records of the bytes (Protocol Buffers encoding, "Message Structure").
+/// Fails with the fault of the first wrong record, with the offset of its key: `Truncated`, `LongVarint`, `ZeroField` or `Group`. Fails
+/// with `Memory` if an allocation fails.
 pub fn records(alloc: Global, bytes: &[u8]) -> Result<Vec<WireRecord>, WireFault>
-    // They are the records of the bytes, or it is the fault of the first one that is wrong.
-    ensures exact { Tells (λ v. v.items) result (IsOutcome bytes.now) }
-    // The records of the bytes, or their fault, are answered unless memory runs out.
-    ensures only { (o : Result (List WireRecord) WireFault) → IsOutcome bytes.now o → Tells (λ v. v.items) result (λ p. p ≡ o) }
+    // The result is the list of records that the bytes are, or the fault of the first wrong record, or `Memory`.
+    ensures exact { HasOutcome (λ v. v.items) result (IsOutcome bytes.now) }
+    // Each outcome of the bytes, a list of records or a first fault, is the result, unless the result is `Memory`.
+    ensures only { (o : Result (List WireRecord) WireFault) → IsOutcome bytes.now o → HasOutcome (λ v. v.items) result (λ p. p ≡ o) }
 {
     let mut found = Vec::new(alloc);
     let mut at = 0;
     let mut rest = bytes;
     while !rest.is_empty() {
-        let (record, _, after) = record_at_front(at, rest)?;
+        let (record, _, after) = read_record(at, rest)?;
         found.push(record)?;
         at += rest.len() - after.len();
         rest = after;

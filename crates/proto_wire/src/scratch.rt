@@ -1,10 +1,10 @@
-//! Buffers that are used again.
+//! Buffers that are reused.
 ghost use Rattle.std.specs.Prelude.{◌≡◌, []};
 
 use std::alloc::{AllocError, Global};
 
-/// Buffers for the payloads that are being written, one for each level of nesting. What each has grown to is kept, so that a
-/// payload takes no memory once the buffers are as large as the largest.
+/// Buffers for the payloads of nested messages, one for each level. They keep their capacity, so no payload allocates once they are as
+/// large as the largest one.
 #[derive(Drop)]
 pub struct Scratch {
     alloc: Global,
@@ -12,7 +12,7 @@ pub struct Scratch {
 }
 
 impl Scratch {
-    /// No buffers as yet.
+    /// No buffers. Allocates nothing.
     pub fn new(alloc: Global) -> Self {
         Scratch {
             alloc,
@@ -20,7 +20,7 @@ impl Scratch {
         }
     }
 
-    /// An empty buffer: one that was given back, or a new one.
+    /// An empty buffer: a returned one, or a new one.
     pub(crate) fn take(&mut self) -> Vec<u8>
         ensures { result.items ≡ [] }
     {
@@ -33,7 +33,7 @@ impl Scratch {
         }
     }
 
-    /// Keeps a buffer for the next payload. Where memory is refused, the buffer is dropped.
+    /// Returns a buffer for the next payload. If an allocation fails, the buffer is dropped.
     pub(crate) fn give_back(&mut self, buffer: Vec<u8>) -> Result<(), AllocError> {
         self.buffers.push(buffer)?;
         Ok(())

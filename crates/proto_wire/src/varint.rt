@@ -1,4 +1,4 @@
-//! Varints: groups of seven bits, least first.
+//! Varints (Protocol Buffers encoding, "Base 128 Varints"): groups of seven bits, least significant first.
 ghost use Rattle.std.specs.Prelude.{◌≡◌, ◌<◌, ◌%◌, ◌++◌, ℕ, IfOk, IfSome, Ok, OnOk, length};
 ghost use Rattle.proto_wire.specs.Faults.{Gives};
 ghost use Rattle.proto_wire.specs.Varints.{varint, varint_in};
@@ -6,7 +6,7 @@ ghost use Rattle.proto_wire.specs.Varints.{varint, varint_in};
 use crate::fault::WireFault;
 use std::alloc::AllocError;
 
-/// The number at the front, of at most so many bytes, and what follows it: a call for each byte.
+/// Reads a varint of at most `most` bytes, with one recursive call for each byte. Returns its number with the remaining bytes.
 #[tactic(auto, unfolding(crate::specs::Varints::varint_in))]
 fn varint_within(most: u8, at: usize, bytes: &[u8]) -> Result<(u64, &[u8]), WireFault>
     ensures value { Gives (λ x. (x.0, x.1.now)) result (varint_in most at bytes.now) }
@@ -25,7 +25,7 @@ fn varint_within(most: u8, at: usize, bytes: &[u8]) -> Result<(u64, &[u8]), Wire
     }
 }
 
-/// What the lowest seven bits of a byte stand for.
+/// The value of the lowest seven bits of a byte.
 fn low(byte: u8) -> u64
     ensures exact { result ≡ byte % 128 }
     ensures few { result < 128 }
@@ -33,7 +33,8 @@ fn low(byte: u8) -> u64
     u64::from(byte % 128)
 }
 
-/// The number at the front and what follows it, where at most five bytes stand for it: none of them takes a call.
+/// Reads a varint of at most five bytes without a call for each byte. Returns its number with the remaining bytes; `None` for any other
+/// varint.
 #[inline(always)]
 #[tactic(auto, unfolding(crate::specs::Varints::varint_in))]
 fn first_five(bytes: &[u8]) -> Option<(u64, &[u8])>
@@ -59,7 +60,7 @@ fn first_five(bytes: &[u8]) -> Option<(u64, &[u8])>
     }
 }
 
-/// The number at the front, of at most five bytes, and what follows it.
+/// Reads a varint of at most five bytes. Returns its number with the remaining bytes.
 fn last_five(at: usize, bytes: &[u8]) -> Result<(u64, &[u8]), WireFault>
     ensures value { Gives (λ x. (x.0, x.1.now)) result (varint_in 5 at bytes.now) }
     ensures shorter { IfOk result (λ x. length x.1.now < length bytes.now) }
@@ -70,7 +71,7 @@ fn last_five(at: usize, bytes: &[u8]) -> Result<(u64, &[u8]), WireFault>
     }
 }
 
-/// The number at the front, of more than five bytes and at most ten, and what follows it: the first five are read at once.
+/// Reads a varint of six to ten bytes, the first five of them at once. Returns its number with the remaining bytes.
 fn by_fives(at: usize, bytes: &[u8]) -> Result<(u64, &[u8]), WireFault>
     ensures value { Gives (λ x. (x.0, x.1.now)) result (varint_in 10 at bytes.now) }
     ensures shorter { IfOk result (λ x. length x.1.now < length bytes.now) }
@@ -90,9 +91,9 @@ fn by_fives(at: usize, bytes: &[u8]) -> Result<(u64, &[u8]), WireFault>
     }
 }
 
-/// The number at the front, of at most ten bytes, and what follows it. A call for each byte would take three times as long.
+/// Reads a varint of at most ten bytes. Returns its number with the remaining bytes. One call for each byte would take three times as long.
 #[inline(never)]
-fn long_varint(at: usize, bytes: &[u8]) -> Result<(u64, &[u8]), WireFault>
+fn general_varint(at: usize, bytes: &[u8]) -> Result<(u64, &[u8]), WireFault>
     ensures value { Gives (λ x. (x.0, x.1.now)) result (varint_in 10 at bytes.now) }
     ensures shorter { IfOk result (λ x. length x.1.now < length bytes.now) }
 {
@@ -102,11 +103,11 @@ fn long_varint(at: usize, bytes: &[u8]) -> Result<(u64, &[u8]), WireFault>
     }
 }
 
-/// The number at the front, of at most ten bytes, and what follows it. Bits beyond 64 are dropped. The fault has this offset.
-/// A number of one byte or two, as nearly all are, is answered with no further call.
-/// Protocol Buffers encoding, "Base 128 Varints".
+/// Reads a varint of at most ten bytes (Protocol Buffers encoding, "Base 128 Varints"). Returns its number modulo 2^64 with the remaining
+/// bytes.
+/// Fails with `Truncated` or `LongVarint`, with the offset `at`. Varints of one or two bytes, the most frequent ones, need no further call.
 #[tactic(auto, unfolding(crate::specs::Varints::varint_in))]
-pub(crate) fn varint_at_front(at: usize, bytes: &[u8]) -> Result<(u64, &[u8]), WireFault>
+pub(crate) fn read_varint(at: usize, bytes: &[u8]) -> Result<(u64, &[u8]), WireFault>
     ensures value { Gives (λ x. (x.0, x.1.now)) result (varint_in 10 at bytes.now) }
     ensures shorter { IfOk result (λ x. length x.1.now < length bytes.now) }
 {
@@ -115,13 +116,14 @@ pub(crate) fn varint_at_front(at: usize, bytes: &[u8]) -> Result<(u64, &[u8]), W
         [low, high, rest @ ..] if *high < 128 => {
             Ok((u64::from(*low % 128) + 128 * u64::from(*high), rest))
         }
-        _ => long_varint(at, bytes),
+        _ => general_varint(at, bytes),
     }
 }
 
-/// Puts a number behind the bytes, in its shortest form. Fails where memory is refused; a front of it may then be there.
-/// Protocol Buffers encoding, "Base 128 Varints".
+/// Appends a number as its minimal varint (Protocol Buffers encoding, "Base 128 Varints").
+/// Fails with `AllocError` if an allocation fails; a prefix of the varint may then have been appended.
 pub fn push_varint(out: &mut Vec<u8>, number: u64) -> Result<(), AllocError>
+    // With `Ok` exactly the minimal varint of the number is appended.
     ensures { OnOk result (out.new.items ≡ out.old.items ++ varint number) }
 {
     let mut rest = number;

@@ -1,33 +1,33 @@
-//! Records, put into a sink one after the other.
+//! The writer of records to a sink.
 ghost use Rattle.std.specs.Prelude.{◌≡◌, IfNone, IfOk, IfSome, IsOkUnless};
 ghost use Rattle.std.specs.Result.{result_err};
-ghost use Rattle.byte_sink.specs.Sinks.{failures_after, failures_by, Puts};
+ghost use Rattle.byte_sink.specs.Sinks.{failures_after, failures_by, Writes};
 ghost use Rattle.proto_wire.specs.Records.{IsField};
 ghost use Rattle.proto_wire.specs.Writing.{head_of, number_field, packing, payload_field, spelled};
-ghost use Rattle.proto_wire.specs.Writers.{answer_of, is_failure, PutsRecord};
+ghost use Rattle.proto_wire.specs.Writers.{answer_of, is_failure, WritesRecord};
 
 use crate::WireFault;
 use crate::encoding::{push_head, push_number, push_packing};
-use byte_sink::{Sink, SinkFault, put_all};
+use byte_sink::{Sink, SinkFault, write_fully};
 use std::alloc::Global;
 use std::marker::Model;
 
-/// Puts a record with a varint. At a refusal a front of it is taken.
-fn put_number<S: Sink>(
+/// Writes a record with a varint. After an error the sink has taken a prefix of it.
+fn write_number<S: Sink>(
     alloc: Global,
     field: u32,
     number: u64,
     sink: &mut S,
 ) -> Result<(), SinkFault>
-    ensures puts { Puts (S.taken sink.old) (S.taken sink.new) result (spelled (number_field field number)) }
+    ensures writes { Writes (S.taken sink.old) (S.taken sink.new) result (spelled (number_field field number)) }
     ensures failures { S.failures sink.new ≡ failures_after result (S.failures sink.old) }
 {
     let mut record = Vec::new(alloc);
     push_number(&mut record, field, number).map_err(|_| SinkFault::Memory)?;
-    put_all(sink, &record)
+    write_fully(sink, &record)
 }
 
-/// What stands in front of a payload of so many bytes.
+/// The bytes that precede a payload of `count` bytes: a key and the length.
 fn head(alloc: Global, field: u32, count: usize) -> Result<Vec<u8>, SinkFault>
     ensures bytes { IfOk result (λ v. v.items ≡ head_of field count) }
     ensures memory { IsOkUnless result SinkFault.Memory }
@@ -37,41 +37,41 @@ fn head(alloc: Global, field: u32, count: usize) -> Result<Vec<u8>, SinkFault>
     Ok(head)
 }
 
-/// Puts a record with this payload. At a refusal a front of it is taken.
-fn put_payload<S: Sink>(
+/// Writes a record with this payload. After an error the sink has taken a prefix of it.
+fn write_payload<S: Sink>(
     alloc: Global,
     field: u32,
     payload: &[u8],
     sink: &mut S,
 ) -> Result<(), SinkFault>
-    ensures puts { Puts (S.taken sink.old) (S.taken sink.new) result (spelled (payload_field field payload.now)) }
+    ensures writes { Writes (S.taken sink.old) (S.taken sink.new) result (spelled (payload_field field payload.now)) }
     ensures failures { S.failures sink.new ≡ failures_after result (S.failures sink.old) }
 {
     let head = head(alloc, field, payload.len())?;
-    put_all(sink, &head)?;
-    put_all(sink, payload)
+    write_fully(sink, &head)?;
+    write_fully(sink, payload)
 }
 
-/// Puts a record with these numbers packed. At a refusal a front of it is taken.
-fn put_numbers<S: Sink>(
+/// Writes a record with these numbers, packed. After an error the sink has taken a prefix of it.
+fn write_numbers<S: Sink>(
     alloc: Global,
     field: u32,
     numbers: &[i32],
     sink: &mut S,
 ) -> Result<(), SinkFault>
-    ensures puts { Puts (S.taken sink.old) (S.taken sink.new) result (spelled (payload_field field (packing numbers.now))) }
+    ensures writes { Writes (S.taken sink.old) (S.taken sink.new) result (spelled (payload_field field (packing numbers.now))) }
     ensures failures { S.failures sink.new ≡ failures_after result (S.failures sink.old) }
 {
     let mut payload = Vec::new(alloc);
     push_packing(&mut payload, numbers).map_err(|_| SinkFault::Memory)?;
-    put_payload(alloc, field, &payload, sink)
+    write_payload(alloc, field, &payload, sink)
 }
 
-/// Puts records into a sink, each by one call. Contracts see the refusal that it has answered, if any: from then on it answers
-/// that again, and puts nothing.
+/// Writes records to a sink, one for each call. Contracts describe a writer by the error that it has returned, if any. From then on each
+/// call returns this error again and writes nothing.
 #[derive(Drop)]
 pub struct Writer {
-    refusal: Option<SinkFault>,
+    error: Option<SinkFault>,
 }
 
 impl Model for Writer {
@@ -80,44 +80,45 @@ impl Model for Writer {
 
     ghost Value = { Option SinkFault };
 
-    ghost view = { λ w. w.refusal };
+    ghost view = { λ w. w.error };
 }
 
 impl Writer {
-    /// A writer that has refused nothing.
+    /// A writer that hasn't failed. Allocates nothing.
     pub fn new() -> Self
+        // The writer has no error.
         ensures { result ≡ None }
     {
-        Writer { refusal: None }
+        Writer { error: None }
     }
 
-    /// Refuses where the writer has refused before.
-    fn goes_on(&self) -> Result<(), WireFault>
+    /// Fails with the writer's error, if the writer has failed.
+    fn ensure_ok(&self) -> Result<(), WireFault>
         ensures { result ≡ answer_of self.now }
     {
-        match self.refusal {
+        match self.error {
             None => Ok(()),
-            Some(refusal) => Err(WireFault::from(refusal)),
+            Some(error) => Err(WireFault::from(error)),
         }
     }
 
-    /// Keeps what a sink refused.
-    fn keeps(&mut self, put: Result<(), SinkFault>) -> Result<(), WireFault>
+    /// Stores the error of a write, if it has one.
+    fn store_error(&mut self, put: Result<(), SinkFault>) -> Result<(), WireFault>
         requires { self.old ≡ None }
-        ensures kept { self.new ≡ result_err put }
+        ensures retained { self.new ≡ result_err put }
         ensures answer { result ≡ answer_of (result_err put) }
     {
         match put {
             Ok(()) => Ok(()),
-            Err(refusal) => {
-                self.refusal = Some(refusal);
-                Err(WireFault::from(refusal))
+            Err(error) => {
+                self.error = Some(error);
+                Err(WireFault::from(error))
             }
         }
     }
 
-    /// Puts a record of this field, from 1 to 536,870,911, with a number as its shortest varint.
-    /// Refuses with `Device` and `Memory`; the sink has then taken a front of the record.
+    /// Writes a record of this field, from 1 to 536,870,911, with a number as its minimal varint.
+    /// Fails with `Device` if the sink fails, and with `Memory` if an allocation fails. The sink has then taken a prefix of the record.
     pub fn varint<S: Sink>(
         &mut self,
         alloc: Global,
@@ -125,23 +126,24 @@ impl Writer {
         number: u64,
         sink: &mut S,
     ) -> Result<(), WireFault>
+        // The field number is valid.
         requires { IsField field }
-        // The whole record at Ok, and a front of it at a refusal.
-        ensures puts { IfNone self.old (PutsRecord (S.taken sink.old) (S.taken sink.new) result (spelled (number_field field number))) }
-        // Device is answered where the sink counted a failure, and nowhere else.
+        // If the writer hadn't failed before: With `Ok` the sink took the whole record, otherwise a prefix of it.
+        ensures writes { IfNone self.old (WritesRecord (S.taken sink.old) (S.taken sink.new) result (spelled (number_field field number))) }
+        // If the writer hadn't failed before, the sink counts a failure if and only if the result is `Device`.
         ensures failures { IfNone self.old (S.failures sink.new ≡ failures_by is_failure result (S.failures sink.old)) }
-        // A refusal is kept, and is one of a sink.
-        ensures kept { result ≡ answer_of self.new }
-        // It is answered again from then on, and the sink is left as it was.
+        // The result is the error that the writer now has, or `Ok` if it has none.
+        ensures retained { result ≡ answer_of self.new }
+        // If the writer had failed before, the writer and the sink are unchanged.
         ensures again { IfSome self.old (λ _. (self.new ≡ self.old) × (sink.new ≡ sink.old)) }
     {
-        self.goes_on()?;
-        let put = put_number(alloc, field, number, sink);
-        self.keeps(put)
+        self.ensure_ok()?;
+        let put = write_number(alloc, field, number, sink);
+        self.store_error(put)
     }
 
-    /// Puts a record of this field, from 1 to 536,870,911, with a text, an empty one too.
-    /// Refuses with `Device` and `Memory`; the sink has then taken a front of the record.
+    /// Writes a record of this field, from 1 to 536,870,911, with a string, which may be empty.
+    /// Fails with `Device` if the sink fails, and with `Memory` if an allocation fails. The sink has then taken a prefix of the record.
     pub fn text<S: Sink>(
         &mut self,
         alloc: Global,
@@ -149,23 +151,24 @@ impl Writer {
         text: &str,
         sink: &mut S,
     ) -> Result<(), WireFault>
+        // The field number is valid.
         requires { IsField field }
-        // The whole record at Ok, and a front of it at a refusal.
-        ensures puts { IfNone self.old (PutsRecord (S.taken sink.old) (S.taken sink.new) result (spelled (payload_field field text.now))) }
-        // Device is answered where the sink counted a failure, and nowhere else.
+        // If the writer hadn't failed before: With `Ok` the sink took the whole record, otherwise a prefix of it.
+        ensures writes { IfNone self.old (WritesRecord (S.taken sink.old) (S.taken sink.new) result (spelled (payload_field field text.now))) }
+        // If the writer hadn't failed before, the sink counts a failure if and only if the result is `Device`.
         ensures failures { IfNone self.old (S.failures sink.new ≡ failures_by is_failure result (S.failures sink.old)) }
-        // A refusal is kept, and is one of a sink.
-        ensures kept { result ≡ answer_of self.new }
-        // It is answered again from then on, and the sink is left as it was.
+        // The result is the error that the writer now has, or `Ok` if it has none.
+        ensures retained { result ≡ answer_of self.new }
+        // If the writer had failed before, the writer and the sink are unchanged.
         ensures again { IfSome self.old (λ _. (self.new ≡ self.old) × (sink.new ≡ sink.old)) }
     {
-        self.goes_on()?;
-        let put = put_payload(alloc, field, text.as_bytes(), sink);
-        self.keeps(put)
+        self.ensure_ok()?;
+        let put = write_payload(alloc, field, text.as_bytes(), sink);
+        self.store_error(put)
     }
 
-    /// Puts a record of this field, from 1 to 536,870,911, with these numbers packed. A negative one takes ten bytes.
-    /// Refuses with `Device` and `Memory`; the sink has then taken a front of the record.
+    /// Writes a record of this field, from 1 to 536,870,911, with these numbers, packed. A negative one takes ten bytes.
+    /// Fails with `Device` if the sink fails, and with `Memory` if an allocation fails. The sink has then taken a prefix of the record.
     pub fn packed<S: Sink>(
         &mut self,
         alloc: Global,
@@ -173,23 +176,24 @@ impl Writer {
         numbers: &[i32],
         sink: &mut S,
     ) -> Result<(), WireFault>
+        // The field number is valid.
         requires { IsField field }
-        // The whole record at Ok, and a front of it at a refusal.
-        ensures puts { IfNone self.old (PutsRecord (S.taken sink.old) (S.taken sink.new) result (spelled (payload_field field (packing numbers.now)))) }
-        // Device is answered where the sink counted a failure, and nowhere else.
+        // If the writer hadn't failed before: With `Ok` the sink took the whole record, otherwise a prefix of it.
+        ensures writes { IfNone self.old (WritesRecord (S.taken sink.old) (S.taken sink.new) result (spelled (payload_field field (packing numbers.now)))) }
+        // If the writer hadn't failed before, the sink counts a failure if and only if the result is `Device`.
         ensures failures { IfNone self.old (S.failures sink.new ≡ failures_by is_failure result (S.failures sink.old)) }
-        // A refusal is kept, and is one of a sink.
-        ensures kept { result ≡ answer_of self.new }
-        // It is answered again from then on, and the sink is left as it was.
+        // The result is the error that the writer now has, or `Ok` if it has none.
+        ensures retained { result ≡ answer_of self.new }
+        // If the writer had failed before, the writer and the sink are unchanged.
         ensures again { IfSome self.old (λ _. (self.new ≡ self.old) × (sink.new ≡ sink.old)) }
     {
-        self.goes_on()?;
-        let put = put_numbers(alloc, field, numbers, sink);
-        self.keeps(put)
+        self.ensure_ok()?;
+        let put = write_numbers(alloc, field, numbers, sink);
+        self.store_error(put)
     }
 
-    /// Puts a record of this field, from 1 to 536,870,911, with the bytes of a message, which are put as they are given.
-    /// Refuses with `Device` and `Memory`; the sink has then taken a front of the record.
+    /// Writes a record of this field, from 1 to 536,870,911, with the bytes of a message as its payload.
+    /// Fails with `Device` if the sink fails, and with `Memory` if an allocation fails. The sink has then taken a prefix of the record.
     pub fn message<S: Sink>(
         &mut self,
         alloc: Global,
@@ -197,18 +201,19 @@ impl Writer {
         message: &[u8],
         sink: &mut S,
     ) -> Result<(), WireFault>
+        // The field number is valid.
         requires { IsField field }
-        // The whole record at Ok, and a front of it at a refusal.
-        ensures puts { IfNone self.old (PutsRecord (S.taken sink.old) (S.taken sink.new) result (spelled (payload_field field message.now))) }
-        // Device is answered where the sink counted a failure, and nowhere else.
+        // If the writer hadn't failed before: With `Ok` the sink took the whole record, otherwise a prefix of it.
+        ensures writes { IfNone self.old (WritesRecord (S.taken sink.old) (S.taken sink.new) result (spelled (payload_field field message.now))) }
+        // If the writer hadn't failed before, the sink counts a failure if and only if the result is `Device`.
         ensures failures { IfNone self.old (S.failures sink.new ≡ failures_by is_failure result (S.failures sink.old)) }
-        // A refusal is kept, and is one of a sink.
-        ensures kept { result ≡ answer_of self.new }
-        // It is answered again from then on, and the sink is left as it was.
+        // The result is the error that the writer now has, or `Ok` if it has none.
+        ensures retained { result ≡ answer_of self.new }
+        // If the writer had failed before, the writer and the sink are unchanged.
         ensures again { IfSome self.old (λ _. (self.new ≡ self.old) × (sink.new ≡ sink.old)) }
     {
-        self.goes_on()?;
-        let put = put_payload(alloc, field, message, sink);
-        self.keeps(put)
+        self.ensure_ok()?;
+        let put = write_payload(alloc, field, message, sink);
+        self.store_error(put)
     }
 }

@@ -1,5 +1,5 @@
-//! The fields of a message as records, one after the other. Zeros, empty texts and empty lists of numbers are left out.
-//! A field number is from 1 to 536,870,911.
+//! The encoding of the fields of a message as records. Zeros, empty strings and empty lists of numbers are left out. A field number is from
+//! 1 to 536,870,911.
 ghost use Rattle.std.specs.Prelude.{◌≡◌, ◌++◌, ℕ, FitsSigned, IfSome, List, map, OnOk};
 ghost use Rattle.std.specs.Int.{w32};
 ghost use Rattle.std.specs.List.{AllByRecursion};
@@ -12,12 +12,14 @@ use crate::encoding::{bits_of, push_number, push_packing, push_payload};
 use crate::scratch::Scratch;
 use std::alloc::AllocError;
 
-/// Puts a number behind the bytes as a field of this number, unless it is 0. A negative one takes ten bytes.
-/// Where memory is refused, nothing is said of the bytes.
-pub fn put_number(out: &mut Vec<u8>, field: u32, number: i32) -> Result<(), AllocError>
+/// Appends a number as a field of this number, unless it is 0. A negative one takes ten bytes.
+/// Fails with `AllocError` if an allocation fails. The bytes are then unspecified.
+pub fn write_number(out: &mut Vec<u8>, field: u32, number: i32) -> Result<(), AllocError>
+    // The field number is valid.
     requires { IsField field }
+    // With `Ok` exactly the records of the field are appended.
     ensures bytes { OnOk result (out.new.items ≡ out.old.items ++ spelled_fields (number_fields field number)) }
-    // As any such number.
+    // The number fits 32 bits, as every `i32` does.
     ensures fits { FitsSigned w32 number }
 {
     if number == 0 {
@@ -26,10 +28,12 @@ pub fn put_number(out: &mut Vec<u8>, field: u32, number: i32) -> Result<(), Allo
     push_number(out, field, bits_of(number))
 }
 
-/// Puts a text behind the bytes as a field of this number, unless it is empty.
-/// Where memory is refused, nothing is said of the bytes.
-pub fn put_text(out: &mut Vec<u8>, field: u32, text: &str) -> Result<(), AllocError>
+/// Appends a string as a field of this number, unless it is empty.
+/// Fails with `AllocError` if an allocation fails. The bytes are then unspecified.
+pub fn write_text(out: &mut Vec<u8>, field: u32, text: &str) -> Result<(), AllocError>
+    // The field number is valid.
     requires { IsField field }
+    // With `Ok` exactly the records of the field are appended.
     ensures { OnOk result (out.new.items ≡ out.old.items ++ spelled_fields (text_fields field text.now)) }
 {
     if text.is_empty() {
@@ -38,17 +42,19 @@ pub fn put_text(out: &mut Vec<u8>, field: u32, text: &str) -> Result<(), AllocEr
     push_payload(out, field, text.as_bytes())
 }
 
-/// Puts numbers behind the bytes as one packed field of this number, unless there are none.
-/// Where memory is refused, nothing is said of the bytes.
-pub fn put_packed(
+/// Appends numbers as one packed field of this number, unless there are none.
+/// Fails with `AllocError` if an allocation fails. The bytes are then unspecified.
+pub fn write_packed(
     scratch: &mut Scratch,
     out: &mut Vec<u8>,
     field: u32,
     numbers: &[i32],
 ) -> Result<(), AllocError>
+    // The field number is valid.
     requires { IsField field }
+    // With `Ok` exactly the records of the field are appended.
     ensures bytes { OnOk result (out.new.items ≡ out.old.items ++ spelled_fields (packed_fields field numbers.now)) }
-    // As any such numbers.
+    // The numbers fit 32 bits, as every `i32` does.
     ensures fits { OnOk result (AllByRecursion (FitsSigned w32) numbers.now) }
 {
     if numbers.is_empty() {
@@ -60,30 +66,34 @@ pub fn put_packed(
     scratch.give_back(packed)
 }
 
-/// A message that is written as one list of bytes.
+/// A message that can be encoded.
 pub trait Written {
-    /// The bytes of the message.
+    /// The written form of the message.
     ghost written: { Self → List ℕ };
 
-    /// The numbers of the message fit their types, as all numbers do that code holds.
+    /// The numbers of the message fit their types, which the types of the code guarantee.
     ghost fits: { Self → Type 0 };
 
-    /// Puts the bytes of the message behind others. Where memory is refused, nothing is said of the bytes.
+    /// Appends the written form of the message. Fails with `AllocError` if an allocation fails. The bytes are then unspecified.
     fn push_into(&self, scratch: &mut Scratch, out: &mut Vec<u8>) -> Result<(), AllocError>
         ensures bytes { OnOk result (out.new.items ≡ out.old.items ++ written self.now) }
         ensures fits { OnOk result (fits self.now) };
 }
 
-/// Puts a message behind the bytes as a field of this number, an empty one too. Its length is known once its bytes are.
-/// Where memory is refused, nothing is said of the bytes.
+/// Appends a message as a field of this number, even if its written form is empty. It is encoded in a scratch buffer first, as its length
+/// precedes it.
+/// Fails with `AllocError` if an allocation fails. The bytes are then unspecified.
 pub fn push_message<M: Written>(
     scratch: &mut Scratch,
     out: &mut Vec<u8>,
     field: u32,
     message: &M,
 ) -> Result<(), AllocError>
+    // The field number is valid.
     requires { IsField field }
+    // With `Ok` exactly the records of the field are appended.
     ensures bytes { OnOk result (out.new.items ≡ out.old.items ++ spelled (payload_field field (M.written message.now))) }
+    // With `Ok` the numbers of the message fit their types.
     ensures fits { OnOk result (M.fits message.now) }
 {
     let mut payload = scratch.take();
@@ -92,16 +102,19 @@ pub fn push_message<M: Written>(
     scratch.give_back(payload)
 }
 
-/// Puts messages behind the bytes as fields of this number, empty ones too.
-/// Where memory is refused, nothing is said of the bytes.
-pub fn put_messages<M: Written>(
+/// Appends each message as a field of this number, even if its written form is empty.
+/// Fails with `AllocError` if an allocation fails. The bytes are then unspecified.
+pub fn write_messages<M: Written>(
     scratch: &mut Scratch,
     out: &mut Vec<u8>,
     field: u32,
     messages: &[M],
 ) -> Result<(), AllocError>
+    // The field number is valid.
     requires { IsField field }
+    // With `Ok` exactly the records of the field are appended.
     ensures bytes { OnOk result (out.new.items ≡ out.old.items ++ spelled_fields (payload_fields field (map M.written messages.now))) }
+    // With `Ok` the numbers of the message fit their types.
     ensures fits { OnOk result (AllByRecursion M.fits messages.now) }
 {
     for message in messages {
@@ -110,16 +123,19 @@ pub fn put_messages<M: Written>(
     Ok(())
 }
 
-/// Puts a message behind the bytes as a field of this number, if there is one, an empty one too.
-/// Where memory is refused, nothing is said of the bytes.
-pub fn put_message<M: Written>(
+/// Appends a message as a field of this number, if there is one, even if its written form is empty.
+/// Fails with `AllocError` if an allocation fails. The bytes are then unspecified.
+pub fn write_message<M: Written>(
     scratch: &mut Scratch,
     out: &mut Vec<u8>,
     field: u32,
     message: &Option<M>,
 ) -> Result<(), AllocError>
+    // The field number is valid.
     requires { IsField field }
+    // With `Ok` exactly the records of the field are appended.
     ensures bytes { OnOk result (out.new.items ≡ out.old.items ++ spelled_fields (payload_fields field (map M.written (option_to_list message.now)))) }
+    // With `Ok` the numbers of the message fit their types.
     ensures fits { OnOk result (IfSome message.now M.fits) }
 {
     match message {
@@ -128,10 +144,12 @@ pub fn put_message<M: Written>(
     }
 }
 
-/// Puts texts behind the bytes as fields of this number, empty ones too.
-/// Where memory is refused, nothing is said of the bytes.
-pub fn put_texts(out: &mut Vec<u8>, field: u32, texts: &[String]) -> Result<(), AllocError>
+/// Appends each string as a field of this number, even an empty one.
+/// Fails with `AllocError` if an allocation fails. The bytes are then unspecified.
+pub fn write_texts(out: &mut Vec<u8>, field: u32, texts: &[String]) -> Result<(), AllocError>
+    // The field number is valid.
     requires { IsField field }
+    // With `Ok` exactly the records of the field are appended.
     ensures { OnOk result (out.new.items ≡ out.old.items ++ spelled_fields (payload_fields field (map string_bytes texts.now))) }
 {
     for text in texts {

@@ -158,10 +158,10 @@ none_left inside (f ∷ fs) good = (good.0.none, none_left inside fs good.1)
 
 -- good fields are read again, where the records that carry them say the message
 pub again_from : {V : Type 0} (inside : PayloadRecord → Option WireFault) (of : List PayloadRecord → V) (v : V) (fs : List Field) → AreGood inside fs → length (spelled_fields fs) < 2 ^ 64 → ((ps : List PayloadRecord) → CarryAll ps fs → of ps ≡ v) → IsAgain inside of v (spelled_fields fs)
-again_from inside of v fs good short said =
+again_from inside of v fs good short index_is =
     λ start.
     let read = pieces-again start fs (all_fit inside fs good short) in
     let carried = carry_again start fs in (
       fault_of-end inside start (spelled_fields fs) (pieces_at start fs) None (IsClean-from inside (pieces_at start fs) fs carried (none_left inside fs good)) read,
-      ap (λ (x : List PayloadRecord × Option WireFault). of x.0) read ∙ said (pieces_at start fs) carried,
+      ap (λ (x : List PayloadRecord × Option WireFault). of x.0) read ∙ index_is (pieces_at start fs) carried,
     )

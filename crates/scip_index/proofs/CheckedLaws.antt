@@ -13,7 +13,7 @@ use Rattle.proto_wire.specs.declared.record.WireValue.TheVariants.{Varint, Eight
 use Rattle.proto_wire.specs.Faults.{Stops, UnlessMemory}
 use Rattle.proto_wire.specs.Records.{PayloadRecord}
 use Rattle.proto_wire.specs.Readings.{payload_records}
-use Rattle.proto_wire.specs.Messages.{bytes_given, bytes_in, each_of, fault_of, field_fault, first_of, if_field, latest, message_fault, message_fault_given, numbers_fault, records_inside, records_inside_given, text_fault, text_fault_given, IsClean, IsFirstFault}
+use Rattle.proto_wire.specs.Messages.{value_bytes, bytes_in, each_of, fault_of, field_fault, first_of, if_field, latest, message_fault, value_message_fault, numbers_fault, nested_records, value_records, text_fault, value_text_fault, IsClean, IsFirstFault}
 use Rattle.proto_wire.proofs.FaultLaws.{UnlessMemory-then}
 use Rattle.proto_wire.proofs.MessageLaws.{first_fault_iff, no_fault_iff}
 use Rattle.proto_wire.proofs.PieceReadings.{records_found}
@@ -49,7 +49,7 @@ pub all_append : {X : Type 0} (P : X → Type 0) (xs ys : List X) → AllByRecur
 all_append P [] ys a b = b
 all_append P (x ∷ xs) ys a b = (a.0, all_append P xs ys a.1 b)
 
-text_given : (value : WireValue) (at : ℕ) (payload : List ℕ) → text_fault_given value at payload ≡ None → AllByRecursion IsUtf8 (bytes_given value payload)
+text_given : (value : WireValue) (at : ℕ) (payload : List ℕ) → value_text_fault value at payload ≡ None → AllByRecursion IsUtf8 (value_bytes value payload)
 text_given (Varint n) at payload e = tt
 text_given Eight at payload e = tt
 text_given (Bytes count) at payload e = elim (cases_Bool (is_utf8 payload)) [
@@ -103,13 +103,13 @@ symbol_text pieces clean = latest_text [] (each_of 2 bytes_in pieces) (IsUtf8-fr
 
 -- what the clean records of a message have, those of a message of a field of clean records have
 module _ (inside : PayloadRecord → Option WireFault) (Has : List PayloadRecord → Type 0) (has : (pieces : List PayloadRecord) → IsClean inside pieces → Has pieces) where
-  message_given : (value : WireValue) (body : ℕ) (payload : List ℕ) → message_fault_given inside value body payload ≡ None → AllByRecursion Has (records_inside_given value body payload)
+  message_given : (value : WireValue) (body : ℕ) (payload : List ℕ) → value_message_fault inside value body payload ≡ None → AllByRecursion Has (value_records value body payload)
   message_given (Varint n) body payload e = tt
   message_given Eight body payload e = tt
   message_given (Bytes count) body payload e = (has (payload_records body payload).0 (clean_records inside body payload e), tt)
   message_given Four body payload e = tt
 
-  message_of_field : (k : ℕ) (p : PayloadRecord) → field_fault k p.wire (message_fault inside p) ≡ None → AllByRecursion Has (if_field k p.wire (records_inside p))
+  message_of_field : (k : ℕ) (p : PayloadRecord) → field_fault k p.wire (message_fault inside p) ≡ None → AllByRecursion Has (if_field k p.wire (nested_records p))
   unfolding field_fault if_field
   message_of_field k p e = elim (cases_Bool (p.wire.field == k)) [
     | inl here ↦ rw here (message_given p.wire.value p.wire.body p.payload (rw here at e))
@@ -117,7 +117,7 @@ module _ (inside : PayloadRecord → Option WireFault) (Has : List PayloadRecord
   ]
 
 abbrev pub HaveSymbolTexts : List PayloadRecord → Type 0
-HaveSymbolTexts pieces = AllByRecursion HasSymbolText (each_of 2 records_inside pieces)
+HaveSymbolTexts pieces = AllByRecursion HasSymbolText (each_of 2 nested_records pieces)
 
 symbol_texts : (pieces : List PayloadRecord) → IsClean document_fault pieces → HaveSymbolTexts pieces
 unfolding each_of
@@ -125,23 +125,23 @@ symbol_texts [] clean = tt
 symbol_texts (p ∷ pieces) clean =
     let last = first_of (field_fault 3 p.wire (message_fault symbol_fault p)) (field_fault 4 p.wire (text_fault p)) in
     let both = latter (field_fault 1 p.wire (text_fault p)) (first_of (field_fault 2 p.wire (message_fault occurrence_fault p)) last) clean.0 in
-    all_append HasSymbolText (if_field 2 p.wire (records_inside p)) (each_of 2 records_inside pieces)
+    all_append HasSymbolText (if_field 2 p.wire (nested_records p)) (each_of 2 nested_records pieces)
     (message_of_field occurrence_fault HasSymbolText symbol_text 2 p (former (field_fault 2 p.wire (message_fault occurrence_fault p)) last both)) (symbol_texts pieces clean.1)
 
-documents_have : (Has : List PayloadRecord → Type 0) → ((pieces : List PayloadRecord) → IsClean document_fault pieces → Has pieces) → (pieces : List PayloadRecord) → IsClean index_fault pieces → AllByRecursion Has (each_of 2 records_inside pieces)
+documents_have : (Has : List PayloadRecord → Type 0) → ((pieces : List PayloadRecord) → IsClean document_fault pieces → Has pieces) → (pieces : List PayloadRecord) → IsClean index_fault pieces → AllByRecursion Has (each_of 2 nested_records pieces)
 unfolding each_of
 documents_have Has has [] clean = tt
 documents_have Has has (p ∷ pieces) clean =
     let behind = first_of (field_fault 2 p.wire (message_fault document_fault p)) (field_fault 3 p.wire (message_fault symbol_fault p)) in
     let both = latter (field_fault 1 p.wire (message_fault metadata_fault p)) behind clean.0 in
-    all_append Has (if_field 2 p.wire (records_inside p)) (each_of 2 records_inside pieces)
+    all_append Has (if_field 2 p.wire (nested_records p)) (each_of 2 nested_records pieces)
     (message_of_field document_fault Has has 2 p (former (field_fault 2 p.wire (message_fault document_fault p)) (field_fault 3 p.wire (message_fault symbol_fault p)) both))
     (documents_have Has has pieces clean.1)
 
 -- the paths of the documents of bytes that mean an index are UTF-8
-pub paths_are_texts : (bytes : List ℕ) → fault_of index_fault 0 bytes ≡ None → AllByRecursion HasPathText (each_of 2 records_inside (payload_records 0 bytes).0)
+pub paths_are_texts : (bytes : List ℕ) → fault_of index_fault 0 bytes ≡ None → AllByRecursion HasPathText (each_of 2 nested_records (payload_records 0 bytes).0)
 paths_are_texts bytes clean = documents_have HasPathText path_text (payload_records 0 bytes).0 (clean_records index_fault 0 bytes clean)
 
 -- and so are the symbols of their occurrences
-pub symbols_are_texts : (bytes : List ℕ) → fault_of index_fault 0 bytes ≡ None → AllByRecursion HaveSymbolTexts (each_of 2 records_inside (payload_records 0 bytes).0)
+pub symbols_are_texts : (bytes : List ℕ) → fault_of index_fault 0 bytes ≡ None → AllByRecursion HaveSymbolTexts (each_of 2 nested_records (payload_records 0 bytes).0)
 symbols_are_texts bytes clean = documents_have HaveSymbolTexts symbol_texts (payload_records 0 bytes).0 (clean_records index_fault 0 bytes clean)

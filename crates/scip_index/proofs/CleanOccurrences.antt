@@ -9,7 +9,7 @@ use Rattle.proto_wire.specs.declared.record.WireValue.{WireValue}
 use Rattle.proto_wire.specs.declared.record.WireValue.TheVariants.{Varint, Eight, Bytes, Four}
 use Rattle.proto_wire.specs.Records.{PayloadRecord}
 use Rattle.proto_wire.specs.Readings.{payload_records}
-use Rattle.proto_wire.specs.Messages.{fault_of, field_fault, first_fault, message_fault, message_fault_given, numbers_fault, payload_record, text_fault}
+use Rattle.proto_wire.specs.Messages.{fault_of, field_fault, first_fault, message_fault, value_message_fault, numbers_fault, payload_record, text_fault}
 use Rattle.proto_wire.proofs.PieceLaws.{ended}
 use Rattle.scip_index.specs.Meaning.{occurrence_fault}
 
@@ -48,7 +48,7 @@ pub when_no_fault : {P : Type 0} (result : Result (Unit {0}) WireFault) → is_e
 when_no_fault (Ok x) e p = p
 when_no_fault (Err fault) e p = absurd cc
 
-message_given : (inside : PayloadRecord → Option WireFault) (value : WireValue) (body : ℕ) (payload : List ℕ) → fault_of inside body payload ≡ None → message_fault_given inside value body payload ≡ None
+message_given : (inside : PayloadRecord → Option WireFault) (value : WireValue) (body : ℕ) (payload : List ℕ) → fault_of inside body payload ≡ None → value_message_fault inside value body payload ≡ None
 message_given inside (Varint n) body payload e = refl
 message_given inside Eight body payload e = refl
 message_given inside (Bytes count) body payload e = e

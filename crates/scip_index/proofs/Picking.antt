@@ -6,7 +6,7 @@ use Rattle.std.proofs.lemmas.Bool.{cases_Bool, eq-eqb}
 use Rattle.std.proofs.lemmas.List.{append-nil}
 use Rattle.proto_wire.specs.Records.{PayloadRecord}
 use Rattle.proto_wire.specs.Readings.{payload_records}
-use Rattle.proto_wire.specs.Messages.{each_of, if_field, records_inside}
+use Rattle.proto_wire.specs.Messages.{each_of, if_field, nested_records}
 use Rattle.proto_wire.specs.Writing.{Field, payload_field, payload_fields, Carries, CarryAll}
 use Rattle.proto_wire.proofs.GivenLaws.{if_field-hit}
 use Rattle.proto_wire.proofs.MessageSteps.{HaveNumber, Restores}
@@ -79,17 +79,17 @@ payload_number k [] = tt
 payload_number k (x ∷ xs) = (refl, payload_number k xs)
 
 -- the records of a message that was written, in the one record that carries it
-one_inside : (k : ℕ) (p : PayloadRecord) (bytes : List ℕ) → Carries p (payload_field k bytes) → each_of k records_inside (p ∷ []) ≡ (payload_records p.wire.body bytes).0 ∷ []
+one_inside : (k : ℕ) (p : PayloadRecord) (bytes : List ℕ) → Carries p (payload_field k bytes) → each_of k nested_records (p ∷ []) ≡ (payload_records p.wire.body bytes).0 ∷ []
 unfolding each_of
-one_inside k p bytes h = rw (if_field-hit k p (records_inside p) h.number, h.content.0, h.content.1) refl
+one_inside k p bytes h = rw (if_field-hit k p (nested_records p) h.number, h.content.0, h.content.1) refl
 
 each_of_none : {X : Type 0} (k : ℕ) (gives : PayloadRecord → List X) → each_of k gives [] ≡ []
 unfolding each_of
 each_of_none k gives = refl
 
 -- a singular message that was written is read again
-pub merged_given : {V : Type 0} (k : ℕ) (of : List PayloadRecord → V) (written : V → List ℕ) (o : Option V) (qs : List PayloadRecord) → IfSome o (λ v. Restores of v (written v)) → CarryAll qs (payload_fields k (map written (option_to_list o))) → merged of (each_of k records_inside qs) ≡ o
-merged_given k of written None [] r h = ap (merged of) (each_of_none k records_inside)
+pub merged_given : {V : Type 0} (k : ℕ) (of : List PayloadRecord → V) (written : V → List ℕ) (o : Option V) (qs : List PayloadRecord) → IfSome o (λ v. Restores of v (written v)) → CarryAll qs (payload_fields k (map written (option_to_list o))) → merged of (each_of k nested_records qs) ≡ o
+merged_given k of written None [] r h = ap (merged of) (each_of_none k nested_records)
 merged_given k of written None (p ∷ qs) r h = absurd h
 merged_given k of written (Some v) [] r h = absurd h
 merged_given k of written (Some v) (p ∷ []) r h =

@@ -2,11 +2,11 @@
 use Rattle.std.proofs.Common.{◌≡◌, ℕ, ◌^◌, ◌<◌, pos, List, [], ◌++◌, length, map, None, refl, sym, subst, arith}
 use Rattle.std.specs.Option.{option_to_list}
 use Rattle.proto_wire.specs.Records.{PayloadRecord}
-use Rattle.proto_wire.specs.Messages.{each_of, field_fault, latest, number_in, numbers_in, numbers_fault, bytes_in, text_fault, message_fault, records_inside}
+use Rattle.proto_wire.specs.Messages.{each_of, field_fault, latest, number_in, numbers_in, numbers_fault, bytes_in, text_fault, message_fault, nested_records}
 use Rattle.proto_wire.specs.Writing.{CarryAll, number_fields, text_fields, packed_fields, payload_fields}
 use Rattle.proto_wire.proofs.GivenLaws.{text-given, number-given, packed-given, payloads-given}
 use Rattle.proto_wire.proofs.MessageSteps.{messages-given}
-use Rattle.scip_index.specs.Plain.{PlainOccurrence, PlainSymbol, PlainDocument, PlainTool, PlainMetadata, PlainIndex}
+use Rattle.scip_index.specs.Plain.{OccurrenceModel, SymbolModel, DocumentModel, ToolModel, MetadataModel, IndexModel}
 use Rattle.scip_index.specs.Meaning.{occurrence_of, occurrence_fault, symbol_of, symbol_fault, document_of, document_fault, tool_of, tool_fault, merged, metadata_of, metadata_fault, index_of, index_fault, Means}
 use Rattle.scip_index.specs.Fits.{OccurrenceFits, SymbolFits, DocumentFits, ToolFits, MetadataFits, IndexFits}
 use Rattle.scip_index.specs.Written.{occurrence_fields, written_occurrence, symbol_fields, written_symbol, document_fields, written_document, tool_fields, written_tool, metadata_fields, written_metadata, index_fields, written}
@@ -32,7 +32,7 @@ occurrence_enclosing_passes : Passes occurrence_fault 7 numbers_fault
 unfolding field_fault
 occurrence_enclosing_passes p e h = rw (e, h) refl
 
-occurrence_good : (o : PlainOccurrence) → OccurrenceFits o → AreGood occurrence_fault (occurrence_fields o)
+occurrence_good : (o : OccurrenceModel) → OccurrenceFits o → AreGood occurrence_fault (occurrence_fields o)
 occurrence_good o fits =
     let inside = occurrence_fault in
     let a = packed_fields 1 o.range in
@@ -47,7 +47,7 @@ occurrence_good o fits =
     (number_good inside 3 o.symbol_roles (omega arith) (omega arith) fits.symbol_roles occurrence_roles_pass))
     (packed_good inside 7 o.enclosing_range (omega arith) (omega arith) fits.enclosing_range occurrence_enclosing_passes)
 
-occurrence_said : (o : PlainOccurrence) → OccurrenceFits o → (ps : List PayloadRecord) → CarryAll ps (occurrence_fields o) → occurrence_of ps ≡ o
+occurrence_said : (o : OccurrenceModel) → OccurrenceFits o → (ps : List PayloadRecord) → CarryAll ps (occurrence_fields o) → occurrence_of ps ≡ o
 occurrence_said o fits ps h =
     let a = packed_fields 1 o.range in
     let b = text_fields 2 o.symbol in
@@ -76,7 +76,7 @@ occurrence_said o fits ps h =
     (λ qs k. packed-given 7 o.enclosing_range qs fits.enclosing_range k) in
     rw (range, symbol, roles, enclosing) refl
 
-pub occurrence_again : (o : PlainOccurrence) → OccurrenceFits o → length (written_occurrence o) < 2 ^ 64 → IsAgain occurrence_fault occurrence_of o (written_occurrence o)
+pub occurrence_again : (o : OccurrenceModel) → OccurrenceFits o → length (written_occurrence o) < 2 ^ 64 → IsAgain occurrence_fault occurrence_of o (written_occurrence o)
 unfolding written_occurrence
 occurrence_again o fits short = again_from occurrence_fault occurrence_of o (occurrence_fields o) (occurrence_good o fits) short (occurrence_said o fits)
 
@@ -90,7 +90,7 @@ symbol_name_passes : Passes symbol_fault 6 text_fault
 unfolding field_fault
 symbol_name_passes p e h = rw (e, h) refl
 
-symbol_said : (s : PlainSymbol) (ps : List PayloadRecord) → CarryAll ps (symbol_fields s) → symbol_of ps ≡ s
+symbol_said : (s : SymbolModel) (ps : List PayloadRecord) → CarryAll ps (symbol_fields s) → symbol_of ps ≡ s
 symbol_said s ps h =
     let a = text_fields 1 s.symbol in
     let b = text_fields 6 s.display_name in
@@ -100,7 +100,7 @@ symbol_said s ps h =
     let name : latest [] (each_of 6 bytes_in ps) ≡ s.display_name = row_said (latest []) 6 bytes_in (a ++ b) b ps s.display_name h (right 6 a b b (miss 6 1 a na refl) (hit 6 b nb)) (λ qs k. text-given 6 s.display_name qs k) in
     rw (symbol, name) refl
 
-pub symbol_again : (s : PlainSymbol) → SymbolFits s → length (written_symbol s) < 2 ^ 64 → IsAgain symbol_fault symbol_of s (written_symbol s)
+pub symbol_again : (s : SymbolModel) → SymbolFits s → length (written_symbol s) < 2 ^ 64 → IsAgain symbol_fault symbol_of s (written_symbol s)
 unfolding written_symbol
 symbol_again s fits short =
     let inside = symbol_fault in
@@ -130,7 +130,7 @@ document_encoding_passes : (p : PayloadRecord) → p.wire.field ≡ 6 → docume
 unfolding field_fault
 document_encoding_passes p e = rw e refl
 
-pub document_again : (d : PlainDocument) → DocumentFits d → length (written_document d) < 2 ^ 64 → IsAgain document_fault document_of d (written_document d)
+pub document_again : (d : DocumentModel) → DocumentFits d → length (written_document d) < 2 ^ 64 → IsAgain document_fault document_of d (written_document d)
 unfolding written_document
 document_again d fits short =
     let inside = document_fault in
@@ -164,12 +164,12 @@ document_again d fits short =
     row_said (latest []) 1 bytes_in fs a ps d.relative_path h
     (left 1 (((a ++ b) ++ c) ++ e) f a (left 1 ((a ++ b) ++ c) e a (left 1 (a ++ b) c a (left 1 a b a (hit 1 a na) (miss 1 2 b nb refl)) (miss 1 3 c nc refl)) (miss 1 4 e ne refl)) (miss 1 6 f nf refl))
     (λ qs k. text-given 1 d.relative_path qs k) in
-    let found : map occurrence_of (each_of 2 records_inside ps) ≡ d.occurrences =
-    row_said (map occurrence_of) 2 records_inside fs b ps d.occurrences h
+    let found : map occurrence_of (each_of 2 nested_records ps) ≡ d.occurrences =
+    row_said (map occurrence_of) 2 nested_records fs b ps d.occurrences h
     (left 2 (((a ++ b) ++ c) ++ e) f b (left 2 ((a ++ b) ++ c) e b (left 2 (a ++ b) c b (right 2 a b b (miss 2 1 a na refl) (hit 2 b nb)) (miss 2 3 c nc refl)) (miss 2 4 e ne refl)) (miss 2 6 f nf refl))
     (λ qs k. messages-given 2 occurrence_of written_occurrence d.occurrences qs (restores occurrence_fault occurrence_of written_occurrence d.occurrences occurrences) k) in
-    let told : map symbol_of (each_of 3 records_inside ps) ≡ d.symbols =
-    row_said (map symbol_of) 3 records_inside fs c ps d.symbols h
+    let told : map symbol_of (each_of 3 nested_records ps) ≡ d.symbols =
+    row_said (map symbol_of) 3 nested_records fs c ps d.symbols h
     (left 3 (((a ++ b) ++ c) ++ e) f c (left 3 ((a ++ b) ++ c) e c (right 3 (a ++ b) c c (left 3 a b [] (miss 3 1 a na refl) (miss 3 2 b nb refl)) (hit 3 c nc)) (miss 3 4 e ne refl)) (miss 3 6 f nf refl))
     (λ qs k. messages-given 3 symbol_of written_symbol d.symbols qs (restores symbol_fault symbol_of written_symbol d.symbols symbols) k) in
     let language : latest [] (each_of 4 bytes_in ps) ≡ d.language =
@@ -196,7 +196,7 @@ tool_arguments_pass : Passes tool_fault 3 text_fault
 unfolding field_fault
 tool_arguments_pass p e h = rw (e, h) refl
 
-tool_said : (t : PlainTool) (ps : List PayloadRecord) → CarryAll ps (tool_fields t) → tool_of ps ≡ t
+tool_said : (t : ToolModel) (ps : List PayloadRecord) → CarryAll ps (tool_fields t) → tool_of ps ≡ t
 tool_said t ps h =
     let a = text_fields 1 t.name in
     let b = text_fields 2 t.version in
@@ -210,7 +210,7 @@ tool_said t ps h =
     let arguments : each_of 3 bytes_in ps ≡ t.arguments = row_said (λ xs. xs) 3 bytes_in fs c ps t.arguments h (right 3 (a ++ b) c c (left 3 a b [] (miss 3 1 a na refl) (miss 3 2 b nb refl)) (hit 3 c nc)) (λ qs k. payloads-given 3 t.arguments qs k) in
     rw (name, version, arguments) refl
 
-pub tool_again : (t : PlainTool) → ToolFits t → length (written_tool t) < 2 ^ 64 → IsAgain tool_fault tool_of t (written_tool t)
+pub tool_again : (t : ToolModel) → ToolFits t → length (written_tool t) < 2 ^ 64 → IsAgain tool_fault tool_of t (written_tool t)
 unfolding written_tool
 tool_again t fits short =
     let inside = tool_fault in
@@ -240,7 +240,7 @@ metadata_encoding_passes : (p : PayloadRecord) → p.wire.field ≡ 4 → metada
 unfolding field_fault
 metadata_encoding_passes p e = rw e refl
 
-pub metadata_again : (m : PlainMetadata) → MetadataFits m → length (written_metadata m) < 2 ^ 64 → IsAgain metadata_fault metadata_of m (written_metadata m)
+pub metadata_again : (m : MetadataModel) → MetadataFits m → length (written_metadata m) < 2 ^ 64 → IsAgain metadata_fault metadata_of m (written_metadata m)
 unfolding written_metadata
 metadata_again m fits short =
     let inside = metadata_fault in
@@ -269,8 +269,8 @@ metadata_again m fits short =
     row_said (latest (pos 0)) 1 number_in fs a ps m.version h
     (left 1 ((a ++ b) ++ c) d a (left 1 (a ++ b) c a (left 1 a b a (hit 1 a na) (miss 1 2 b nb refl)) (miss 1 3 c nc refl)) (miss 1 4 d nd refl))
     (λ qs k. number-given 1 m.version qs fits.version k) in
-    let tool : merged tool_of (each_of 2 records_inside ps) ≡ m.tool_info =
-    row_said (merged tool_of) 2 records_inside fs b ps m.tool_info h
+    let tool : merged tool_of (each_of 2 nested_records ps) ≡ m.tool_info =
+    row_said (merged tool_of) 2 nested_records fs b ps m.tool_info h
     (left 2 ((a ++ b) ++ c) d b (left 2 (a ++ b) c b (right 2 a b b (miss 2 1 a na refl) (hit 2 b nb)) (miss 2 3 c nc refl)) (miss 2 4 d nd refl))
     (λ qs k. merged_given 2 tool_of written_tool m.tool_info qs (option_restores tool_fault tool_of written_tool m.tool_info again) k) in
     let root : latest [] (each_of 3 bytes_in ps) ≡ m.project_root =
@@ -297,7 +297,7 @@ index_symbols_pass : Passes index_fault 3 (message_fault symbol_fault)
 unfolding field_fault
 index_symbols_pass p e h = rw (e, h) refl
 
-pub index_again : (i : PlainIndex) → IndexFits i → length (written i) < 2 ^ 64 → IsAgain index_fault index_of i (written i)
+pub index_again : (i : IndexModel) → IndexFits i → length (written i) < 2 ^ 64 → IsAgain index_fault index_of i (written i)
 unfolding written
 index_again i fits short =
     let inside = index_fault in
@@ -321,22 +321,22 @@ index_again i fits short =
     (messages_good inside symbol_fault symbol_of 3 written_symbol i.external_symbols (omega arith) (omega arith) symbols index_symbols_pass) in
     again_from inside index_of i fs good short
     (λ ps h.
-    let one : merged metadata_of (each_of 1 records_inside ps) ≡ i.metadata =
-    row_said (merged metadata_of) 1 records_inside fs a ps i.metadata h
+    let one : merged metadata_of (each_of 1 nested_records ps) ≡ i.metadata =
+    row_said (merged metadata_of) 1 nested_records fs a ps i.metadata h
     (left 1 (a ++ b) c a (left 1 a b a (hit 1 a na) (miss 1 2 b nb refl)) (miss 1 3 c nc refl))
     (λ qs k. merged_given 1 metadata_of written_metadata i.metadata qs (option_restores metadata_fault metadata_of written_metadata i.metadata first) k) in
-    let two : map document_of (each_of 2 records_inside ps) ≡ i.documents =
-    row_said (map document_of) 2 records_inside fs b ps i.documents h
+    let two : map document_of (each_of 2 nested_records ps) ≡ i.documents =
+    row_said (map document_of) 2 nested_records fs b ps i.documents h
     (left 2 (a ++ b) c b (right 2 a b b (miss 2 1 a na refl) (hit 2 b nb)) (miss 2 3 c nc refl))
     (λ qs k. messages-given 2 document_of written_document i.documents qs (restores document_fault document_of written_document i.documents documents) k) in
-    let three : map symbol_of (each_of 3 records_inside ps) ≡ i.external_symbols =
-    row_said (map symbol_of) 3 records_inside fs c ps i.external_symbols h
+    let three : map symbol_of (each_of 3 nested_records ps) ≡ i.external_symbols =
+    row_said (map symbol_of) 3 nested_records fs c ps i.external_symbols h
     (right 3 (a ++ b) c c (left 3 a b [] (miss 3 1 a na refl) (miss 3 2 b nb refl)) (hit 3 c nc))
     (λ qs k. messages-given 3 symbol_of written_symbol i.external_symbols qs (restores symbol_fault symbol_of written_symbol i.external_symbols symbols) k) in
     rw (one, two, three) refl)
 
 -- bytes that are written of an index mean it
-pub means_it : (i : PlainIndex) (bytes : List ℕ) → IndexFits i → bytes ≡ written i → length bytes < 2 ^ 64 → Means bytes i
+pub means_it : (i : IndexModel) (bytes : List ℕ) → IndexFits i → bytes ≡ written i → length bytes < 2 ^ 64 → Means bytes i
 means_it i bytes fits e short =
     let again = index_again i fits (subst (λ (bs : List ℕ). length bs < 2 ^ 64) e short) 0 in
     subst (λ (bs : List ℕ). Means bs i) (sym e) (means_from (written i) i again.0 (sym again.1))

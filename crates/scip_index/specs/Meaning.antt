@@ -3,11 +3,11 @@ use Rattle.std.specs.Prelude.{◌≡◌, ℕ, pos, List, [], ◌∷◌, map, Opt
 use Rattle.std.specs.List.{flat_map}
 use Rattle.proto_wire.specs.declared.fault.WireFault.{WireFault}
 use Rattle.proto_wire.specs.Records.{PayloadRecord, AreRecords}
-use Rattle.proto_wire.specs.Messages.{each_of, field_fault, first_of, latest, number_in, numbers_in, numbers_fault, bytes_in, text_fault, records_inside, message_fault, IsClean, IsFirstFault}
-use Rattle.scip_index.specs.Plain.{PlainOccurrence, PlainSymbol, PlainDocument, PlainTool, PlainMetadata, PlainIndex}
+use Rattle.proto_wire.specs.Messages.{each_of, field_fault, first_of, latest, number_in, numbers_in, numbers_fault, bytes_in, text_fault, nested_records, message_fault, IsClean, IsFirstFault}
+use Rattle.scip_index.specs.Plain.{OccurrenceModel, SymbolModel, DocumentModel, ToolModel, MetadataModel, IndexModel}
 
 -- an occurrence by its records: all numbers of fields 1 and 7, the last string of field 2, and the last number of field 3
-abbrev pub occurrence_of : List PayloadRecord → PlainOccurrence
+abbrev pub occurrence_of : List PayloadRecord → OccurrenceModel
 occurrence_of pieces = record {
   range = each_of 1 numbers_in pieces;
   symbol = latest [] (each_of 2 bytes_in pieces);
@@ -20,7 +20,7 @@ abbrev pub occurrence_fault : PayloadRecord → Option WireFault
 occurrence_fault p = first_of (field_fault 1 p.wire (numbers_fault p)) (first_of (field_fault 2 p.wire (text_fault p)) (field_fault 7 p.wire (numbers_fault p)))
 
 -- symbol information by its records: the last strings of fields 1 and 6
-abbrev pub symbol_of : List PayloadRecord → PlainSymbol
+abbrev pub symbol_of : List PayloadRecord → SymbolModel
 symbol_of pieces = record {
   symbol = latest [] (each_of 1 bytes_in pieces);
   display_name = latest [] (each_of 6 bytes_in pieces);
@@ -31,11 +31,11 @@ abbrev pub symbol_fault : PayloadRecord → Option WireFault
 symbol_fault p = first_of (field_fault 1 p.wire (text_fault p)) (field_fault 6 p.wire (text_fault p))
 
 -- a document by its records: the last strings of fields 1 and 4, all messages of fields 2 and 3, and the last number of field 6
-abbrev pub document_of : List PayloadRecord → PlainDocument
+abbrev pub document_of : List PayloadRecord → DocumentModel
 document_of pieces = record {
   relative_path = latest [] (each_of 1 bytes_in pieces);
-  occurrences = map occurrence_of (each_of 2 records_inside pieces);
-  symbols = map symbol_of (each_of 3 records_inside pieces);
+  occurrences = map occurrence_of (each_of 2 nested_records pieces);
+  symbols = map symbol_of (each_of 3 nested_records pieces);
   language = latest [] (each_of 4 bytes_in pieces);
   position_encoding = latest (pos 0) (each_of 6 number_in pieces);
 }
@@ -47,7 +47,7 @@ document_fault p =
     (first_of (field_fault 3 p.wire (message_fault symbol_fault p)) (field_fault 4 p.wire (text_fault p))))
 
 -- a tool by its records: the last strings of fields 1 and 2, and all strings of field 3
-abbrev pub tool_of : List PayloadRecord → PlainTool
+abbrev pub tool_of : List PayloadRecord → ToolModel
 tool_of pieces = record {
   name = latest [] (each_of 1 bytes_in pieces);
   version = latest [] (each_of 2 bytes_in pieces);
@@ -64,10 +64,10 @@ merged of [] = None
 merged of (pieces ∷ others) = Some (of (flat_map (λ x. x) (pieces ∷ others)))
 
 -- metadata by their records: the last numbers of fields 1 and 4, the merged message of field 2, and the last string of field 3
-abbrev pub metadata_of : List PayloadRecord → PlainMetadata
+abbrev pub metadata_of : List PayloadRecord → MetadataModel
 metadata_of pieces = record {
   version = latest (pos 0) (each_of 1 number_in pieces);
-  tool_info = merged tool_of (each_of 2 records_inside pieces);
+  tool_info = merged tool_of (each_of 2 nested_records pieces);
   project_root = latest [] (each_of 3 bytes_in pieces);
   text_document_encoding = latest (pos 0) (each_of 4 number_in pieces);
 }
@@ -77,11 +77,11 @@ abbrev pub metadata_fault : PayloadRecord → Option WireFault
 metadata_fault p = first_of (field_fault 2 p.wire (message_fault tool_fault p)) (field_fault 3 p.wire (text_fault p))
 
 -- an index by its records: the merged message of field 1, and all messages of fields 2 and 3
-abbrev pub index_of : List PayloadRecord → PlainIndex
+abbrev pub index_of : List PayloadRecord → IndexModel
 index_of pieces = record {
-  metadata = merged metadata_of (each_of 1 records_inside pieces);
-  documents = map document_of (each_of 2 records_inside pieces);
-  external_symbols = map symbol_of (each_of 3 records_inside pieces);
+  metadata = merged metadata_of (each_of 1 nested_records pieces);
+  documents = map document_of (each_of 2 nested_records pieces);
+  external_symbols = map symbol_of (each_of 3 nested_records pieces);
 }
 
 -- the first fault inside one record of an index
@@ -91,13 +91,13 @@ index_fault p =
     (first_of (field_fault 2 p.wire (message_fault document_fault p)) (field_fault 3 p.wire (message_fault symbol_fault p)))
 
 -- the bytes encode this index: they are a sequence of records, none with a fault inside, which determine the index
-pub record Means (bytes : List ℕ) (index : PlainIndex) : Type 0 where
+pub record Means (bytes : List ℕ) (index : IndexModel) : Type 0 where
   pub pieces : List PayloadRecord
   pub are_records : AreRecords 0 bytes pieces
   pub clean : IsClean index_fault pieces
-  pub said : index ≡ index_of pieces
+  pub index_is : index ≡ index_of pieces
 
 -- the outcome of bytes: the index that they encode, or their first fault
-abbrev pub IsIndexOutcome : List ℕ → Result PlainIndex WireFault → Type 0
+abbrev pub IsIndexOutcome : List ℕ → Result IndexModel WireFault → Type 0
 IsIndexOutcome bytes (Ok index) = Means bytes index
 IsIndexOutcome bytes (Err fault) = IsFirstFault index_fault 0 bytes fault

@@ -6,8 +6,8 @@ ghost use Rattle.proto_wire.specs.Readings.{payload_records};
 ghost use Rattle.scip_index.specs.Meaning.{document_fault, index_fault, index_of, metadata_fault, occurrence_fault, symbol_fault, tool_fault, Means};
 
 use proto_wire::{
-    Inside, Message, WireFault, WireRecord, check_message, check_numbers, check_text, next_short,
-    read_message,
+    Message, MessageBytes, WireFault, WireRecord, check_message, check_numbers, check_text,
+    next_compact, read_message,
 };
 use std::alloc::Global;
 
@@ -32,20 +32,20 @@ impl Message for CheckedOccurrence {
 }
 
 /// An occurrence with this many or more records after its range and its symbol isn't accepted by `is_clean_occurrence`.
-const MOST_BEHIND: usize = 4;
+const MAX_EXTRA: usize = 4;
 
-/// Whether the rest of an occurrence is fewer than `MOST_BEHIND` records without a fault, each with a key and a number or length of one
+/// Whether the rest of an occurrence is fewer than `MAX_EXTRA` records without a fault, each with a key and a number or length of one
 /// byte. None is another range or symbol. With `false` the rest may still have no fault.
-fn is_clean_behind(left: Inside<'_>) -> bool
+fn is_clean_rest(left: MessageBytes<'_>) -> bool
     requires { left.start + length left.bytes.now < 2 ^ 64 }
     ensures { result ≡ true → fault_of occurrence_fault left.entry.start left.entry.bytes.now ≡ None }
 {
     let mut rest = left;
-    for _ in 0..MOST_BEHIND {
+    for _ in 0..MAX_EXTRA {
         if rest.bytes.is_empty() {
             return true;
         }
-        let Some((wire, payload)) = next_short(&mut rest) else {
+        let Some((wire, payload)) = next_compact(&mut rest) else {
             return false;
         };
         if wire.field < 3 || check_numbers(7, &wire, payload).is_err() {
@@ -55,22 +55,22 @@ fn is_clean_behind(left: Inside<'_>) -> bool
     false
 }
 
-/// Whether an occurrence has no fault and is a range, a symbol and fewer than `MOST_BEHIND` other records, each with a key and a number or
+/// Whether an occurrence has no fault and is a range, a symbol and fewer than `MAX_EXTRA` other records, each with a key and a number or
 /// length of one byte.
 /// Most producers write occurrences in this form. It needs fewer tests per record than the general validation, which is left to the other
 /// occurrences.
-fn is_clean_occurrence(occurrence: Inside<'_>) -> bool
+fn is_clean_occurrence(occurrence: MessageBytes<'_>) -> bool
     requires { occurrence.start + length occurrence.bytes.now < 2 ^ 64 }
     ensures { result ≡ true → fault_of occurrence_fault occurrence.entry.start occurrence.entry.bytes.now ≡ None }
 {
     let mut rest = occurrence;
-    let Some((range, numbers)) = next_short(&mut rest) else {
+    let Some((range, numbers)) = next_compact(&mut rest) else {
         return false;
     };
-    let Some((symbol, text)) = next_short(&mut rest) else {
+    let Some((symbol, text)) = next_compact(&mut rest) else {
         return false;
     };
-    if range.field != 1 || symbol.field != 2 || !is_clean_behind(rest) {
+    if range.field != 1 || symbol.field != 2 || !is_clean_rest(rest) {
         return false;
     }
     check_numbers(1, &range, numbers).is_ok() && check_text(2, &symbol, text).is_ok()
@@ -82,7 +82,7 @@ fn check_occurrence(alloc: Global, wire: &WireRecord, payload: &[u8]) -> Result<
     ensures clean { let p = payload_record wire.now payload.now in OnOk result (field_fault 2 wire.now (message_fault occurrence_fault p) ≡ None) }
     ensures err { let p = payload_record wire.now payload.now in IfErr result (λ e. Stops e (field_fault 2 wire.now (message_fault occurrence_fault p))) }
 {
-    let occurrence = Inside {
+    let occurrence = MessageBytes {
         start: wire.body,
         bytes: payload,
     };

@@ -3,15 +3,15 @@ ghost use Rattle.std.specs.Prelude.{◌≡◌, ◌<◌, ◌≤◌, ◌+◌, ◌^
 ghost use Rattle.std.specs.Option.{option_to_list};
 ghost use Rattle.std.specs.Result.{result_err};
 ghost use Rattle.proto_wire.specs.declared.fault.WireFault.{WireFault};
-ghost use Rattle.proto_wire.specs.Faults.{Tells, UnlessMemory};
-ghost use Rattle.proto_wire.specs.Messages.{IsFaultBehind, IsFirstFault};
+ghost use Rattle.proto_wire.specs.Faults.{HasOutcome, UnlessMemory};
+ghost use Rattle.proto_wire.specs.Messages.{IsNextFault, IsFirstFault};
 ghost use Rattle.proto_wire.specs.Records.{PayloadRecord};
-ghost use Rattle.scip_index.specs.Plain.{plain_document, plain_metadata, plain_symbol};
+ghost use Rattle.scip_index.specs.Plain.{document_model, metadata_model, symbol_model};
 ghost use Rattle.scip_index.specs.Meaning.{index_fault};
-ghost use Rattle.scip_index.specs.Streaming.{documents_in, given, HasDocuments, IsFaultAfter, IsRestOutcome, ReaderStands};
+ghost use Rattle.scip_index.specs.Streaming.{documents_in, given, HasDocuments, IsFaultAfter, IsRestOutcome, IsReaderAt};
 
 use crate::{Document, Metadata, SymbolInfo};
-use proto_wire::{WireFault, merge_message, record_at_front, take_messages};
+use proto_wire::{WireFault, merge_message, read_record, take_messages};
 use std::alloc::Global;
 use std::marker::Model;
 
@@ -35,14 +35,14 @@ fn take_record<'a>(
     requires some { 0 < length rest.now }
     requires inside { at + length rest.now < 2 ^ 64 }
     ensures taken { IfOk result (λ x. (bytes : List ℕ) (front : List PayloadRecord) →
-        ReaderStands bytes front at rest.now (option_map plain_metadata metadata.old) (map plain_symbol externals.old.items) →
-        (p : PayloadRecord) × ReaderStands bytes (front ++ p ∷ []) x.1 x.2.now (option_map plain_metadata metadata.new) (map plain_symbol externals.new.items)
-        × (documents_in (front ++ p ∷ []) ≡ documents_in front ++ map plain_document (option_to_list x.0))) }
+        IsReaderAt bytes front at rest.now (option_map metadata_model metadata.old) (map symbol_model externals.old.items) →
+        (p : PayloadRecord) × IsReaderAt bytes (front ++ p ∷ []) x.1 x.2.now (option_map metadata_model metadata.new) (map symbol_model externals.new.items)
+        × (documents_in (front ++ p ∷ []) ≡ documents_in front ++ map document_model (option_to_list x.0))) }
     ensures shorter { IfOk result (λ x. (length x.2.now < length rest.now) × (x.1 + length x.2.now ≡ at + length rest.now)) }
     ensures err { IfErr result (λ e. (bytes : List ℕ) (front : List PayloadRecord) →
-        ReaderStands bytes front at rest.now (option_map plain_metadata metadata.old) (map plain_symbol externals.old.items) → UnlessMemory e (IsFaultBehind index_fault 0 bytes front e)) }
+        IsReaderAt bytes front at rest.now (option_map metadata_model metadata.old) (map symbol_model externals.old.items) → UnlessMemory e (IsNextFault index_fault 0 bytes front e)) }
 {
-    let (wire, payload, after) = record_at_front(at, rest)?;
+    let (wire, payload, after) = read_record(at, rest)?;
     let mut documents = Vec::new(alloc);
     merge_message(alloc, 1, metadata, &wire, payload)?;
     take_messages(alloc, 2, &mut documents, &wire, payload)?;
@@ -61,13 +61,13 @@ fn next_document<'a>(
 ) -> Result<(Option<Document>, usize, &'a [u8]), WireFault>
     requires { at + length rest.now < 2 ^ 64 }
     ensures found { IfOk result (λ x. (bytes : List ℕ) (front : List PayloadRecord) →
-        ReaderStands bytes front at rest.now (option_map plain_metadata metadata.old) (map plain_symbol externals.old.items) →
-        (more : List PayloadRecord) × ReaderStands bytes (front ++ more) x.1 x.2.now (option_map plain_metadata metadata.new) (map plain_symbol externals.new.items)
-        × (documents_in (front ++ more) ≡ documents_in front ++ map plain_document (option_to_list x.0))
+        IsReaderAt bytes front at rest.now (option_map metadata_model metadata.old) (map symbol_model externals.old.items) →
+        (more : List PayloadRecord) × IsReaderAt bytes (front ++ more) x.1 x.2.now (option_map metadata_model metadata.new) (map symbol_model externals.new.items)
+        × (documents_in (front ++ more) ≡ documents_in front ++ map document_model (option_to_list x.0))
         × (IfNone x.0 (length x.2.now ≡ 0))) }
     ensures shorter { IfOk result (λ x. IfSome x.0 (λ _. length x.2.now < length rest.now)) }
     ensures err { IfErr result (λ e. (bytes : List ℕ) (front : List PayloadRecord) →
-        ReaderStands bytes front at rest.now (option_map plain_metadata metadata.old) (map plain_symbol externals.old.items) → UnlessMemory e (IsFaultAfter bytes (documents_in front) e)) }
+        IsReaderAt bytes front at rest.now (option_map metadata_model metadata.old) (map symbol_model externals.old.items) → UnlessMemory e (IsFaultAfter bytes (documents_in front) e)) }
 {
     let mut place = at;
     let mut left = rest;
@@ -92,10 +92,10 @@ fn read_rest(
 ) -> Result<(), WireFault>
     requires { at + length rest.now < 2 ^ 64 }
     ensures read { OnOk result ((bytes : List ℕ) (front : List PayloadRecord) →
-        ReaderStands bytes front at rest.now (option_map plain_metadata metadata.old) (map plain_symbol externals.old.items) →
-        IsRestOutcome bytes (Ok (option_map plain_metadata metadata.new, map plain_symbol externals.new.items))) }
+        IsReaderAt bytes front at rest.now (option_map metadata_model metadata.old) (map symbol_model externals.old.items) →
+        IsRestOutcome bytes (Ok (option_map metadata_model metadata.new, map symbol_model externals.new.items))) }
     ensures err { IfErr result (λ e. (bytes : List ℕ) (front : List PayloadRecord) →
-        ReaderStands bytes front at rest.now (option_map plain_metadata metadata.old) (map plain_symbol externals.old.items) → UnlessMemory e (IsFirstFault index_fault 0 bytes e)) }
+        IsReaderAt bytes front at rest.now (option_map metadata_model metadata.old) (map symbol_model externals.old.items) → UnlessMemory e (IsFirstFault index_fault 0 bytes e)) }
 {
     let mut place = at;
     let mut left = rest;
@@ -118,26 +118,26 @@ pub struct IndexReader<'a> {
     rest: &'a [u8],
     metadata: Option<Metadata>,
     externals: Vec<SymbolInfo>,
-    refusal: Option<WireFault>,
+    error: Option<WireFault>,
 }
 
 impl<'a> Model for IndexReader<'a> {
     ghost use Rattle.std.specs.Prelude.{IfNone, map, option_map};
-    ghost use Rattle.scip_index.specs.Plain.{plain_metadata, plain_symbol};
+    ghost use Rattle.scip_index.specs.Plain.{metadata_model, symbol_model};
     ghost use Rattle.scip_index.specs.Streaming.{HasRead, ReaderState};
 
     ghost Value = { ReaderState };
 
-    ghost view = { λ r. record { bytes = r.bytes.now; at = r.at; refusal = r.refusal } };
+    ghost view = { λ r. record { bytes = r.bytes.now; at = r.at; error = r.error } };
 
-    ghost invariant = { λ r. IfNone r.refusal (HasRead r.bytes.now r.at r.rest.now (option_map plain_metadata r.metadata) (map plain_symbol r.externals.items)) };
+    ghost invariant = { λ r. IfNone r.error (HasRead r.bytes.now r.at r.rest.now (option_map metadata_model r.metadata) (map symbol_model r.externals.items)) };
 }
 
 impl<'a> IndexReader<'a> {
     /// A reader that has read nothing. Allocates nothing.
     pub fn new(alloc: Global, bytes: &'a [u8]) -> Self
         // The reader has read none of the bytes, and hasn't failed.
-        ensures fresh { result ≡ record { bytes = bytes.now; at = 0; refusal = None } }
+        ensures fresh { result ≡ record { bytes = bytes.now; at = 0; error = None } }
         // The reader has returned no document.
         ensures given { given result ≡ [] }
     {
@@ -148,7 +148,7 @@ impl<'a> IndexReader<'a> {
             rest: bytes,
             metadata: None,
             externals: Vec::new(alloc),
-            refusal: None,
+            error: None,
         }
     }
 
@@ -160,22 +160,22 @@ impl<'a> IndexReader<'a> {
         ensures same { self.new.bytes ≡ self.old.bytes }
         // With `Ok` the documents in the bytes that are read are the ones before the call, followed by the returned document, if there is
         // one.
-        ensures found { IfNone self.old.refusal (IfOk result (λ x. given self.new ≡ given self.old ++ map plain_document (option_to_list x))) }
+        ensures found { IfNone self.old.error (IfOk result (λ x. given self.new ≡ given self.old ++ map document_model (option_to_list x))) }
         // With `Ok` the bytes that are read encode an index, whose documents are exactly those returned so far.
-        ensures sound { IfNone self.old.refusal (IfOk result (λ _. HasDocuments (take self.new.at self.old.bytes) (given self.new))) }
+        ensures sound { IfNone self.old.error (IfOk result (λ _. HasDocuments (take self.new.at self.old.bytes) (given self.new))) }
         // The result is `None` only if the bytes encode an index and all its documents are returned.
-        ensures end { IfNone self.old.refusal (IfOk result (λ x. IfNone x (HasDocuments self.old.bytes (given self.old)))) }
+        ensures end { IfNone self.old.error (IfOk result (λ x. IfNone x (HasDocuments self.old.bytes (given self.old)))) }
         // With a document the reader has read further, and not beyond the end of the bytes.
-        ensures onward { IfNone self.old.refusal (IfOk result (λ x. IfSome x (λ _. (self.old.at < self.new.at) × (self.new.at ≤ length self.old.bytes)))) }
+        ensures onward { IfNone self.old.error (IfOk result (λ x. IfSome x (λ _. (self.old.at < self.new.at) × (self.new.at ≤ length self.old.bytes)))) }
         // The reader's first error is the first fault of the bytes, and the documents before this fault are exactly those returned so far;
         // or it is `Memory`.
-        ensures fault { IfNone self.old.refusal (IfErr result (λ e. UnlessMemory e (IsFaultAfter self.old.bytes (given self.old) e))) }
+        ensures fault { IfNone self.old.error (IfErr result (λ e. UnlessMemory e (IsFaultAfter self.old.bytes (given self.old) e))) }
         // The reader stores the error of the call, if there is one.
-        ensures kept { self.new.refusal ≡ result_err result }
+        ensures retained { self.new.error ≡ result_err result }
         // After an error each call returns this error again, and the reader is unchanged.
-        ensures again { IfSome self.old.refusal (λ fault. (result ≡ Err fault) × (self.new ≡ self.old)) }
+        ensures again { IfSome self.old.error (λ fault. (result ≡ Err fault) × (self.new ≡ self.old)) }
     {
-        if let Some(fault) = self.refusal {
+        if let Some(fault) = self.error {
             return Err(fault);
         }
         match next_document(
@@ -191,7 +191,7 @@ impl<'a> IndexReader<'a> {
                 Ok(document)
             }
             Err(fault) => {
-                self.refusal = Some(fault);
+                self.error = Some(fault);
                 Err(fault)
             }
         }
@@ -203,11 +203,11 @@ impl<'a> IndexReader<'a> {
     pub fn rest(self) -> Result<(Option<Metadata>, Vec<SymbolInfo>), WireFault>
         // If the reader hasn't failed, the result is the metadata and the external symbols of the index that the bytes encode, or their
         // first fault, or `Memory`.
-        ensures exact { IfNone self.entry.refusal (Tells (λ x. (option_map plain_metadata x.0, map plain_symbol x.1.items)) result (IsRestOutcome self.entry.bytes)) }
+        ensures exact { IfNone self.entry.error (HasOutcome (λ x. (option_map metadata_model x.0, map symbol_model x.1.items)) result (IsRestOutcome self.entry.bytes)) }
         // If the reader has failed, the result is its error.
-        ensures again { IfSome self.entry.refusal (λ fault. result ≡ Err fault) }
+        ensures again { IfSome self.entry.error (λ fault. result ≡ Err fault) }
     {
-        if let Some(fault) = self.refusal {
+        if let Some(fault) = self.error {
             return Err(fault);
         }
         let IndexReader {

@@ -1,10 +1,10 @@
 //! The decoding of the messages of an index, record by record.
 ghost use Rattle.std.specs.Prelude.{◌≡◌, IfErr, IfOk, None, OnOk, Result};
 ghost use Rattle.proto_wire.specs.declared.fault.WireFault.{WireFault};
-ghost use Rattle.proto_wire.specs.Faults.{Stops, Tells};
+ghost use Rattle.proto_wire.specs.Faults.{Stops, HasOutcome};
 ghost use Rattle.proto_wire.specs.Messages.{fault_of};
 ghost use Rattle.proto_wire.specs.Readings.{payload_records};
-ghost use Rattle.scip_index.specs.Plain.{plain_document, plain_index, plain_metadata, plain_occurrence, plain_symbol, plain_tool, PlainIndex};
+ghost use Rattle.scip_index.specs.Plain.{document_model, index_model, metadata_model, occurrence_model, symbol_model, tool_model, IndexModel};
 ghost use Rattle.scip_index.specs.Meaning.{document_fault, document_of, index_fault, index_of, metadata_fault, metadata_of, occurrence_fault, occurrence_of, symbol_fault, symbol_of, tool_fault, tool_of, IsIndexOutcome};
 
 use crate::{Document, Index, Metadata, Occurrence, SymbolInfo, ToolInfo};
@@ -15,7 +15,7 @@ use proto_wire::{
 use std::alloc::Global;
 
 impl Message for Occurrence {
-    ghost means = { λ o pieces. plain_occurrence o ≡ occurrence_of pieces };
+    ghost means = { λ o pieces. occurrence_model o ≡ occurrence_of pieces };
 
     ghost fault_in = { occurrence_fault };
 
@@ -39,7 +39,7 @@ impl Message for Occurrence {
 }
 
 impl Message for SymbolInfo {
-    ghost means = { λ s pieces. plain_symbol s ≡ symbol_of pieces };
+    ghost means = { λ s pieces. symbol_model s ≡ symbol_of pieces };
 
     ghost fault_in = { symbol_fault };
 
@@ -59,7 +59,7 @@ impl Message for SymbolInfo {
 }
 
 impl Message for Document {
-    ghost means = { λ d pieces. plain_document d ≡ document_of pieces };
+    ghost means = { λ d pieces. document_model d ≡ document_of pieces };
 
     ghost fault_in = { document_fault };
 
@@ -85,7 +85,7 @@ impl Message for Document {
 }
 
 impl Message for ToolInfo {
-    ghost means = { λ t pieces. plain_tool t ≡ tool_of pieces };
+    ghost means = { λ t pieces. tool_model t ≡ tool_of pieces };
 
     ghost fault_in = { tool_fault };
 
@@ -107,7 +107,7 @@ impl Message for ToolInfo {
 }
 
 impl Message for Metadata {
-    ghost means = { λ m pieces. plain_metadata m ≡ metadata_of pieces };
+    ghost means = { λ m pieces. metadata_model m ≡ metadata_of pieces };
 
     ghost fault_in = { metadata_fault };
 
@@ -131,7 +131,7 @@ impl Message for Metadata {
 }
 
 impl Message for Index {
-    ghost means = { λ i pieces. plain_index i ≡ index_of pieces };
+    ghost means = { λ i pieces. index_model i ≡ index_of pieces };
 
     ghost fault_in = { index_fault };
 
@@ -155,7 +155,7 @@ impl Message for Index {
 /// Decodes an index. The contract of `from_bytes` follows from this one.
 fn index_in(alloc: Global, bytes: &[u8]) -> Result<Index, WireFault>
     ensures clean { OnOk result (fault_of index_fault 0 bytes.now ≡ None) }
-    ensures means { IfOk result (λ i. plain_index i ≡ index_of (payload_records 0 bytes.now).0) }
+    ensures means { IfOk result (λ i. index_model i ≡ index_of (payload_records 0 bytes.now).0) }
     ensures err { IfErr result (λ e. Stops e (fault_of index_fault 0 bytes.now)) }
 {
     read_message(alloc, 0, bytes)
@@ -169,9 +169,9 @@ fn index_in(alloc: Global, bytes: &[u8]) -> Result<Index, WireFault>
 /// Fails with `Memory` if an allocation fails.
 pub fn from_bytes(alloc: Global, bytes: &[u8]) -> Result<Index, WireFault>
     // The result is the index that the bytes encode, or their first fault, or `Memory`.
-    ensures exact { Tells plain_index result (IsIndexOutcome bytes.now) }
+    ensures exact { HasOutcome index_model result (IsIndexOutcome bytes.now) }
     // Each outcome of the bytes, an index or a first fault, is the result, unless the result is `Memory`.
-    ensures only { (o : Result PlainIndex WireFault) → IsIndexOutcome bytes.now o → Tells plain_index result (λ p. p ≡ o) }
+    ensures only { (o : Result IndexModel WireFault) → IsIndexOutcome bytes.now o → HasOutcome index_model result (λ p. p ≡ o) }
 {
     index_in(alloc, bytes)
 }

@@ -2,17 +2,17 @@
 ghost use Rattle.std.specs.Prelude.{◌≡◌, IfNone, IfSome, None, OnOk, Some, map};
 ghost use Rattle.std.specs.List.{AllByRecursion};
 ghost use Rattle.std.specs.Result.{result_err};
-ghost use Rattle.byte_sink.specs.Sinks.{failures_after, failures_by, Puts};
-ghost use Rattle.proto_wire.specs.Writers.{answer_of, is_failure, PutsRecord};
+ghost use Rattle.byte_sink.specs.Sinks.{failures_after, failures_by, Writes};
+ghost use Rattle.proto_wire.specs.Writers.{answer_of, is_failure, WritesRecord};
 ghost use Rattle.scip_index.specs.declared.writer.Stage.TheVariants.{Fresh, Open, Ended};
 ghost use Rattle.scip_index.specs.Fits.{DocumentFits, MetadataFits, SymbolFits};
-ghost use Rattle.scip_index.specs.Plain.{plain_document, plain_metadata, plain_symbol};
+ghost use Rattle.scip_index.specs.Plain.{document_model, metadata_model, symbol_model};
 ghost use Rattle.scip_index.specs.Written.{document_part, externals_part, metadata_part};
-ghost use Rattle.scip_index.specs.Writers.{after_put, MayCall};
+ghost use Rattle.scip_index.specs.Writers.{after_write, MayCall};
 
 use crate::{Document, Metadata, SymbolInfo};
-use byte_sink::{Sink, SinkFault, put_all};
-use proto_wire::{Scratch, WireFault, push_message, put_messages};
+use byte_sink::{Sink, SinkFault, write_fully};
+use proto_wire::{Scratch, WireFault, push_message, write_messages};
 use std::alloc::{AllocError, Global};
 use std::marker::Model;
 
@@ -28,35 +28,35 @@ pub enum Stage {
 }
 
 /// Encodes the metadata's record in the buffer and writes it. After an error the sink has taken a prefix of the record.
-fn put_metadata<S: Sink>(
+fn write_metadata<S: Sink>(
     scratch: &mut Scratch,
     bytes: &mut Vec<u8>,
     metadata: &Metadata,
     sink: &mut S,
 ) -> Result<(), SinkFault>
-    ensures puts { Puts (S.taken sink.old) (S.taken sink.new) result (metadata_part (Some (plain_metadata metadata.now))) }
-    ensures fits { OnOk result (MetadataFits (plain_metadata metadata.now)) }
+    ensures writes { Writes (S.taken sink.old) (S.taken sink.new) result (metadata_part (Some (metadata_model metadata.now))) }
+    ensures fits { OnOk result (MetadataFits (metadata_model metadata.now)) }
     ensures failures { S.failures sink.new ≡ failures_after result (S.failures sink.old) }
 {
     bytes.clear();
     push_message(scratch, bytes, 1, metadata).map_err(|_| SinkFault::Memory)?;
-    put_all(sink, bytes)
+    write_fully(sink, bytes)
 }
 
 /// Encodes a document's record in the buffer and writes it. After an error the sink has taken a prefix of the record.
-fn put_document<S: Sink>(
+fn write_document<S: Sink>(
     scratch: &mut Scratch,
     bytes: &mut Vec<u8>,
     document: &Document,
     sink: &mut S,
 ) -> Result<(), SinkFault>
-    ensures puts { Puts (S.taken sink.old) (S.taken sink.new) result (document_part (plain_document document.now)) }
-    ensures fits { OnOk result (DocumentFits (plain_document document.now)) }
+    ensures writes { Writes (S.taken sink.old) (S.taken sink.new) result (document_part (document_model document.now)) }
+    ensures fits { OnOk result (DocumentFits (document_model document.now)) }
     ensures failures { S.failures sink.new ≡ failures_after result (S.failures sink.old) }
 {
     bytes.clear();
     push_message(scratch, bytes, 2, document).map_err(|_| SinkFault::Memory)?;
-    put_all(sink, bytes)
+    write_fully(sink, bytes)
 }
 
 /// Encodes the records of the external symbols in the buffer.
@@ -65,26 +65,26 @@ fn gather_externals(
     bytes: &mut Vec<u8>,
     externals: &[SymbolInfo],
 ) -> Result<(), AllocError>
-    ensures bytes { OnOk result (bytes.new.items ≡ externals_part (map plain_symbol externals.now)) }
-    ensures fits { OnOk result (AllByRecursion SymbolFits (map plain_symbol externals.now)) }
+    ensures bytes { OnOk result (bytes.new.items ≡ externals_part (map symbol_model externals.now)) }
+    ensures fits { OnOk result (AllByRecursion SymbolFits (map symbol_model externals.now)) }
 {
     bytes.clear();
-    put_messages(scratch, bytes, 3, externals)
+    write_messages(scratch, bytes, 3, externals)
 }
 
 /// Encodes the records of the external symbols in the buffer and writes them. After an error the sink has taken a prefix of the records.
-fn put_externals<S: Sink>(
+fn write_externals<S: Sink>(
     scratch: &mut Scratch,
     bytes: &mut Vec<u8>,
     externals: &[SymbolInfo],
     sink: &mut S,
 ) -> Result<(), SinkFault>
-    ensures puts { Puts (S.taken sink.old) (S.taken sink.new) result (externals_part (map plain_symbol externals.now)) }
-    ensures fits { OnOk result (AllByRecursion SymbolFits (map plain_symbol externals.now)) }
+    ensures writes { Writes (S.taken sink.old) (S.taken sink.new) result (externals_part (map symbol_model externals.now)) }
+    ensures fits { OnOk result (AllByRecursion SymbolFits (map symbol_model externals.now)) }
     ensures failures { S.failures sink.new ≡ failures_after result (S.failures sink.old) }
 {
     gather_externals(scratch, bytes, externals).map_err(|_| SinkFault::Memory)?;
-    put_all(sink, bytes)
+    write_fully(sink, bytes)
 }
 
 /// Writes an index to a sink by calls of `metadata`, `document` and `end`, in this order. The bytes of one document are in memory at a
@@ -94,7 +94,7 @@ fn put_externals<S: Sink>(
 #[derive(Drop)]
 pub struct IndexWriter {
     stage: Stage,
-    refusal: Option<SinkFault>,
+    error: Option<SinkFault>,
     scratch: Scratch,
     bytes: Vec<u8>,
 }
@@ -104,37 +104,37 @@ impl Model for IndexWriter {
 
     ghost Value = { WriterState };
 
-    ghost view = { λ w. record { stage = w.stage; refusal = w.refusal } };
+    ghost view = { λ w. record { stage = w.stage; error = w.error } };
 }
 
 impl IndexWriter {
     /// A writer that has written nothing. Allocates nothing.
     pub fn new(alloc: Global) -> Self
         // The writer is at stage `Fresh`, and hasn't failed.
-        ensures { result ≡ record { stage = Fresh; refusal = None } }
+        ensures { result ≡ record { stage = Fresh; error = None } }
     {
         IndexWriter {
             stage: Stage::Fresh,
-            refusal: None,
+            error: None,
             scratch: Scratch::new(alloc),
             bytes: Vec::new(alloc),
         }
     }
 
     /// Fails with the writer's error, if the writer has failed.
-    fn goes_on(&self) -> Result<(), WireFault>
-        ensures { result ≡ answer_of self.now.refusal }
+    fn ensure_ok(&self) -> Result<(), WireFault>
+        ensures { result ≡ answer_of self.now.error }
     {
-        match self.refusal {
+        match self.error {
             None => Ok(()),
-            Some(refusal) => Err(WireFault::from(refusal)),
+            Some(error) => Err(WireFault::from(error)),
         }
     }
 
     /// Advances to the next stage, or stores the error of a write.
-    fn keeps(&mut self, put: Result<(), SinkFault>, next: Stage) -> Result<(), WireFault>
-        requires { self.old.refusal ≡ None }
-        ensures kept { self.new ≡ after_put self.old put next }
+    fn store_error(&mut self, put: Result<(), SinkFault>, next: Stage) -> Result<(), WireFault>
+        requires { self.old.error ≡ None }
+        ensures retained { self.new ≡ after_write self.old put next }
         ensures answer { result ≡ answer_of (result_err put) }
     {
         match put {
@@ -142,9 +142,9 @@ impl IndexWriter {
                 self.stage = next;
                 Ok(())
             }
-            Err(refusal) => {
-                self.refusal = Some(refusal);
-                Err(WireFault::from(refusal))
+            Err(error) => {
+                self.error = Some(error);
+                Err(WireFault::from(error))
             }
         }
     }
@@ -155,21 +155,21 @@ impl IndexWriter {
         // The writer is at stage `Fresh`, or has failed.
         requires { MayCall self.old Fresh }
         // With `Ok` the sink took the whole record, otherwise a prefix of it.
-        ensures puts { IfNone self.old.refusal (PutsRecord (S.taken sink.old) (S.taken sink.new) result (metadata_part (Some (plain_metadata metadata.now)))) }
+        ensures writes { IfNone self.old.error (WritesRecord (S.taken sink.old) (S.taken sink.new) result (metadata_part (Some (metadata_model metadata.now)))) }
         // With `Ok` the numbers of the metadata fit their types and its strings are UTF-8, so the record can be decoded.
-        ensures fits { OnOk result (MetadataFits (plain_metadata metadata.now)) }
+        ensures fits { OnOk result (MetadataFits (metadata_model metadata.now)) }
         // If the writer hadn't failed before, the sink counts a failure if and only if the result is `Device`.
-        ensures failures { IfNone self.old.refusal (S.failures sink.new ≡ failures_by is_failure result (S.failures sink.old)) }
+        ensures failures { IfNone self.old.error (S.failures sink.new ≡ failures_by is_failure result (S.failures sink.old)) }
         // The result is the error that the writer now has, or `Ok` if it has none.
-        ensures kept { result ≡ answer_of self.new.refusal }
+        ensures retained { result ≡ answer_of self.new.error }
         // If the writer had failed before, the writer and the sink are unchanged.
-        ensures again { IfSome self.old.refusal (λ _. (self.new ≡ self.old) × (sink.new ≡ sink.old)) }
+        ensures again { IfSome self.old.error (λ _. (self.new ≡ self.old) × (sink.new ≡ sink.old)) }
         // With `Ok` the writer is at stage `Open`.
         ensures stage { OnOk result (self.new.stage ≡ Open) }
     {
-        self.goes_on()?;
-        let put = put_metadata(&mut self.scratch, &mut self.bytes, metadata, sink);
-        self.keeps(put, Stage::Open)
+        self.ensure_ok()?;
+        let put = write_metadata(&mut self.scratch, &mut self.bytes, metadata, sink);
+        self.store_error(put, Stage::Open)
     }
 
     /// Writes a document's record. This is called any number of times, after `metadata`.
@@ -178,21 +178,21 @@ impl IndexWriter {
         // The writer is at stage `Open`, or has failed.
         requires { MayCall self.old Open }
         // With `Ok` the sink took the whole record, otherwise a prefix of it.
-        ensures puts { IfNone self.old.refusal (PutsRecord (S.taken sink.old) (S.taken sink.new) result (document_part (plain_document document.now))) }
+        ensures writes { IfNone self.old.error (WritesRecord (S.taken sink.old) (S.taken sink.new) result (document_part (document_model document.now))) }
         // With `Ok` the numbers of the document fit their types and its strings are UTF-8, so the record can be decoded.
-        ensures fits { OnOk result (DocumentFits (plain_document document.now)) }
+        ensures fits { OnOk result (DocumentFits (document_model document.now)) }
         // If the writer hadn't failed before, the sink counts a failure if and only if the result is `Device`.
-        ensures failures { IfNone self.old.refusal (S.failures sink.new ≡ failures_by is_failure result (S.failures sink.old)) }
+        ensures failures { IfNone self.old.error (S.failures sink.new ≡ failures_by is_failure result (S.failures sink.old)) }
         // The result is the error that the writer now has, or `Ok` if it has none.
-        ensures kept { result ≡ answer_of self.new.refusal }
+        ensures retained { result ≡ answer_of self.new.error }
         // If the writer had failed before, the writer and the sink are unchanged.
-        ensures again { IfSome self.old.refusal (λ _. (self.new ≡ self.old) × (sink.new ≡ sink.old)) }
+        ensures again { IfSome self.old.error (λ _. (self.new ≡ self.old) × (sink.new ≡ sink.old)) }
         // With `Ok` the writer is at stage `Open`.
         ensures stage { OnOk result (self.new.stage ≡ Open) }
     {
-        self.goes_on()?;
-        let put = put_document(&mut self.scratch, &mut self.bytes, document, sink);
-        self.keeps(put, Stage::Open)
+        self.ensure_ok()?;
+        let put = write_document(&mut self.scratch, &mut self.bytes, document, sink);
+        self.store_error(put, Stage::Open)
     }
 
     /// Writes the records of the external symbols. This is the last call.
@@ -201,20 +201,20 @@ impl IndexWriter {
         // The writer is at stage `Open`, or has failed.
         requires { MayCall self.old Open }
         // With `Ok` the sink took all of the records, otherwise a prefix of them.
-        ensures puts { IfNone self.old.refusal (PutsRecord (S.taken sink.old) (S.taken sink.new) result (externals_part (map plain_symbol externals.now))) }
+        ensures writes { IfNone self.old.error (WritesRecord (S.taken sink.old) (S.taken sink.new) result (externals_part (map symbol_model externals.now))) }
         // With `Ok` the strings of the external symbols are UTF-8, so the records can be decoded.
-        ensures fits { OnOk result (AllByRecursion SymbolFits (map plain_symbol externals.now)) }
+        ensures fits { OnOk result (AllByRecursion SymbolFits (map symbol_model externals.now)) }
         // If the writer hadn't failed before, the sink counts a failure if and only if the result is `Device`.
-        ensures failures { IfNone self.old.refusal (S.failures sink.new ≡ failures_by is_failure result (S.failures sink.old)) }
+        ensures failures { IfNone self.old.error (S.failures sink.new ≡ failures_by is_failure result (S.failures sink.old)) }
         // The result is the error that the writer now has, or `Ok` if it has none.
-        ensures kept { result ≡ answer_of self.new.refusal }
+        ensures retained { result ≡ answer_of self.new.error }
         // If the writer had failed before, the writer and the sink are unchanged.
-        ensures again { IfSome self.old.refusal (λ _. (self.new ≡ self.old) × (sink.new ≡ sink.old)) }
+        ensures again { IfSome self.old.error (λ _. (self.new ≡ self.old) × (sink.new ≡ sink.old)) }
         // With `Ok` the writer is at stage `Ended`.
         ensures stage { OnOk result (self.new.stage ≡ Ended) }
     {
-        self.goes_on()?;
-        let put = put_externals(&mut self.scratch, &mut self.bytes, externals, sink);
-        self.keeps(put, Stage::Ended)
+        self.ensure_ok()?;
+        let put = write_externals(&mut self.scratch, &mut self.bytes, externals, sink);
+        self.store_error(put, Stage::Ended)
     }
 }

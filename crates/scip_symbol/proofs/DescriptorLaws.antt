@@ -8,16 +8,16 @@ use Rattle.scip_symbol.specs.declared.kind.DescriptorKind.TheVariants.{Namespace
 use Rattle.scip_symbol.specs.declared.fault.SymbolFault.{SymbolFault}
 use Rattle.scip_symbol.specs.declared.fault.SymbolFault.TheVariants as faults
 use Rattle.scip_symbol.specs.Bytes.{IsUnended}
-use Rattle.scip_symbol.specs.SymbolTexts.{PlainDescriptor, are_simple, before_name, closing, IsOfMethod, NameText, DescriptorText}
+use Rattle.scip_symbol.specs.SymbolTexts.{DescriptorModel, are_simple, before_name, closing, IsOfMethod, NameText, DescriptorText}
 use Rattle.scip_symbol.specs.Outcomes.{HasOpenQuote}
-use Rattle.scip_symbol.specs.Reading.{after_byte, after_bytes, simple_front, name_in_front, closed_at, method_at, kind_of, suffix_at, told_at, suffixed_behind, suffixed_at, bare_at, descriptor_behind, descriptor_at, ◌>>=◌}
+use Rattle.scip_symbol.specs.Reading.{after_byte, after_bytes, simple_prefix, first_name_at, closed_at, method_at, kind_of, suffix_at, one_byte_suffixed_at, suffixed_after_paren, suffixed_at, bare_at, descriptor_after_mark, descriptor_at, ◌>>=◌}
 use Rattle.scip_symbol.proofs.Answered.{ok_same, err_same}
 use Rattle.scip_symbol.proofs.TextCuts.{after_bytes_some}
 use Rattle.scip_symbol.proofs.Ends.{after_some}
 use Rattle.scip_symbol.proofs.Names.{EndsName, OpensQuote, name_takes, name_again, name_begins, name_open, name_fails, front_joins, front_simple, front-again}
 
 -- a descriptor that is read, with its text
-pub record IsRead (text : List ℕ) (x : PlainDescriptor × List ℕ) : Type 0 where
+pub record IsRead (text : List ℕ) (x : DescriptorModel × List ℕ) : Type 0 where
   pub first : List ℕ
   pub first_is : DescriptorText x.0 first
   pub split : text ≡ first ++ x.1
@@ -42,38 +42,38 @@ none_of kind = λ ne. refl
 after_word_some : (text rest : List ℕ) → after_bytes (codes ").") text ≡ Some rest → text ≡ 41 ∷ 46 ∷ rest
 after_word_some text rest e = after_bytes_some (codes ").") text rest e
 
-closed_takes : (at : ℕ) (kind : DescriptorKind) (close : ℕ) (inside : List ℕ) (x : PlainDescriptor × List ℕ) → closing kind [] ≡ close ∷ [] → closed_at at kind close inside ≡ Ok x → IsRead (before_name kind ++ inside) x
+closed_takes : (at : ℕ) (kind : DescriptorKind) (close : ℕ) (inside : List ℕ) (x : DescriptorModel × List ℕ) → closing kind [] ≡ close ∷ [] → closed_at at kind close inside ≡ Ok x → IsRead (before_name kind ++ inside) x
 unfolding closed_at
-closed_takes at kind close inside x same e = by_name (name_in_front at inside) refl e
+closed_takes at kind close inside x same e = by_name (first_name_at at inside) refl e
   where
-    by_rest : (n : List ℕ × List ℕ) (o : Option (List ℕ)) → name_in_front at inside ≡ Ok n → after_byte close n.1 ≡ o
+    by_rest : (n : List ℕ × List ℕ) (o : Option (List ℕ)) → first_name_at at inside ≡ Ok n → after_byte close n.1 ≡ o
         → ok_or o (faults.BadDescriptor at) >>= (λ rest. Ok (record { kind = kind; name = n.0; disambiguator = [] }, rest)) ≡ Ok x → IsRead (before_name kind ++ inside) x
     by_rest n None h s e = absurd cc
     by_rest n (Some rest) h s e =
         let t = name_takes at inside n h in
         let z : (record { kind = kind; name = n.0; disambiguator = [] }, rest) ≡ x = ok_same _ _ e in
         let r = read_as kind n.0 [] t.written n.1 rest t.written_is (none_of kind) refl (after_some close n.1 rest s ∙ ap (λ (xs : List ℕ). xs ++ rest) (sym same)) in
-        subst (λ (v : PlainDescriptor × List ℕ). IsRead (before_name kind ++ inside) v) z
+        subst (λ (v : DescriptorModel × List ℕ). IsRead (before_name kind ++ inside) v) z
         (subst (λ (xs : List ℕ). IsRead xs (record { kind = kind; name = n.0; disambiguator = [] }, rest)) (append_assoc (before_name kind) t.written n.1 ∙ ap (λ (xs : List ℕ). before_name kind ++ xs) (sym t.split)) r)
 
-    by_name : (o : Result (List ℕ × List ℕ) SymbolFault) → name_in_front at inside ≡ o
+    by_name : (o : Result (List ℕ × List ℕ) SymbolFault) → first_name_at at inside ≡ o
         → o >>= (λ n. ok_or (after_byte close n.1) (faults.BadDescriptor at) >>= (λ rest. Ok (record { kind = kind; name = n.0; disambiguator = [] }, rest))) ≡ Ok x → IsRead (before_name kind ++ inside) x
     by_name (Err fault) h e = absurd cc
     by_name (Ok n) h e = by_rest n (after_byte close n.1) h refl e
 
-method_takes : (at : ℕ) (name written inside : List ℕ) (x : PlainDescriptor × List ℕ) → NameText name written → method_at at name inside ≡ Ok x → IsRead (written ++ 40 ∷ inside) x
+method_takes : (at : ℕ) (name written inside : List ℕ) (x : DescriptorModel × List ℕ) → NameText name written → method_at at name inside ≡ Ok x → IsRead (written ++ 40 ∷ inside) x
 unfolding method_at
-method_takes at name written inside x t e = go (after_bytes (codes ").") (simple_front inside).1) refl e
+method_takes at name written inside x t e = go (after_bytes (codes ").") (simple_prefix inside).1) refl e
   where
-    go : (o : Option (List ℕ)) → after_bytes (codes ").") (simple_front inside).1 ≡ o
-        → ok_or o (faults.BadDescriptor at) >>= (λ rest. Ok (record { kind = Method; name = name; disambiguator = (simple_front inside).0 }, rest)) ≡ Ok x → IsRead (written ++ 40 ∷ inside) x
+    go : (o : Option (List ℕ)) → after_bytes (codes ").") (simple_prefix inside).1 ≡ o
+        → ok_or o (faults.BadDescriptor at) >>= (λ rest. Ok (record { kind = Method; name = name; disambiguator = (simple_prefix inside).0 }, rest)) ≡ Ok x → IsRead (written ++ 40 ∷ inside) x
     go None s e = absurd cc
     go (Some rest) s e =
-        let z : (record { kind = Method; name = name; disambiguator = (simple_front inside).0 }, rest) ≡ x = ok_same _ _ e in
-        let split : inside ≡ (simple_front inside).0 ++ 41 ∷ 46 ∷ rest = front_joins inside ∙ ap (λ (xs : List ℕ). (simple_front inside).0 ++ xs) (after_word_some (simple_front inside).1 rest s) in
-        let whole : 40 ∷ inside ≡ closing Method (simple_front inside).0 ++ rest = ap (λ (xs : List ℕ). 40 ∷ xs) (split ∙ sym (append_assoc (simple_front inside).0 (codes ").") rest)) in
-        subst (λ (v : PlainDescriptor × List ℕ). IsRead (written ++ 40 ∷ inside) v) z
-        (read_as Method name (simple_front inside).0 written (40 ∷ inside) rest t (λ ne. absurd (ne refl)) (front_simple inside) whole)
+        let z : (record { kind = Method; name = name; disambiguator = (simple_prefix inside).0 }, rest) ≡ x = ok_same _ _ e in
+        let split : inside ≡ (simple_prefix inside).0 ++ 41 ∷ 46 ∷ rest = front_joins inside ∙ ap (λ (xs : List ℕ). (simple_prefix inside).0 ++ xs) (after_word_some (simple_prefix inside).1 rest s) in
+        let whole : 40 ∷ inside ≡ closing Method (simple_prefix inside).0 ++ rest = ap (λ (xs : List ℕ). 40 ∷ xs) (split ∙ sym (append_assoc (simple_prefix inside).0 (codes ").") rest)) in
+        subst (λ (v : DescriptorModel × List ℕ). IsRead (written ++ 40 ∷ inside) v) z
+        (read_as Method name (simple_prefix inside).0 written (40 ∷ inside) rest t (λ ne. absurd (ne refl)) (front_simple inside) whole)
 
 -- the byte behind a name of this kind, and what stands before one
 pub record IsTold (b : ℕ) (kind : DescriptorKind) : Type 0 where
@@ -105,8 +105,8 @@ told_is b kind e =
 abbrev with_rest : List ℕ → DescriptorKind → DescriptorKind × List ℕ
 with_rest rest kind = (kind, rest)
 
-told_takes : (at : ℕ) (name written text : List ℕ) (x : PlainDescriptor × List ℕ) → NameText name written → told_at at name text ≡ Ok x → IsRead (written ++ text) x
-unfolding told_at
+told_takes : (at : ℕ) (name written text : List ℕ) (x : DescriptorModel × List ℕ) → NameText name written → one_byte_suffixed_at at name text ≡ Ok x → IsRead (written ++ text) x
+unfolding one_byte_suffixed_at
 told_takes at name written [] x t e = absurd cc
 told_takes at name written (b ∷ rest) x t e = go (kind_of b) refl e
   where
@@ -117,32 +117,32 @@ told_takes at name written (b ∷ rest) x t e = go (kind_of b) refl e
         let z : (record { kind = kind; name = name; disambiguator = [] }, rest) ≡ x = ok_same _ _ e in
         let is = told_is b kind s in
         let r = read_as kind name [] written (b ∷ rest) rest t (none_of kind) refl (ap (λ (xs : List ℕ). xs ++ rest) (sym is.closes)) in
-        subst (λ (v : PlainDescriptor × List ℕ). IsRead (written ++ b ∷ rest) v) z
+        subst (λ (v : DescriptorModel × List ℕ). IsRead (written ++ b ∷ rest) v) z
         (subst (λ (xs : List ℕ). IsRead (xs ++ written ++ b ∷ rest) (record { kind = kind; name = name; disambiguator = [] }, rest)) is.opens r)
 
-suffixed_takes : (at : ℕ) (name written text : List ℕ) (x : PlainDescriptor × List ℕ) → NameText name written → suffixed_at at name text ≡ Ok x → IsRead (written ++ text) x
+suffixed_takes : (at : ℕ) (name written text : List ℕ) (x : DescriptorModel × List ℕ) → NameText name written → suffixed_at at name text ≡ Ok x → IsRead (written ++ text) x
 unfolding suffixed_at
 suffixed_takes at name written text x t e = go (after_byte 40 text) refl e
   where
-    go : (o : Option (List ℕ)) → after_byte 40 text ≡ o → suffixed_behind at name o text ≡ Ok x → IsRead (written ++ text) x
+    go : (o : Option (List ℕ)) → after_byte 40 text ≡ o → suffixed_after_paren at name o text ≡ Ok x → IsRead (written ++ text) x
     go None s e = told_takes at name written text x t e
     go (Some inside) s e = subst (λ (xs : List ℕ). IsRead (written ++ xs) x) (sym (after_some 40 text inside s)) (method_takes at name written inside x t e)
 
-bare_takes : (at : ℕ) (text : List ℕ) (x : PlainDescriptor × List ℕ) → bare_at at text ≡ Ok x → IsRead text x
+bare_takes : (at : ℕ) (text : List ℕ) (x : DescriptorModel × List ℕ) → bare_at at text ≡ Ok x → IsRead text x
 unfolding bare_at
-bare_takes at text x e = go (name_in_front at text) refl e
+bare_takes at text x e = go (first_name_at at text) refl e
   where
-    go : (o : Result (List ℕ × List ℕ) SymbolFault) → name_in_front at text ≡ o → o >>= (λ n. suffixed_at at n.0 n.1) ≡ Ok x → IsRead text x
+    go : (o : Result (List ℕ × List ℕ) SymbolFault) → first_name_at at text ≡ o → o >>= (λ n. suffixed_at at n.0 n.1) ≡ Ok x → IsRead text x
     go (Err fault) s e = absurd cc
     go (Ok n) s e =
         let t = name_takes at text n s in
         subst (λ (xs : List ℕ). IsRead xs x) (sym t.split) (suffixed_takes at n.0 t.written n.1 x t.written_is e)
 
-pub read_of : (at : ℕ) (text : List ℕ) (x : PlainDescriptor × List ℕ) → descriptor_at at text ≡ Ok x → IsRead text x
+pub read_of : (at : ℕ) (text : List ℕ) (x : DescriptorModel × List ℕ) → descriptor_at at text ≡ Ok x → IsRead text x
 unfolding descriptor_at
 read_of at text x e = go (after_byte 91 text) (after_byte 40 text) refl refl e
   where
-    go : (o p : Option (List ℕ)) → after_byte 91 text ≡ o → after_byte 40 text ≡ p → descriptor_behind at o p text ≡ Ok x → IsRead text x
+    go : (o p : Option (List ℕ)) → after_byte 91 text ≡ o → after_byte 40 text ≡ p → descriptor_after_mark at o p text ≡ Ok x → IsRead text x
     go None None s r e = bare_takes at text x e
     go None (Some inside) s r e = subst (λ (xs : List ℕ). IsRead xs x) (sym (after_some 40 text inside r)) (closed_takes at Parameter 41 inside x refl e)
     go (Some inside) p s r e = subst (λ (xs : List ℕ). IsRead xs x) (sym (after_some 91 text inside s)) (closed_takes at TypeParameter 93 inside x refl e)
@@ -157,11 +157,11 @@ closing_some Macro dis = omega arith
 closing_some TypeParameter dis = omega arith
 closing_some Parameter dis = omega arith
 
-pub descriptor_some : (d : PlainDescriptor) (first : List ℕ) → DescriptorText d first → 0 < length first
+pub descriptor_some : (d : DescriptorModel) (first : List ℕ) → DescriptorText d first → 0 < length first
 descriptor_some d first t =
     omega (arith, ap length t.whole, length-append (before_name d.kind ++ t.name) (closing d.kind d.disambiguator), closing_some d.kind d.disambiguator)
 
-pub descriptor_shortens : (at : ℕ) (text : List ℕ) (d : PlainDescriptor) (rest : List ℕ) → descriptor_at at text ≡ Ok (d, rest) → length rest < length text
+pub descriptor_shortens : (at : ℕ) (text : List ℕ) (d : DescriptorModel) (rest : List ℕ) → descriptor_at at text ≡ Ok (d, rest) → length rest < length text
 descriptor_shortens at text d rest e =
     let r = read_of at text (d, rest) e in
     omega (arith, descriptor_some d r.first r.first_is, ap length r.split, length-append r.first rest)
@@ -178,7 +178,7 @@ bare_first at name written rest t = rw (name_begins 91 name written rest refl (e
 
 told_again : (at : ℕ) (kind : DescriptorKind) (b : ℕ) (name written others : List ℕ) → NameText name written → EndsName (b ∷ others) → after_byte 40 (b ∷ others) ≡ None → kind_of b ≡ Some kind
     → descriptor_at at (written ++ b ∷ others) ≡ Ok (record { kind = kind; name = name; disambiguator = [] }, others)
-unfolding suffixed_at told_at
+unfolding suffixed_at one_byte_suffixed_at
 told_again at kind b name written others t h n k = bare_first at name written (b ∷ others) t ∙ after_name at kind name written (b ∷ others) t h ∙ rw (n, k) refl
 
 method_again : (at : ℕ) (name disambiguator written others : List ℕ) → NameText name written → are_simple disambiguator ≡ true
@@ -234,7 +234,7 @@ parts_again at kind name disambiguator written others t m s =
     ]
 
 -- a descriptor that is written is read again, whatever follows it
-pub descriptor_again : (at : ℕ) (d : PlainDescriptor) (first others : List ℕ) → DescriptorText d first → descriptor_at at (first ++ others) ≡ Ok (d, others)
+pub descriptor_again : (at : ℕ) (d : DescriptorModel) (first others : List ℕ) → DescriptorText d first → descriptor_at at (first ++ others) ≡ Ok (d, others)
 descriptor_again at d first others t =
     ap (λ (xs : List ℕ). descriptor_at at (xs ++ others)) t.whole
     ∙ ap (descriptor_at at) (append_assoc (before_name d.kind ++ t.name) (closing d.kind d.disambiguator) others ∙ append_assoc (before_name d.kind) t.name (closing d.kind d.disambiguator ++ others))
@@ -263,7 +263,7 @@ opening_open at Parameter inside u = closed_open at Parameter 41 inside u
 
 -- a name with an open quote is refused
 pub descriptor_open : (at : ℕ) (rest : List ℕ) → HasOpenQuote rest → descriptor_at at rest ≡ Err faults.OpenQuote
-descriptor_open at rest q = ap (descriptor_at at) q.there ∙ opening_open at q.kind q.inside q.open_is
+descriptor_open at rest q = ap (descriptor_at at) q.begins ∙ opening_open at q.kind q.inside q.open_is
 
 -- what is wrong with a text that begins with no descriptor
 abbrev pub IsWrong : ℕ → List ℕ → SymbolFault → Type 0
@@ -271,15 +271,15 @@ IsWrong at rest e = (e ≡ faults.BadDescriptor at) ⊎ ((e ≡ faults.OpenQuote
 
 open_behind : (at : ℕ) (kind : DescriptorKind) (inside text : List ℕ) (e : SymbolFault) → text ≡ before_name kind ++ inside → (e ≡ faults.BadDescriptor at) ⊎ ((e ≡ faults.OpenQuote) × OpensQuote inside) → IsWrong at text e
 open_behind at kind inside text e s (inl b) = inl b
-open_behind at kind inside text e s (inr q) = inr (q.0, record { kind = kind; inside = q.1.inside; there = s ∙ ap (λ (xs : List ℕ). before_name kind ++ xs) q.1.there; open_is = q.1.open_is })
+open_behind at kind inside text e s (inr q) = inr (q.0, record { kind = kind; inside = q.1.inside; begins = s ∙ ap (λ (xs : List ℕ). before_name kind ++ xs) q.1.begins; open_is = q.1.open_is })
 
-abbrev closes_to : DescriptorKind → List ℕ → List ℕ → PlainDescriptor × List ℕ
+abbrev closes_to : DescriptorKind → List ℕ → List ℕ → DescriptorModel × List ℕ
 closes_to kind name rest = (record { kind = kind; name = name; disambiguator = [] }, rest)
 
-abbrev told_as : List ℕ → DescriptorKind × List ℕ → PlainDescriptor × List ℕ
+abbrev told_as : List ℕ → DescriptorKind × List ℕ → DescriptorModel × List ℕ
 told_as name x = (record { kind = x.0; name = name; disambiguator = [] }, x.1)
 
-abbrev method_as : List ℕ → List ℕ → List ℕ → PlainDescriptor × List ℕ
+abbrev method_as : List ℕ → List ℕ → List ℕ → DescriptorModel × List ℕ
 method_as name disambiguator rest = (record { kind = Method; name = name; disambiguator = disambiguator }, rest)
 
 missing : {A B : Type 0} (o : Option A) (d e : SymbolFault) (f : A → B) → ok_or o d >>= (λ x. Ok (f x)) ≡ Err e → e ≡ d
@@ -288,27 +288,27 @@ missing (Some x) d e f h = absurd cc
 
 closed_fails : (at : ℕ) (kind : DescriptorKind) (close : ℕ) (inside : List ℕ) (e : SymbolFault) → closed_at at kind close inside ≡ Err e → (e ≡ faults.BadDescriptor at) ⊎ ((e ≡ faults.OpenQuote) × OpensQuote inside)
 unfolding closed_at
-closed_fails at kind close inside e h = go (name_in_front at inside) refl h
+closed_fails at kind close inside e h = go (first_name_at at inside) refl h
   where
-    go : (o : Result (List ℕ × List ℕ) SymbolFault) → name_in_front at inside ≡ o
+    go : (o : Result (List ℕ × List ℕ) SymbolFault) → first_name_at at inside ≡ o
         → o >>= (λ n. ok_or (after_byte close n.1) (faults.BadDescriptor at) >>= (λ rest. Ok (closes_to kind n.0 rest))) ≡ Err e
         → (e ≡ faults.BadDescriptor at) ⊎ ((e ≡ faults.OpenQuote) × OpensQuote inside)
     go (Err fault) s h = name_fails at inside e (s ∙ err_as fault e h)
     go (Ok n) s h = inl (missing (after_byte close n.1) (faults.BadDescriptor at) e (closes_to kind n.0) h)
 
 suffixed_fails : (at : ℕ) (name text : List ℕ) (e : SymbolFault) → suffixed_at at name text ≡ Err e → e ≡ faults.BadDescriptor at
-unfolding suffixed_at told_at method_at
+unfolding suffixed_at one_byte_suffixed_at method_at
 suffixed_fails at name text e h = go (after_byte 40 text) h
   where
-    go : (o : Option (List ℕ)) → suffixed_behind at name o text ≡ Err e → e ≡ faults.BadDescriptor at
+    go : (o : Option (List ℕ)) → suffixed_after_paren at name o text ≡ Err e → e ≡ faults.BadDescriptor at
     go None h = missing (suffix_at text) (faults.BadDescriptor at) e (told_as name) h
-    go (Some inside) h = missing (after_bytes (codes ").") (simple_front inside).1) (faults.BadDescriptor at) e (method_as name (simple_front inside).0) h
+    go (Some inside) h = missing (after_bytes (codes ").") (simple_prefix inside).1) (faults.BadDescriptor at) e (method_as name (simple_prefix inside).0) h
 
 bare_fails : (at : ℕ) (text : List ℕ) (e : SymbolFault) → bare_at at text ≡ Err e → IsWrong at text e
 unfolding bare_at
-bare_fails at text e h = go (name_in_front at text) refl h
+bare_fails at text e h = go (first_name_at at text) refl h
   where
-    go : (o : Result (List ℕ × List ℕ) SymbolFault) → name_in_front at text ≡ o → o >>= (λ n. suffixed_at at n.0 n.1) ≡ Err e → IsWrong at text e
+    go : (o : Result (List ℕ × List ℕ) SymbolFault) → first_name_at at text ≡ o → o >>= (λ n. suffixed_at at n.0 n.1) ≡ Err e → IsWrong at text e
     go (Err fault) s h = open_behind at Term text text e refl (name_fails at text e (s ∙ err_as fault e h))
     go (Ok n) s h = inl (suffixed_fails at n.0 n.1 e h)
 
@@ -316,7 +316,7 @@ pub descriptor_fails : (at : ℕ) (text : List ℕ) (e : SymbolFault) → descri
 unfolding descriptor_at
 descriptor_fails at text e h = go (after_byte 91 text) (after_byte 40 text) refl refl h
   where
-    go : (o p : Option (List ℕ)) → after_byte 91 text ≡ o → after_byte 40 text ≡ p → descriptor_behind at o p text ≡ Err e → IsWrong at text e
+    go : (o p : Option (List ℕ)) → after_byte 91 text ≡ o → after_byte 40 text ≡ p → descriptor_after_mark at o p text ≡ Err e → IsWrong at text e
     go None None s r h = bare_fails at text e h
     go None (Some inside) s r h = open_behind at Parameter inside text e (after_some 40 text inside r) (closed_fails at Parameter 41 inside e h)
     go (Some inside) p s r h = open_behind at TypeParameter inside text e (after_some 91 text inside s) (closed_fails at TypeParameter 93 inside e h)

@@ -10,37 +10,37 @@ use Rattle.scip_symbol.specs.Reading.{after_byte, ended_by}
 
 -- ---- one step
 
-pub ended-end : (mark : ℕ) (rest : List ℕ) → IsNotFirst mark rest → ended_by mark (mark ∷ rest) ≡ Some ([], rest)
+pub ended-end : (delimiter : ℕ) (rest : List ℕ) → IsNotFirst delimiter rest → ended_by delimiter (delimiter ∷ rest) ≡ Some ([], rest)
 unfolding ended_by
-ended-end mark [] h = rw (eq-eqb mark mark refl) refl
-ended-end mark (c ∷ more) h = rw (eq-eqb mark mark refl, ne_eqb c mark h) refl
+ended-end delimiter [] h = rw (eq-eqb delimiter delimiter refl) refl
+ended-end delimiter (c ∷ more) h = rw (eq-eqb delimiter delimiter refl, ne_eqb c delimiter h) refl
 
-pub ended-pair : (mark : ℕ) (more : List ℕ) → ended_by mark (mark ∷ mark ∷ more) ≡ option_map (with_first mark) (ended_by mark more)
+pub ended-pair : (delimiter : ℕ) (more : List ℕ) → ended_by delimiter (delimiter ∷ delimiter ∷ more) ≡ option_map (with_first delimiter) (ended_by delimiter more)
 unfolding ended_by
-ended-pair mark more = rw (eq-eqb mark mark refl) refl
+ended-pair delimiter more = rw (eq-eqb delimiter delimiter refl) refl
 
-pub ended-byte : (mark b : ℕ) (bytes : List ℕ) → b ≢ mark → ended_by mark (b ∷ bytes) ≡ option_map (with_first b) (ended_by mark bytes)
+pub ended-byte : (delimiter b : ℕ) (bytes : List ℕ) → b ≢ delimiter → ended_by delimiter (b ∷ bytes) ≡ option_map (with_first b) (ended_by delimiter bytes)
 unfolding ended_by
-ended-byte mark b [] ne = rw (ne_eqb b mark ne) refl
-ended-byte mark b (c ∷ more) ne = rw (ne_eqb b mark ne) refl
+ended-byte delimiter b [] ne = rw (ne_eqb b delimiter ne) refl
+ended-byte delimiter b (c ∷ more) ne = rw (ne_eqb b delimiter ne) refl
 
-pub doubled-mark : (mark : ℕ) (part : List ℕ) → doubled mark (mark ∷ part) ≡ mark ∷ mark ∷ doubled mark part
-doubled-mark mark part = rw (eq-eqb mark mark refl) refl
+pub doubled-delimiter : (delimiter : ℕ) (part : List ℕ) → doubled delimiter (delimiter ∷ part) ≡ delimiter ∷ delimiter ∷ doubled delimiter part
+doubled-delimiter delimiter part = rw (eq-eqb delimiter delimiter refl) refl
 
-pub doubled-byte : (mark b : ℕ) (part : List ℕ) → b ≢ mark → doubled mark (b ∷ part) ≡ b ∷ doubled mark part
-doubled-byte mark b part ne = rw (ne_eqb b mark ne) refl
+pub doubled-byte : (delimiter b : ℕ) (part : List ℕ) → b ≢ delimiter → doubled delimiter (b ∷ part) ≡ b ∷ doubled delimiter part
+doubled-byte delimiter b part ne = rw (ne_eqb b delimiter ne) refl
 
 -- ---- whole parts
 
 -- a part that is written is read again
-pub ended-again : (mark : ℕ) (part rest : List ℕ) → IsNotFirst mark rest → ended_by mark (doubled mark part ++ mark ∷ rest) ≡ Some (part, rest)
-ended-again mark [] rest h = ended-end mark rest h
-ended-again mark (b ∷ part) rest h =
-    elim (cases_eq b mark) [
-      | inl e ↦ subst (λ (x : ℕ). ended_by mark (doubled mark (x ∷ part) ++ mark ∷ rest) ≡ Some (x ∷ part, rest)) (sym e)
-          (ap (λ (xs : List ℕ). ended_by mark (xs ++ mark ∷ rest)) (doubled-mark mark part) ∙ ended-pair mark (doubled mark part ++ mark ∷ rest) ∙ ap (option_map (with_first mark)) (ended-again mark part rest h))
-      | inr ne ↦ ap (λ (xs : List ℕ). ended_by mark (xs ++ mark ∷ rest)) (doubled-byte mark b part ne)
-          ∙ ended-byte mark b (doubled mark part ++ mark ∷ rest) ne ∙ ap (option_map (with_first b)) (ended-again mark part rest h)
+pub ended-again : (delimiter : ℕ) (part rest : List ℕ) → IsNotFirst delimiter rest → ended_by delimiter (doubled delimiter part ++ delimiter ∷ rest) ≡ Some (part, rest)
+ended-again delimiter [] rest h = ended-end delimiter rest h
+ended-again delimiter (b ∷ part) rest h =
+    elim (cases_eq b delimiter) [
+      | inl e ↦ subst (λ (x : ℕ). ended_by delimiter (doubled delimiter (x ∷ part) ++ delimiter ∷ rest) ≡ Some (x ∷ part, rest)) (sym e)
+          (ap (λ (xs : List ℕ). ended_by delimiter (xs ++ delimiter ∷ rest)) (doubled-delimiter delimiter part) ∙ ended-pair delimiter (doubled delimiter part ++ delimiter ∷ rest) ∙ ap (option_map (with_first delimiter)) (ended-again delimiter part rest h))
+      | inr ne ↦ ap (λ (xs : List ℕ). ended_by delimiter (xs ++ delimiter ∷ rest)) (doubled-byte delimiter b part ne)
+          ∙ ended-byte delimiter b (doubled delimiter part ++ delimiter ∷ rest) ne ∙ ap (option_map (with_first b)) (ended-again delimiter part rest h)
     ]
 
 pub mapped_some : (b : ℕ) (o : Option (List ℕ × List ℕ)) (x : List ℕ × List ℕ) → option_map (with_first b) o ≡ Some x → (y : List ℕ × List ℕ) × (o ≡ Some y) × (with_first b y ≡ x)
@@ -51,56 +51,56 @@ pub mapped_none : (b : ℕ) (o : Option (List ℕ × List ℕ)) → option_map (
 mapped_none b None e = refl
 mapped_none b (Some x) e = absurd cc
 
-with_pair : (mark : ℕ) (more : List ℕ) (y : List ℕ × List ℕ) → IsEnded mark more y.0 y.1 → IsEnded mark (mark ∷ mark ∷ more) (mark ∷ y.0) y.1
-with_pair mark more y i = record {
-  whole = ap (λ (xs : List ℕ). mark ∷ mark ∷ xs) i.whole ∙ ap (λ (xs : List ℕ). xs ++ mark ∷ y.1) (sym (doubled-mark mark y.0));
+with_pair : (delimiter : ℕ) (more : List ℕ) (y : List ℕ × List ℕ) → IsEnded delimiter more y.0 y.1 → IsEnded delimiter (delimiter ∷ delimiter ∷ more) (delimiter ∷ y.0) y.1
+with_pair delimiter more y i = record {
+  whole = ap (λ (xs : List ℕ). delimiter ∷ delimiter ∷ xs) i.whole ∙ ap (λ (xs : List ℕ). xs ++ delimiter ∷ y.1) (sym (doubled-delimiter delimiter y.0));
   next = i.next;
 }
 
-with_byte : (mark b : ℕ) (more : List ℕ) (y : List ℕ × List ℕ) → b ≢ mark → IsEnded mark more y.0 y.1 → IsEnded mark (b ∷ more) (b ∷ y.0) y.1
-with_byte mark b more y ne i = record {
-  whole = ap (λ (xs : List ℕ). b ∷ xs) i.whole ∙ ap (λ (xs : List ℕ). xs ++ mark ∷ y.1) (sym (doubled-byte mark b y.0 ne));
+with_byte : (delimiter b : ℕ) (more : List ℕ) (y : List ℕ × List ℕ) → b ≢ delimiter → IsEnded delimiter more y.0 y.1 → IsEnded delimiter (b ∷ more) (b ∷ y.0) y.1
+with_byte delimiter b more y ne i = record {
+  whole = ap (λ (xs : List ℕ). b ∷ xs) i.whole ∙ ap (λ (xs : List ℕ). xs ++ delimiter ∷ y.1) (sym (doubled-byte delimiter b y.0 ne));
   next = i.next;
 }
 
 -- what is read as a part is written so
-pub ended-said : (mark : ℕ) (text : List ℕ) (x : List ℕ × List ℕ) → ended_by mark text ≡ Some x → IsEnded mark text x.0 x.1
+pub ended-said : (delimiter : ℕ) (text : List ℕ) (x : List ℕ × List ℕ) → ended_by delimiter text ≡ Some x → IsEnded delimiter text x.0 x.1
 unfolding ended_by
-ended-said mark [] x e = absurd cc
-ended-said mark (b ∷ []) x e =
-    elim (cases_eq b mark) [
-      | inl s ↦ let y : Some ([], []) ≡ Some x = rw (eq-eqb b mark s) at e in
+ended-said delimiter [] x e = absurd cc
+ended-said delimiter (b ∷ []) x e =
+    elim (cases_eq b delimiter) [
+      | inl s ↦ let y : Some ([], []) ≡ Some x = rw (eq-eqb b delimiter s) at e in
           let z : ([], []) ≡ x = cc in
-          subst (λ (v : List ℕ × List ℕ). IsEnded mark (b ∷ []) v.0 v.1) z (record { whole = ap (λ (n : ℕ). n ∷ []) s; next = tt })
-      | inr ne ↦ absurd (let y = rw (ne_eqb b mark ne) at e in cc)
+          subst (λ (v : List ℕ × List ℕ). IsEnded delimiter (b ∷ []) v.0 v.1) z (record { whole = ap (λ (n : ℕ). n ∷ []) s; next = tt })
+      | inr ne ↦ absurd (let y = rw (ne_eqb b delimiter ne) at e in cc)
     ]
-ended-said mark (b ∷ c ∷ more) x e =
-    elim (cases_eq b mark) [
-      | inl s ↦ elim (cases_eq c mark) [
-        | inl t ↦ let m = mapped_some mark (ended_by mark more) x (rw (eq-eqb b mark s, eq-eqb c mark t) at e) in
-            let whole : mark ∷ mark ∷ more ≡ b ∷ c ∷ more = cc in
-            subst (λ (v : List ℕ × List ℕ). IsEnded mark (b ∷ c ∷ more) v.0 v.1) m.2
-            (subst (λ (text : List ℕ). IsEnded mark text (mark ∷ m.0.0) m.0.1) whole (with_pair mark more m.0 (ended-said mark more m.0 m.1)))
-        | inr nt ↦ let y = rw (eq-eqb b mark s, ne_eqb c mark nt) at e in
+ended-said delimiter (b ∷ c ∷ more) x e =
+    elim (cases_eq b delimiter) [
+      | inl s ↦ elim (cases_eq c delimiter) [
+        | inl t ↦ let m = mapped_some delimiter (ended_by delimiter more) x (rw (eq-eqb b delimiter s, eq-eqb c delimiter t) at e) in
+            let whole : delimiter ∷ delimiter ∷ more ≡ b ∷ c ∷ more = cc in
+            subst (λ (v : List ℕ × List ℕ). IsEnded delimiter (b ∷ c ∷ more) v.0 v.1) m.2
+            (subst (λ (text : List ℕ). IsEnded delimiter text (delimiter ∷ m.0.0) m.0.1) whole (with_pair delimiter more m.0 (ended-said delimiter more m.0 m.1)))
+        | inr nt ↦ let y = rw (eq-eqb b delimiter s, ne_eqb c delimiter nt) at e in
             let z : ([], c ∷ more) ≡ x = cc in
-            subst (λ (v : List ℕ × List ℕ). IsEnded mark (b ∷ c ∷ more) v.0 v.1) z (record { whole = ap (λ (n : ℕ). n ∷ c ∷ more) s; next = nt })
+            subst (λ (v : List ℕ × List ℕ). IsEnded delimiter (b ∷ c ∷ more) v.0 v.1) z (record { whole = ap (λ (n : ℕ). n ∷ c ∷ more) s; next = nt })
       ]
-      | inr ne ↦ let m = mapped_some b (ended_by mark (c ∷ more)) x (rw (ne_eqb b mark ne) at e) in
-          subst (λ (v : List ℕ × List ℕ). IsEnded mark (b ∷ c ∷ more) v.0 v.1) m.2 (with_byte mark b (c ∷ more) m.0 ne (ended-said mark (c ∷ more) m.0 m.1))
+      | inr ne ↦ let m = mapped_some b (ended_by delimiter (c ∷ more)) x (rw (ne_eqb b delimiter ne) at e) in
+          subst (λ (v : List ℕ × List ℕ). IsEnded delimiter (b ∷ c ∷ more) v.0 v.1) m.2 (with_byte delimiter b (c ∷ more) m.0 ne (ended-said delimiter (c ∷ more) m.0 m.1))
     ]
 
-pub ended-is : (mark : ℕ) (text part rest : List ℕ) → IsEnded mark text part rest → ended_by mark text ≡ Some (part, rest)
-ended-is mark text part rest i = ap (ended_by mark) i.whole ∙ ended-again mark part rest i.next
+pub ended-is : (delimiter : ℕ) (text part rest : List ℕ) → IsEnded delimiter text part rest → ended_by delimiter text ≡ Some (part, rest)
+ended-is delimiter text part rest i = ap (ended_by delimiter) i.whole ∙ ended-again delimiter part rest i.next
 
-pub unended : (mark : ℕ) (text : List ℕ) → ended_by mark text ≡ None → IsUnended mark text
-unended mark text e part rest i = none-some (part, rest) (sym e ∙ ended-is mark text part rest i)
+pub unended : (delimiter : ℕ) (text : List ℕ) → ended_by delimiter text ≡ None → IsUnended delimiter text
+unended delimiter text e part rest i = none-some (part, rest) (sym e ∙ ended-is delimiter text part rest i)
 
-pub unended-none : (mark : ℕ) (text : List ℕ) → IsUnended mark text → ended_by mark text ≡ None
-unended-none mark text u = go (ended_by mark text) refl
+pub unended-none : (delimiter : ℕ) (text : List ℕ) → IsUnended delimiter text → ended_by delimiter text ≡ None
+unended-none delimiter text u = go (ended_by delimiter text) refl
   where
-    go : (o : Option (List ℕ × List ℕ)) → ended_by mark text ≡ o → o ≡ None
+    go : (o : Option (List ℕ × List ℕ)) → ended_by delimiter text ≡ o → o ≡ None
     go None e = refl
-    go (Some x) e = absurd (u x.0 x.1 (ended-said mark text x e))
+    go (Some x) e = absurd (u x.0 x.1 (ended-said delimiter text x e))
 
 -- ---- by the first such byte
 
@@ -123,74 +123,74 @@ front_front : (xs ys : List ℕ) (o : Option (List ℕ × List ℕ)) → option_
 front_front xs ys None = refl
 front_front xs ys (Some x) = ap (λ (t : List ℕ). Some (t, x.1)) (sym (append_assoc xs ys x.0))
 
-cut_none : (mark : ℕ) (text : List ℕ) → cut_at mark text ≡ None → ended_by mark text ≡ None
+cut_none : (delimiter : ℕ) (text : List ℕ) → cut_at delimiter text ≡ None → ended_by delimiter text ≡ None
 unfolding cut_at ended_by
-cut_none mark [] e = refl
-cut_none mark (b ∷ text) e =
-    elim (cases_eq b mark) [
-      | inl s ↦ absurd (let y = rw (eq-eqb b mark s) at e in cc)
-      | inr ne ↦ ended-byte mark b text ne ∙ ap (option_map (with_first b)) (cut_none mark text (mapped_none b (cut_at mark text) (rw (ne_eqb b mark ne) at e)))
+cut_none delimiter [] e = refl
+cut_none delimiter (b ∷ text) e =
+    elim (cases_eq b delimiter) [
+      | inl s ↦ absurd (let y = rw (eq-eqb b delimiter s) at e in cc)
+      | inr ne ↦ ended-byte delimiter b text ne ∙ ap (option_map (with_first b)) (cut_none delimiter text (mapped_none b (cut_at delimiter text) (rw (ne_eqb b delimiter ne) at e)))
     ]
 
-cut_some : (mark : ℕ) (text : List ℕ) (x : List ℕ × List ℕ) → cut_at mark text ≡ Some x → ended_by mark text ≡ option_map (with_front x.0) (ended_by mark (mark ∷ x.1))
+cut_some : (delimiter : ℕ) (text : List ℕ) (x : List ℕ × List ℕ) → cut_at delimiter text ≡ Some x → ended_by delimiter text ≡ option_map (with_front x.0) (ended_by delimiter (delimiter ∷ x.1))
 unfolding cut_at
-cut_some mark [] x e = absurd cc
-cut_some mark (b ∷ text) x e =
-    elim (cases_eq b mark) [
-      | inl s ↦ let y = rw (eq-eqb b mark s) at e in
+cut_some delimiter [] x e = absurd cc
+cut_some delimiter (b ∷ text) x e =
+    elim (cases_eq b delimiter) [
+      | inl s ↦ let y = rw (eq-eqb b delimiter s) at e in
           let z : ([], text) ≡ x = cc in
-          subst (λ (v : List ℕ × List ℕ). ended_by mark (b ∷ text) ≡ option_map (with_front v.0) (ended_by mark (mark ∷ v.1))) z
-          (ap (λ (n : ℕ). ended_by mark (n ∷ text)) s ∙ sym (front_none (ended_by mark (mark ∷ text))))
-      | inr ne ↦ let m = mapped_some b (cut_at mark text) x (rw (ne_eqb b mark ne) at e) in
-          subst (λ (v : List ℕ × List ℕ). ended_by mark (b ∷ text) ≡ option_map (with_front v.0) (ended_by mark (mark ∷ v.1))) m.2
-          (ended-byte mark b text ne ∙ ap (option_map (with_first b)) (cut_some mark text m.0 m.1) ∙ front_first b m.0.0 (ended_by mark (mark ∷ m.0.1)))
+          subst (λ (v : List ℕ × List ℕ). ended_by delimiter (b ∷ text) ≡ option_map (with_front v.0) (ended_by delimiter (delimiter ∷ v.1))) z
+          (ap (λ (n : ℕ). ended_by delimiter (n ∷ text)) s ∙ sym (front_none (ended_by delimiter (delimiter ∷ text))))
+      | inr ne ↦ let m = mapped_some b (cut_at delimiter text) x (rw (ne_eqb b delimiter ne) at e) in
+          subst (λ (v : List ℕ × List ℕ). ended_by delimiter (b ∷ text) ≡ option_map (with_front v.0) (ended_by delimiter (delimiter ∷ v.1))) m.2
+          (ended-byte delimiter b text ne ∙ ap (option_map (with_first b)) (cut_some delimiter text m.0 m.1) ∙ front_first b m.0.0 (ended_by delimiter (delimiter ∷ m.0.1)))
     ]
 
-pub after_none : (mark : ℕ) (text : List ℕ) → after_byte mark text ≡ None → IsNotFirst mark text
-after_none mark [] e = tt
-after_none mark (b ∷ text) e = λ s. let y = rw (eq-eqb b mark s) at e in absurd cc
+pub after_none : (delimiter : ℕ) (text : List ℕ) → after_byte delimiter text ≡ None → IsNotFirst delimiter text
+after_none delimiter [] e = tt
+after_none delimiter (b ∷ text) e = λ s. let y = rw (eq-eqb b delimiter s) at e in absurd cc
 
-pub after_some : (mark : ℕ) (text rest : List ℕ) → after_byte mark text ≡ Some rest → text ≡ mark ∷ rest
-after_some mark [] rest e = absurd cc
-after_some mark (b ∷ text) rest e =
-    elim (cases_eq b mark) [
-      | inl s ↦ let y = rw (eq-eqb b mark s) at e in cc
-      | inr ne ↦ absurd (let y = rw (ne_eqb b mark ne) at e in cc)
+pub after_some : (delimiter : ℕ) (text rest : List ℕ) → after_byte delimiter text ≡ Some rest → text ≡ delimiter ∷ rest
+after_some delimiter [] rest e = absurd cc
+after_some delimiter (b ∷ text) rest e =
+    elim (cases_eq b delimiter) [
+      | inl s ↦ let y = rw (eq-eqb b delimiter s) at e in cc
+      | inr ne ↦ absurd (let y = rw (ne_eqb b delimiter ne) at e in cc)
     ]
 
 -- ---- a loop over these
 
-pub runs_out : (mark : ℕ) (text part rest : List ℕ) → ended_by mark text ≡ option_map (with_front part) (ended_by mark rest) → cut_at mark rest ≡ None → ended_by mark text ≡ None
-runs_out mark text part rest h e = h ∙ ap (option_map (with_front part)) (cut_none mark rest e)
+pub runs_out : (delimiter : ℕ) (text part rest : List ℕ) → ended_by delimiter text ≡ option_map (with_front part) (ended_by delimiter rest) → cut_at delimiter rest ≡ None → ended_by delimiter text ≡ None
+runs_out delimiter text part rest h e = h ∙ ap (option_map (with_front part)) (cut_none delimiter rest e)
 
-up_to_mark : (mark : ℕ) (text part rest front after : List ℕ) → ended_by mark text ≡ option_map (with_front part) (ended_by mark rest) → cut_at mark rest ≡ Some (front, after)
-    → ended_by mark text ≡ option_map (with_front (part ++ front)) (ended_by mark (mark ∷ after))
-up_to_mark mark text part rest front after h e = h ∙ ap (option_map (with_front part)) (cut_some mark rest (front, after) e) ∙ front_front part front (ended_by mark (mark ∷ after))
+up_to_mark : (delimiter : ℕ) (text part rest front after : List ℕ) → ended_by delimiter text ≡ option_map (with_front part) (ended_by delimiter rest) → cut_at delimiter rest ≡ Some (front, after)
+    → ended_by delimiter text ≡ option_map (with_front (part ++ front)) (ended_by delimiter (delimiter ∷ after))
+up_to_mark delimiter text part rest front after h e = h ∙ ap (option_map (with_front part)) (cut_some delimiter rest (front, after) e) ∙ front_front part front (ended_by delimiter (delimiter ∷ after))
 
-pub ends_here : (mark : ℕ) (text part rest front after : List ℕ) → ended_by mark text ≡ option_map (with_front part) (ended_by mark rest) → cut_at mark rest ≡ Some (front, after) → after_byte mark after ≡ None
-    → ended_by mark text ≡ Some (part ++ front, after)
-ends_here mark text part rest front after h e n =
-    up_to_mark mark text part rest front after h e ∙ ap (option_map (with_front (part ++ front))) (ended-end mark after (after_none mark after n))
+pub ends_here : (delimiter : ℕ) (text part rest front after : List ℕ) → ended_by delimiter text ≡ option_map (with_front part) (ended_by delimiter rest) → cut_at delimiter rest ≡ Some (front, after) → after_byte delimiter after ≡ None
+    → ended_by delimiter text ≡ Some (part ++ front, after)
+ends_here delimiter text part rest front after h e n =
+    up_to_mark delimiter text part rest front after h e ∙ ap (option_map (with_front (part ++ front))) (ended-end delimiter after (after_none delimiter after n))
     ∙ ap (λ (t : List ℕ). Some (t, after)) (simp append-nil)
 
-pub goes_on : (mark : ℕ) (text part rest front after more : List ℕ) → ended_by mark text ≡ option_map (with_front part) (ended_by mark rest) → cut_at mark rest ≡ Some (front, after) → after_byte mark after ≡ Some more
-    → ended_by mark text ≡ option_map (with_front ((part ++ front) ++ mark ∷ [])) (ended_by mark more)
-goes_on mark text part rest front after more h e n =
-    up_to_mark mark text part rest front after h e
-    ∙ ap (option_map (with_front (part ++ front))) (ap (λ (t : List ℕ). ended_by mark (mark ∷ t)) (after_some mark after more n) ∙ ended-pair mark more)
-    ∙ front_pushed mark (part ++ front) (ended_by mark more)
+pub goes_on : (delimiter : ℕ) (text part rest front after more : List ℕ) → ended_by delimiter text ≡ option_map (with_front part) (ended_by delimiter rest) → cut_at delimiter rest ≡ Some (front, after) → after_byte delimiter after ≡ Some more
+    → ended_by delimiter text ≡ option_map (with_front ((part ++ front) ++ delimiter ∷ [])) (ended_by delimiter more)
+goes_on delimiter text part rest front after more h e n =
+    up_to_mark delimiter text part rest front after h e
+    ∙ ap (option_map (with_front (part ++ front))) (ap (λ (t : List ℕ). ended_by delimiter (delimiter ∷ t)) (after_some delimiter after more n) ∙ ended-pair delimiter more)
+    ∙ front_pushed delimiter (part ++ front) (ended_by delimiter more)
 
-pub cut_length : (mark : ℕ) (text : List ℕ) (x : List ℕ × List ℕ) → cut_at mark text ≡ Some x → length x.1 < length text
+pub cut_length : (delimiter : ℕ) (text : List ℕ) (x : List ℕ × List ℕ) → cut_at delimiter text ≡ Some x → length x.1 < length text
 unfolding cut_at
-cut_length mark [] x e = absurd cc
-cut_length mark (b ∷ text) x e =
-    elim (cases_eq b mark) [
-      | inl s ↦ let y = rw (eq-eqb b mark s) at e in
+cut_length delimiter [] x e = absurd cc
+cut_length delimiter (b ∷ text) x e =
+    elim (cases_eq b delimiter) [
+      | inl s ↦ let y = rw (eq-eqb b delimiter s) at e in
           let z : ([], text) ≡ x = cc in
           subst (λ (v : List ℕ × List ℕ). length v.1 < length (b ∷ text)) z (omega arith)
-      | inr ne ↦ let m = mapped_some b (cut_at mark text) x (rw (ne_eqb b mark ne) at e) in
-          subst (λ (v : List ℕ × List ℕ). length v.1 < length (b ∷ text)) m.2 (omega (arith, cut_length mark text m.0 m.1))
+      | inr ne ↦ let m = mapped_some b (cut_at delimiter text) x (rw (ne_eqb b delimiter ne) at e) in
+          subst (λ (v : List ℕ × List ℕ). length v.1 < length (b ∷ text)) m.2 (omega (arith, cut_length delimiter text m.0 m.1))
     ]
 
-pub cut_shorter : (mark : ℕ) (text front after more : List ℕ) → cut_at mark text ≡ Some (front, after) → after_byte mark after ≡ Some more → length more < length text
-cut_shorter mark text front after more e n = omega (arith, cut_length mark text (front, after) e, ap length (after_some mark after more n))
+pub cut_shorter : (delimiter : ℕ) (text front after more : List ℕ) → cut_at delimiter text ≡ Some (front, after) → after_byte delimiter after ≡ Some more → length more < length text
+cut_shorter delimiter text front after more e n = omega (arith, cut_length delimiter text (front, after) e, ap length (after_some delimiter after more n))

@@ -7,8 +7,8 @@ use Rattle.std.proofs.lemmas.List.{append-nil}
 use Rattle.scip_symbol.specs.declared.fault.SymbolFault.{SymbolFault}
 use Rattle.scip_symbol.specs.declared.fault.SymbolFault.TheVariants as faults
 use Rattle.scip_symbol.specs.Bytes.{doubled}
-use Rattle.scip_symbol.specs.SymbolTexts.{PlainDescriptor, PlainSymbol, Local, Global, before_name, DescriptorTexts, part_shown, ended_part, shown_parts, parts_text, GlobalText, SymbolText}
-use Rattle.scip_symbol.specs.Outcomes.{begins_with_space, BeginsWithParts, LacksPart, IsBadPart, HasFront, HasOpenQuote, HasNoDescriptor, IsReadRefusal, IsReadOutcome}
+use Rattle.scip_symbol.specs.SymbolTexts.{DescriptorModel, SymbolModel, Local, Global, before_name, DescriptorTexts, part_shown, ended_part, shown_parts, parts_text, GlobalText, SymbolText}
+use Rattle.scip_symbol.specs.Outcomes.{begins_with_space, BeginsWithParts, LacksPart, IsBadPart, HasDescriptorPrefix, HasOpenQuote, HasNoDescriptor, IsReadError, IsReadOutcome}
 use Rattle.scip_symbol.specs.Reading.{local_of, part_meant, descriptor_at, IsFirstWrong}
 use Rattle.scip_symbol.proofs.Answered.{err_same}
 use Rattle.scip_symbol.proofs.PartLaws.{shown_is_part, shown_meant}
@@ -23,20 +23,20 @@ use Rattle.scip_symbol.proofs.Starts.{Start, Nothing, LocalId, LocalWord, Space,
 abbrev part_in : ℕ → List (List ℕ) → List ℕ
 part_in number parts = unwrap_or (slice_get parts number) []
 
-abbrev global_by : List (List ℕ) → List PlainDescriptor → PlainSymbol
+abbrev global_by : List (List ℕ) → List DescriptorModel → SymbolModel
 global_by parts ds = Global (part_in 0 parts) (part_meant (part_in 1 parts)) (part_meant (part_in 2 parts)) (part_meant (part_in 3 parts)) ds
 
-record IsGlobalBy (parts : List (List ℕ)) (rest : List ℕ) (s : PlainSymbol) : Type 0 where
-  descriptors : List PlainDescriptor
+record IsGlobalBy (parts : List (List ℕ)) (rest : List ℕ) (s : SymbolModel) : Type 0 where
+  descriptors : List DescriptorModel
   row : DescriptorTexts descriptors rest
   some : descriptors ≢ []
   same : s ≡ global_by parts descriptors
 
-abbrev IsFourOutcome : ℕ → List (List ℕ) → List ℕ → Result PlainSymbol SymbolFault → Type 0
+abbrev IsFourOutcome : ℕ → List (List ℕ) → List ℕ → Result SymbolModel SymbolFault → Type 0
 IsFourOutcome whole parts rest (Ok s) = IsGlobalBy parts rest s
 IsFourOutcome whole parts rest (Err fault) = ((rest ≡ []) × (fault ≡ faults.Empty)) ⊎ IsFirstWrong whole rest fault
 
-abbrev IsOutcomeFrom : ℕ → Start → Result PlainSymbol SymbolFault → Type 0
+abbrev IsOutcomeFrom : ℕ → Start → Result SymbolModel SymbolFault → Type 0
 IsOutcomeFrom whole Nothing o = o ≡ Err faults.Empty
 IsOutcomeFrom whole (LocalId id) o = o ≡ local_of id
 IsOutcomeFrom whole LocalWord o = o ≡ Err faults.LocalScheme
@@ -49,12 +49,12 @@ IsOutcomeFrom whole (Four parts rest) o = IsFourOutcome whole parts rest o
 wrong_stuck : (whole : ℕ) (rest : List ℕ) (fault : SymbolFault) → (w : IsFirstWrong whole rest fault) → HasNoDescriptor w.rest
 wrong_stuck whole rest fault w = no_descriptor (whole - length w.rest) w.rest fault w.answer
 
-all_or_wrong : (whole : ℕ) (rest : List ℕ) (ds : List PlainDescriptor) (fault : SymbolFault) → DescriptorTexts ds rest → IsFirstWrong whole rest fault → ⊥
+all_or_wrong : (whole : ℕ) (rest : List ℕ) (ds : List DescriptorModel) (fault : SymbolFault) → DescriptorTexts ds rest → IsFirstWrong whole rest fault → ⊥
 all_or_wrong whole rest ds fault t w =
     let once = row_once ds w.descriptors rest w.front [] w.rest t w.front_is (append-nil rest ∙ w.split) nothing_begins (wrong_stuck whole rest fault w) in
     w.some (sym once.1)
 
-row_empty : (ds : List PlainDescriptor) (rest : List ℕ) → DescriptorTexts ds rest → rest ≡ [] → ds ≡ []
+row_empty : (ds : List DescriptorModel) (rest : List ℕ) → DescriptorTexts ds rest → rest ≡ [] → ds ≡ []
 row_empty ds rest t e = (row_once ds [] rest [] [] [] t refl (append-nil rest ∙ e) nothing_begins nothing_begins).0
 
 wrong_once : (whole : ℕ) (rest : List ℕ) (e f : SymbolFault) → IsFirstWrong whole rest e → IsFirstWrong whole rest f → e ≡ f
@@ -65,11 +65,11 @@ wrong_once whole rest e f v w =
 wrong_some : (whole : ℕ) (rest : List ℕ) (fault : SymbolFault) → IsFirstWrong whole rest fault → rest ≡ [] → ⊥
 wrong_some whole rest fault w e = all_or_wrong whole rest [] fault e w
 
-four_once : (whole : ℕ) (parts : List (List ℕ)) (rest : List ℕ) (o p : Result PlainSymbol SymbolFault) → IsFourOutcome whole parts rest o → IsFourOutcome whole parts rest p → o ≡ p
+four_once : (whole : ℕ) (parts : List (List ℕ)) (rest : List ℕ) (o p : Result SymbolModel SymbolFault) → IsFourOutcome whole parts rest o → IsFourOutcome whole parts rest p → o ≡ p
 four_once whole parts rest (Ok s) (Ok t) i k =
     let once = row_once i.descriptors k.descriptors rest rest [] [] i.row k.row refl nothing_begins nothing_begins in
     let same : s ≡ t = i.same ∙ ap (global_by parts) once.0 ∙ sym k.same in
-    ap (λ (x : PlainSymbol). Ok x) same
+    ap (λ (x : SymbolModel). Ok x) same
 four_once whole parts rest (Ok s) (Err e) i (inl k) = absurd (i.some (row_empty i.descriptors rest i.row k.0))
 four_once whole parts rest (Ok s) (Err e) i (inr w) = absurd (all_or_wrong whole rest i.descriptors e i.row w)
 four_once whole parts rest (Err e) (Ok s) (inl k) i = absurd (i.some (row_empty i.descriptors rest i.row k.0))
@@ -79,7 +79,7 @@ four_once whole parts rest (Err e) (Err f) (inl i) (inr w) = absurd (wrong_some 
 four_once whole parts rest (Err e) (Err f) (inr w) (inl k) = absurd (wrong_some whole rest e w k.0)
 four_once whole parts rest (Err e) (Err f) (inr v) (inr w) = ap (λ (x : SymbolFault). Err x) (wrong_once whole rest e f v w)
 
-once : (whole : ℕ) (start : Start) (o p : Result PlainSymbol SymbolFault) → IsOutcomeFrom whole start o → IsOutcomeFrom whole start p → o ≡ p
+once : (whole : ℕ) (start : Start) (o p : Result SymbolModel SymbolFault) → IsOutcomeFrom whole start o → IsOutcomeFrom whole start p → o ≡ p
 once whole Nothing o p i k = i ∙ sym k
 once whole (LocalId id) o p i k = i ∙ sym k
 once whole LocalWord o p i k = i ∙ sym k
@@ -89,7 +89,7 @@ once whole (Four parts rest) o p i k = four_once whole parts rest o p i k
 
 -- ---- from the text
 
-from_start : (text : List ℕ) (start : Start) (o : Result PlainSymbol SymbolFault) → start_of text ≡ start → IsOutcomeFrom (length text) start o → IsOutcomeFrom (length text) (start_of text) o
+from_start : (text : List ℕ) (start : Start) (o : Result SymbolModel SymbolFault) → start_of text ≡ start → IsOutcomeFrom (length text) start o → IsOutcomeFrom (length text) (start_of text) o
 from_start text start o e i = subst (λ (s : Start). IsOutcomeFrom (length text) s o) (sym e) i
 
 begins_more : (w b : ℕ) (word scheme : List ℕ) → b ≡ w → (others : List ℕ) × (scheme ≡ word ++ others) → (others : List ℕ) × (b ∷ scheme ≡ w ∷ (word ++ others))
@@ -114,7 +114,7 @@ scheme_begins (w ∷ word) (b ∷ scheme) rest more n e =
           begins_more w b word scheme same (scheme_begins word scheme rest more p.1 more_same)
     ]
 
-has_parts : (scheme manager package_name version text : List ℕ) (ds : List PlainDescriptor) → (g : GlobalText scheme manager package_name version ds text) → BeginsWithParts text (shown_parts scheme manager package_name version) g.rest
+has_parts : (scheme manager package_name version text : List ℕ) (ds : List DescriptorModel) → (g : GlobalText scheme manager package_name version ds text) → BeginsWithParts text (shown_parts scheme manager package_name version) g.rest
 has_parts scheme m p v text ds g = record {
   not_local = λ b. g.not_local (scheme_begins (codes "local") scheme (flat_map ended_part (part_shown m ∷ part_shown p ∷ part_shown v ∷ []) ++ g.rest) b.0 refl (split ∙ sym g.whole ∙ b.1));
   each = (g.scheme_is, (shown_is_part m g.manager_is, (shown_is_part p g.package_is, (shown_is_part v g.version_is, tt))));
@@ -133,10 +133,10 @@ parts_some text [] rest h n = absurd (omega arith)
 parts_some text (part ∷ parts) rest h n = λ e.
     absurd (omega (arith, ap length (sym e ∙ h.whole), length-append (ended_part part ++ flat_map ended_part parts) rest, length-append (ended_part part) (flat_map ended_part parts), length-append (doubled 32 part) (32 ∷ [])))
 
-front_place : (text : List ℕ) (at : ℕ) (rest : List ℕ) → HasFront text at rest → length text - length rest ≡ at
-front_place text at rest f = omega (arith, f.place)
+front_place : (text : List ℕ) (at : ℕ) (rest : List ℕ) → HasDescriptorPrefix text at rest → length text - length rest ≡ at
+front_place text at rest f = omega (arith, f.offset)
 
-from_front : (text : List ℕ) (at : ℕ) (rest : List ℕ) (fault : SymbolFault) → HasFront text at rest → rest ≢ [] → descriptor_at at rest ≡ Err fault → IsOutcomeFrom (length text) (start_of text) (Err fault)
+from_front : (text : List ℕ) (at : ℕ) (rest : List ℕ) (fault : SymbolFault) → HasDescriptorPrefix text at rest → rest ≢ [] → descriptor_at at rest ≡ Err fault → IsOutcomeFrom (length text) (start_of text) (Err fault)
 from_front text at rest fault f some e =
     from_start text (Four f.parts (f.front ++ rest)) (Err fault) (starts_four text f.parts (f.front ++ rest) (parts_some text f.parts (f.front ++ rest) f.has_parts f.four) f.has_parts f.four)
     (inr (record {
@@ -152,21 +152,21 @@ from_front text at rest fault f some e =
 bad_answer : (at : ℕ) (rest : List ℕ) → HasNoDescriptor rest → (HasOpenQuote rest → ⊥) → descriptor_at at rest ≡ Err (faults.BadDescriptor at)
 bad_answer at rest none no_quote = go (descriptor_at at rest) refl
   where
-    wrong : (fault : SymbolFault) → IsWrong at rest fault → ◌≡◌ {A = Result (PlainDescriptor × List ℕ) SymbolFault} (Err fault) (Err (faults.BadDescriptor at))
+    wrong : (fault : SymbolFault) → IsWrong at rest fault → ◌≡◌ {A = Result (DescriptorModel × List ℕ) SymbolFault} (Err fault) (Err (faults.BadDescriptor at))
     wrong fault (inl e) = ap (λ (x : SymbolFault). Err x) e
     wrong fault (inr q) = absurd (no_quote q.1)
 
-    go : (o : Result (PlainDescriptor × List ℕ) SymbolFault) → descriptor_at at rest ≡ o → o ≡ Err (faults.BadDescriptor at)
+    go : (o : Result (DescriptorModel × List ℕ) SymbolFault) → descriptor_at at rest ≡ o → o ≡ Err (faults.BadDescriptor at)
     go (Ok x) e = let r = read_of at rest x e in absurd (none x.0 r.first x.1 r.first_is r.split)
     go (Err fault) e = wrong fault (descriptor_fails at rest fault e)
 
 quote_some : (rest : List ℕ) → HasOpenQuote rest → rest ≢ []
-quote_some rest q = λ e. absurd (omega (arith, ap length (sym e ∙ q.there), length-append (before_name q.kind) (96 ∷ q.inside)))
+quote_some rest q = λ e. absurd (omega (arith, ap length (sym e ∙ q.begins), length-append (before_name q.kind) (96 ∷ q.inside)))
 
-from_local : (text id : List ℕ) (o : Result PlainSymbol SymbolFault) → text ≡ codes "local " ++ id → o ≡ local_of id → IsOutcomeFrom (length text) (start_of text) o
+from_local : (text id : List ℕ) (o : Result SymbolModel SymbolFault) → text ≡ codes "local " ++ id → o ≡ local_of id → IsOutcomeFrom (length text) (start_of text) o
 from_local text id o e i = from_start text (LocalId id) o (ap start_of e ∙ starts_local id) i
 
-from_symbol : (text : List ℕ) (s : PlainSymbol) → SymbolText s text → IsOutcomeFrom (length text) (start_of text) (Ok s)
+from_symbol : (text : List ℕ) (s : SymbolModel) → SymbolText s text → IsOutcomeFrom (length text) (start_of text) (Ok s)
 from_symbol text (Local id) t = from_local text id (Ok (Local id)) t.1 (sym (local_ok id t.0))
 from_symbol text (Global scheme m p v ds) g =
     let h = has_parts scheme m p v text ds g in
@@ -187,22 +187,22 @@ from_bad_part text part b = go b.wrong
         let few : length l.parts < 4 = omega (arith, l.few, l.count_is) in
         from_start text (Lacks (length l.parts)) (Err (faults.BadPart part)) (starts_lacking text l.parts l.rest b.some l.has_parts few l.unended) (ap (λ (n : ℕ). Err (faults.BadPart n)) (sym l.count_is))
 
-from_refusal : (text : List ℕ) (fault : SymbolFault) → IsReadRefusal text fault → IsOutcomeFrom (length text) (start_of text) (Err fault)
+from_refusal : (text : List ℕ) (fault : SymbolFault) → IsReadError text fault → IsOutcomeFrom (length text) (start_of text) (Err fault)
 from_refusal text faults.Empty (inl e) = from_start text Nothing (Err faults.Empty) (ap start_of e ∙ starts_nothing) refl
 from_refusal text faults.Empty (inr (inl e)) = from_local text [] (Err faults.Empty) e (sym local_none)
 from_refusal text faults.Empty (inr (inr h)) =
     from_start text (Four h.0 []) (Err faults.Empty) (starts_four text h.0 [] (parts_some text h.0 [] h.1 h.2) h.1 h.2) (inl (refl, refl))
 from_refusal text (faults.BadDescriptor at) (inl b) =
-    from_local text (b.front ++ b.b ∷ b.others) (Err (faults.BadDescriptor at)) b.whole (ap (λ (n : ℕ). Err (faults.BadDescriptor n)) b.place ∙ sym (local_bad b.front b.b b.others b.simple b.wrong))
+    from_local text (b.front ++ b.b ∷ b.others) (Err (faults.BadDescriptor at)) b.whole (ap (λ (n : ℕ). Err (faults.BadDescriptor n)) b.offset ∙ sym (local_bad b.front b.b b.others b.simple b.wrong))
 from_refusal text (faults.BadDescriptor at) (inr b) = from_front text at b.rest (faults.BadDescriptor at) b.front b.some (bad_answer at b.rest b.none b.no_quote)
 from_refusal text faults.LocalScheme h = from_start text LocalWord (Err faults.LocalScheme) (starts_word text h.0 h.1) refl
 from_refusal text faults.OpenQuote h = from_front text h.0 h.1 faults.OpenQuote h.2 (quote_some h.1 h.3) (descriptor_open h.0 h.1 h.3)
 from_refusal text faults.Memory h = absurd h
 from_refusal text (faults.BadPart part) h = from_bad_part text part h
 
-from_outcome : (text : List ℕ) (o : Result PlainSymbol SymbolFault) → IsReadOutcome text o → IsOutcomeFrom (length text) (start_of text) o
+from_outcome : (text : List ℕ) (o : Result SymbolModel SymbolFault) → IsReadOutcome text o → IsOutcomeFrom (length text) (start_of text) o
 from_outcome text (Ok s) i = from_symbol text s i
 from_outcome text (Err fault) i = from_refusal text fault i
 
-pub outcome_once : (text : List ℕ) (o p : Result PlainSymbol SymbolFault) → IsReadOutcome text o → IsReadOutcome text p → o ≡ p
+pub outcome_once : (text : List ℕ) (o p : Result SymbolModel SymbolFault) → IsReadOutcome text o → IsReadOutcome text p → o ≡ p
 outcome_once text o p i k = once (length text) (start_of text) o p (from_outcome text o i) (from_outcome text p k)

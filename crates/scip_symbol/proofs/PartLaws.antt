@@ -9,8 +9,8 @@ use Rattle.scip_symbol.specs.declared.fault.SymbolFault.{SymbolFault}
 use Rattle.scip_symbol.specs.declared.fault.SymbolFault.TheVariants as faults
 use Rattle.scip_symbol.specs.Bytes.{doubled, IsNotFirst, IsEnded}
 use Rattle.scip_symbol.specs.SymbolTexts.{IsPackagePart, IsOptionalPart, part_shown, ended_part, shown_parts, BeginsLocal}
-use Rattle.scip_symbol.specs.Outcomes.{BeginsWithParts, IsBadPart, IsReadRefusal}
-use Rattle.scip_symbol.specs.Reading.{ended_by, part_in_front, part_meant, optional_part_at, PlainParts, parts_at, ◌>>=◌}
+use Rattle.scip_symbol.specs.Outcomes.{BeginsWithParts, IsBadPart, IsReadError}
+use Rattle.scip_symbol.specs.Reading.{ended_by, first_part_at, part_meant, optional_part_at, PartsModel, parts_at, ◌>>=◌}
 use Rattle.scip_symbol.proofs.Ends.{ended-said, unended}
 
 -- ---- parts as they are shown, and as they are meant
@@ -80,7 +80,7 @@ part_lacks text parts rest count some h n few e =
 -- ---- four parts
 
 -- four parts that are read, and what follows them
-pub record ArePartsRead (text : List ℕ) (x : PlainParts × List ℕ) : Type 0 where
+pub record ArePartsRead (text : List ℕ) (x : PartsModel × List ℕ) : Type 0 where
   pub scheme_is : IsPackagePart x.0.scheme
   pub manager_is : IsOptionalPart x.0.manager
   pub package_is : IsOptionalPart x.0.package_name
@@ -88,9 +88,9 @@ pub record ArePartsRead (text : List ℕ) (x : PlainParts × List ℕ) : Type 0 
   pub has_parts : BeginsWithParts text (shown_parts x.0.scheme x.0.manager x.0.package_name x.0.version) x.1
 
 -- what reading the parts of a text answers
-abbrev pub ArePartsOf : List ℕ → Result (PlainParts × List ℕ) SymbolFault → Type 0
+abbrev pub ArePartsOf : List ℕ → Result (PartsModel × List ℕ) SymbolFault → Type 0
 ArePartsOf text (Ok x) = ArePartsRead text x
-ArePartsOf text (Err fault) = IsReadRefusal text fault
+ArePartsOf text (Err fault) = IsReadError text fault
 
 first_parts : (text : List ℕ) → IsPackagePart text → (BeginsLocal text → ⊥) → BeginsWithParts text [] text
 first_parts [] p n = absurd p
@@ -101,7 +101,7 @@ part_some [] p = absurd p
 part_some (b ∷ text) p = λ e. absurd cc
 
 -- a part is read, or there are too few
-with_part : (text : List ℕ) (parts : List (List ℕ)) (rest : List ℕ) (n : ℕ) (o : Option (List ℕ × List ℕ)) (go : List ℕ × List ℕ → Result (PlainParts × List ℕ) SymbolFault)
+with_part : (text : List ℕ) (parts : List (List ℕ)) (rest : List ℕ) (n : ℕ) (o : Option (List ℕ × List ℕ)) (go : List ℕ × List ℕ → Result (PartsModel × List ℕ) SymbolFault)
     → text ≢ [] → BeginsWithParts text parts rest → length parts ≡ n → n < 4 → ended_by 32 rest ≡ o
     → ((x : List ℕ × List ℕ) → IsPackagePart x.0 → BeginsWithParts text (parts ++ x.0 ∷ []) x.1 → ArePartsOf text (go x))
     → ArePartsOf text (ok_or o (faults.BadPart n) >>= go)
@@ -111,7 +111,7 @@ with_part text parts rest n (Some x) go some h count few e then = let m = part_m
 abbrev as_meant : List ℕ × List ℕ → Result (List ℕ × List ℕ) SymbolFault
 as_meant x = Ok (part_meant x.0, x.1)
 
-with_optional : (text : List ℕ) (parts : List (List ℕ)) (rest : List ℕ) (n : ℕ) (o : Option (List ℕ × List ℕ)) (go : List ℕ × List ℕ → Result (PlainParts × List ℕ) SymbolFault)
+with_optional : (text : List ℕ) (parts : List (List ℕ)) (rest : List ℕ) (n : ℕ) (o : Option (List ℕ × List ℕ)) (go : List ℕ × List ℕ → Result (PartsModel × List ℕ) SymbolFault)
     → text ≢ [] → BeginsWithParts text parts rest → length parts ≡ n → n < 4 → ended_by 32 rest ≡ o
     → ((x : List ℕ × List ℕ) → IsPackagePart x.0 → BeginsWithParts text (parts ++ x.0 ∷ []) x.1 → ArePartsOf text (go (part_meant x.0, x.1)))
     → ArePartsOf text ((ok_or o (faults.BadPart n) >>= as_meant) >>= go)
@@ -119,7 +119,7 @@ with_optional text parts rest n None go some h count few e then = part_lacks tex
 with_optional text parts rest n (Some x) go some h count few e then = let m = part_more text parts rest x h e in then x m.0 m.1
 
 pub parts_of : (text : List ℕ) → IsPackagePart text → (BeginsLocal text → ⊥) → ArePartsOf text (parts_at text)
-unfolding parts_at optional_part_at part_in_front
+unfolding parts_at optional_part_at first_part_at
 parts_of text p not_local =
     let some = part_some text p in
     with_part text [] text 0 (ended_by 32 text) _ some (first_parts text p not_local) refl (omega arith) refl (λ s is_s hs.
@@ -134,8 +134,8 @@ parts_of text p not_local =
       has_parts = rw (meant_shown m.0 is_m, meant_shown k.0 is_k, meant_shown v.0 is_v) hv;
     }))))
 
-pub parts_ok : (text : List ℕ) (x : PlainParts × List ℕ) → IsPackagePart text → (BeginsLocal text → ⊥) → parts_at text ≡ Ok x → ArePartsRead text x
+pub parts_ok : (text : List ℕ) (x : PartsModel × List ℕ) → IsPackagePart text → (BeginsLocal text → ⊥) → parts_at text ≡ Ok x → ArePartsRead text x
 parts_ok text x p n e = subst (ArePartsOf text) e (parts_of text p n)
 
-pub parts_err : (text : List ℕ) (fault : SymbolFault) → IsPackagePart text → (BeginsLocal text → ⊥) → parts_at text ≡ Err fault → IsReadRefusal text fault
+pub parts_err : (text : List ℕ) (fault : SymbolFault) → IsPackagePart text → (BeginsLocal text → ⊥) → parts_at text ≡ Err fault → IsReadError text fault
 parts_err text fault p n e = subst (ArePartsOf text) e (parts_of text p n)

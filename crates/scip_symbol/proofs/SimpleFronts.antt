@@ -9,10 +9,10 @@ use Rattle.std.proofs.lemmas.Str.{IsUtf8-from_ascii, IsCharBoundary-from_take}
 use Rattle.std.proofs.lemmas.Str.Ascii.{IsAscii-nil, IsAscii-cons}
 use Rattle.scip_symbol.specs.SymbolTexts.{is_simple, are_simple}
 use Rattle.texts.specs.Fields.{with_first}
-use Rattle.scip_symbol.specs.Reading.{simple_front}
+use Rattle.scip_symbol.specs.Reading.{simple_prefix}
 
-pub front_split : (text : List ℕ) → (take (prefix_len is_simple text) text, drop (prefix_len is_simple text) text) ≡ simple_front text
-unfolding simple_front
+pub front_split : (text : List ℕ) → (take (prefix_len is_simple text) text, drop (prefix_len is_simple text) text) ≡ simple_prefix text
+unfolding simple_prefix
 front_split [] = refl
 front_split (b ∷ text) =
     let e : 1 + prefix_len is_simple text ≡ suc (prefix_len is_simple text) = omega arith in

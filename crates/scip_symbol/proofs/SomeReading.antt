@@ -3,9 +3,9 @@ use Rattle.std.proofs.Common.{◌≡◌, ◌≢◌, ℕ, zero, suc, ◌<◌, ◌
 use Rattle.std.proofs.lemmas.Bool.{cases_eq, eq-eqb}
 use Rattle.scip_symbol.specs.declared.fault.SymbolFault.{SymbolFault}
 use Rattle.scip_symbol.specs.declared.fault.SymbolFault.TheVariants as faults
-use Rattle.scip_symbol.specs.SymbolTexts.{PlainDescriptor, PlainSymbol, DescriptorText, IsPackagePart, BeginsLocal}
+use Rattle.scip_symbol.specs.SymbolTexts.{DescriptorModel, SymbolModel, DescriptorText, IsPackagePart, BeginsLocal}
 use Rattle.scip_symbol.specs.Outcomes.{IsReadOutcome}
-use Rattle.scip_symbol.specs.Reading.{after_bytes, descriptor_at, IsDescriptorsOutcome, PlainParts, parts_at, local_of}
+use Rattle.scip_symbol.specs.Reading.{after_bytes, descriptor_at, IsDescriptorsOutcome, PartsModel, parts_at, local_of}
 use Rattle.scip_symbol.proofs.TextCuts.{after_bytes_some, not_word}
 use Rattle.scip_symbol.proofs.DescriptorLaws.{read_of, descriptor_shortens}
 use Rattle.scip_symbol.proofs.PartLaws.{ArePartsRead, parts_ok, parts_err}
@@ -15,9 +15,9 @@ use Rattle.scip_symbol.proofs.LocalLaws.{local_read}
 -- ---- descriptors
 
 abbrev SomeRow : ℕ → List ℕ → Type 0
-SomeRow whole text = (o : Result (List PlainDescriptor) SymbolFault) × IsDescriptorsOutcome whole text o
+SomeRow whole text = (o : Result (List DescriptorModel) SymbolFault) × IsDescriptorsOutcome whole text o
 
-row_more : (whole : ℕ) (text first rest : List ℕ) (d : PlainDescriptor) (o : Result (List PlainDescriptor) SymbolFault) → DescriptorText d first → text ≡ first ++ rest → IsDescriptorsOutcome whole rest o → SomeRow whole text
+row_more : (whole : ℕ) (text first rest : List ℕ) (d : DescriptorModel) (o : Result (List DescriptorModel) SymbolFault) → DescriptorText d first → text ≡ first ++ rest → IsDescriptorsOutcome whole rest o → SomeRow whole text
 row_more whole text first rest d (Ok ds) t e i = (Ok (d ∷ ds), (first, rest, t, i, e))
 row_more whole text first rest d (Err fault) t e w = (
   Err fault,
@@ -35,7 +35,7 @@ row_more whole text first rest d (Err fault) t e w = (
 row_step : (whole : ℕ) (text : List ℕ) → text ≢ [] → ((rest : List ℕ) → length rest < length text → SomeRow whole rest) → SomeRow whole text
 row_step whole text some again = go (descriptor_at (whole - length text) text) refl
   where
-    go : (o : Result (PlainDescriptor × List ℕ) SymbolFault) → descriptor_at (whole - length text) text ≡ o → SomeRow whole text
+    go : (o : Result (DescriptorModel × List ℕ) SymbolFault) → descriptor_at (whole - length text) text ≡ o → SomeRow whole text
     go (Err fault) e = (Err fault, record { descriptors = []; front = []; rest = text; front_is = refl; split = refl; some = some; answer = e })
     go (Ok x) e =
         let r = read_of (whole - length text) text x e in
@@ -50,20 +50,20 @@ some_row (suc n) whole (b ∷ text) le = row_step whole (b ∷ text) (λ e. absu
 -- ---- texts
 
 abbrev SomeOutcome : List ℕ → Type 0
-SomeOutcome text = (o : Result PlainSymbol SymbolFault) × IsReadOutcome text o
+SomeOutcome text = (o : Result SymbolModel SymbolFault) × IsReadOutcome text o
 
-behind_parts : (text : List ℕ) (x : PlainParts) (rest : List ℕ) → ArePartsRead text (x, rest) → SomeRow (length text) rest → SomeOutcome text
+behind_parts : (text : List ℕ) (x : PartsModel) (rest : List ℕ) → ArePartsRead text (x, rest) → SomeRow (length text) rest → SomeOutcome text
 behind_parts text x [] r row = (Err faults.Empty, nothing_behind text (x, []) r refl)
 behind_parts text x (b ∷ rest) r row = go row.0 row.1
   where
-    go : (o : Result (List PlainDescriptor) SymbolFault) → IsDescriptorsOutcome (length text) (b ∷ rest) o → SomeOutcome text
+    go : (o : Result (List DescriptorModel) SymbolFault) → IsDescriptorsOutcome (length text) (b ∷ rest) o → SomeOutcome text
     go (Ok ds) i = (Ok (global_of x ds), global_text text (x, b ∷ rest) ds r (λ e. absurd cc) i)
     go (Err fault) w = (Err fault, wrong_refused text (x, b ∷ rest) fault r w)
 
 some_global : (text : List ℕ) → IsPackagePart text → (BeginsLocal text → ⊥) → SomeOutcome text
 some_global text p n = go (parts_at text) refl
   where
-    go : (o : Result (PlainParts × List ℕ) SymbolFault) → parts_at text ≡ o → SomeOutcome text
+    go : (o : Result (PartsModel × List ℕ) SymbolFault) → parts_at text ≡ o → SomeOutcome text
     go (Ok x) e = behind_parts text x.0 x.1 (parts_ok text x p n e) (some_row (length x.1) (length text) x.1 (omega arith))
     go (Err fault) e = (Err fault, parts_err text fault p n e)
 
@@ -77,5 +77,5 @@ by_words (b ∷ text) None None e f =
       | inr ne ↦ some_global (b ∷ text) ne (λ l. not_word (codes "local") (b ∷ text) f l.0 l.1)
     ]
 
-pub some_outcome : (text : List ℕ) → (o : Result PlainSymbol SymbolFault) × IsReadOutcome text o
+pub some_outcome : (text : List ℕ) → (o : Result SymbolModel SymbolFault) × IsReadOutcome text o
 some_outcome text = by_words text (after_bytes (codes "local ") text) (after_bytes (codes "local") text) refl refl

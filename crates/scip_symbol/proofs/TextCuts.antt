@@ -9,19 +9,19 @@ use Rattle.texts.specs.Fields.{cut_at}
 use Rattle.texts.proofs.FieldCuts.{cut_is}
 use Rattle.scip_symbol.specs.Reading.{after_byte, after_bytes}
 
-pub after_byte-same : (mark : ℕ) (rest : List ℕ) → after_byte mark (mark ∷ rest) ≡ Some rest
-after_byte-same mark rest = rw (eq-eqb mark mark refl) refl
+pub after_byte-same : (delimiter : ℕ) (rest : List ℕ) → after_byte delimiter (delimiter ∷ rest) ≡ Some rest
+after_byte-same delimiter rest = rw (eq-eqb delimiter delimiter refl) refl
 
-pub after_byte-other : (mark b : ℕ) (rest : List ℕ) → b ≢ mark → after_byte mark (b ∷ rest) ≡ None
-after_byte-other mark b rest ne = rw (ne_eqb b mark ne) refl
+pub after_byte-other : (delimiter b : ℕ) (rest : List ℕ) → b ≢ delimiter → after_byte delimiter (b ∷ rest) ≡ None
+after_byte-other delimiter b rest ne = rw (ne_eqb b delimiter ne) refl
 
-none_after : (mark : ℕ) (text : List ℕ) → ((rest : List ℕ) → text ≢ mark ∷ rest) → None ≡ after_byte mark text
-none_after mark [] h = refl
-none_after mark (b ∷ rest) h = sym (after_byte-other mark b rest (λ e. h rest (ap (λ (x : ℕ). x ∷ rest) e)))
+none_after : (delimiter : ℕ) (text : List ℕ) → ((rest : List ℕ) → text ≢ delimiter ∷ rest) → None ≡ after_byte delimiter text
+none_after delimiter [] h = refl
+none_after delimiter (b ∷ rest) h = sym (after_byte-other delimiter b rest (λ e. h rest (ap (λ (x : ℕ). x ∷ rest) e)))
 
-pub after_from : (mark : ℕ) (text : List ℕ) (r : Option (Bor (List ℕ))) → MatchOption r ((rest : List ℕ) → text ≢ mark ∷ rest) (λ x. text ≡ mark ∷ x.now) → option_map (λ (x : Bor (List ℕ)). x.now) r ≡ after_byte mark text
-after_from mark text None h = none_after mark text h
-after_from mark text (Some x) h = sym (ap (after_byte mark) h ∙ after_byte-same mark x.now)
+pub after_from : (delimiter : ℕ) (text : List ℕ) (r : Option (Bor (List ℕ))) → MatchOption r ((rest : List ℕ) → text ≢ delimiter ∷ rest) (λ x. text ≡ delimiter ∷ x.now) → option_map (λ (x : Bor (List ℕ)). x.now) r ≡ after_byte delimiter text
+after_from delimiter text None h = none_after delimiter text h
+after_from delimiter text (Some x) h = sym (ap (after_byte delimiter) h ∙ after_byte-same delimiter x.now)
 
 pub after_bytes-again : (word rest : List ℕ) → after_bytes word (word ++ rest) ≡ Some rest
 after_bytes-again [] rest = refl
@@ -51,15 +51,15 @@ not_word word text e rest s = none-some rest (sym e ∙ ap (after_bytes word) s 
 
 -- ---- at the first of several
 
-pub cut_from : (mark : ℕ) (bytes : List ℕ) (r : Option (Bor (List ℕ) × Bor (List ℕ)))
-    → MatchOption r (position_or_len (λ b. eqb b mark) bytes ≡ length bytes) (λ x. (position_or_len (λ b. eqb b mark) bytes < length bytes) × (x.0.now ≡ before_first (λ b. eqb b mark) bytes) × (x.1.now ≡ after_first (λ b. eqb b mark) bytes))
-    → option_map (λ (x : Bor (List ℕ) × Bor (List ℕ)). (x.0.now, x.1.now)) r ≡ cut_at mark bytes
-cut_from mark bytes None h =
-    let n : ltb (position_or_len (λ b. eqb b mark) bytes) (length bytes) ≡ Bool.false = le-ltb _ _ (omega arith) in
-    rw n at (sym (cut_is mark bytes))
-cut_from mark bytes (Some x) h =
-    let n : ltb (position_or_len (λ b. eqb b mark) bytes) (length bytes) ≡ Bool.true = lt-ltb _ _ h.0 in
-    rw (h.1, h.2) (rw n at (sym (cut_is mark bytes)))
+pub cut_from : (delimiter : ℕ) (bytes : List ℕ) (r : Option (Bor (List ℕ) × Bor (List ℕ)))
+    → MatchOption r (position_or_len (λ b. eqb b delimiter) bytes ≡ length bytes) (λ x. (position_or_len (λ b. eqb b delimiter) bytes < length bytes) × (x.0.now ≡ before_first (λ b. eqb b delimiter) bytes) × (x.1.now ≡ after_first (λ b. eqb b delimiter) bytes))
+    → option_map (λ (x : Bor (List ℕ) × Bor (List ℕ)). (x.0.now, x.1.now)) r ≡ cut_at delimiter bytes
+cut_from delimiter bytes None h =
+    let n : ltb (position_or_len (λ b. eqb b delimiter) bytes) (length bytes) ≡ Bool.false = le-ltb _ _ (omega arith) in
+    rw n at (sym (cut_is delimiter bytes))
+cut_from delimiter bytes (Some x) h =
+    let n : ltb (position_or_len (λ b. eqb b delimiter) bytes) (length bytes) ≡ Bool.true = lt-ltb _ _ h.0 in
+    rw (h.1, h.2) (rw n at (sym (cut_is delimiter bytes)))
 
 pub word_stripped : (word text : List ℕ) (r : Option (Bor (List ℕ))) → MatchOption r (LacksTextAt word text 0) (λ x. StripsPrefix (FindsTextPrefix word) text x.now)
     → option_map (λ (x : Bor (List ℕ)). x.now) r ≡ after_bytes word text

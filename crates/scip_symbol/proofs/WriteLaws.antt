@@ -9,22 +9,22 @@ use Rattle.scip_symbol.specs.declared.descriptor.Descriptor.{Descriptor}
 use Rattle.scip_symbol.specs.declared.symbol.Symbol.{Symbol}
 use Rattle.scip_symbol.specs.declared.symbol.Symbol.TheVariants as symbols
 use Rattle.scip_symbol.specs.Bytes.{IsNotFirst}
-use Rattle.scip_symbol.specs.SymbolTexts.{PlainDescriptor, PlainSymbol, Local, Global, are_simple, NameText, plain_name, IsOfMethod, DescriptorTexts, plain_descriptor_text, IsPackagePart, IsOptionalPart, BeginsLocal, SymbolText, plain_text}
-use Rattle.scip_symbol.specs.Views.{plain_descriptors, plain_symbol}
+use Rattle.scip_symbol.specs.SymbolTexts.{DescriptorModel, SymbolModel, Local, Global, are_simple, NameText, canonical_name, IsOfMethod, DescriptorTexts, canonical_descriptor_text, IsPackagePart, IsOptionalPart, BeginsLocal, SymbolText, canonical_text}
+use Rattle.scip_symbol.specs.Views.{descriptor_models, symbol_model}
 use Rattle.scip_symbol.specs.Reading.{after_bytes}
 use Rattle.scip_symbol.proofs.TextCuts.{after_bytes_some, not_word}
 use Rattle.scip_symbol.specs.Outcomes.{is_empty, has_empty, HasLocalScheme, begins_with_space, is_stop, is_wrong_part, wrong_part_of, is_wrong_descriptor, wrong_descriptor_of, AreOfMethods, IsWritable, IsWriteOutcome}
 
 -- ---- the type of descriptors keeps this
 
-abbrev AreKept : List PlainDescriptor → Type 0
+abbrev AreKept : List DescriptorModel → Type 0
 AreKept ds = AllByRecursion (λ d. IsOfMethod d.kind d.disambiguator) ds
 
-are_kept : (ds : List Descriptor) → AreKept (plain_descriptors ds)
+are_kept : (ds : List Descriptor) → AreKept (descriptor_models ds)
 are_kept [] = tt
 are_kept (d ∷ ds) = (d.of_method, are_kept ds)
 
-pub are_of_methods : (s : Symbol) → AreOfMethods (plain_symbol s)
+pub are_of_methods : (s : Symbol) → AreOfMethods (symbol_model s)
 are_of_methods (symbols.Local id) = tt
 are_of_methods (symbols.Global scheme m p v ds) = are_kept ds.items
 
@@ -34,7 +34,7 @@ some_of : {X : Type 0} (xs : List X) → is_empty xs ≡ false → xs ≢ []
 some_of [] e = absurd cc
 some_of (x ∷ xs) e = λ s. absurd cc
 
-pub plain_name_text : (name : List ℕ) → name ≢ [] → NameText name (plain_name name)
+pub plain_name_text : (name : List ℕ) → name ≢ [] → NameText name (canonical_name name)
 plain_name_text name some =
     elim (cases_Bool (are_simple name)) [
       | inl e ↦ rw e (record { some = some; written = inl (record { some = some; simple = e }, refl) })
@@ -45,14 +45,14 @@ none_from : (b : Bool) (i : ℕ) (o : Option ℕ) → cond b (Some i) o ≡ None
 none_from true i o e = absurd cc
 none_from false i o e = (refl, e)
 
-plain_row : (ds : List PlainDescriptor) (i : ℕ) → AreKept ds → list_any (λ d. is_empty d.name) ds ≡ false → position_from is_wrong_descriptor i ds ≡ None → DescriptorTexts ds (flat_map plain_descriptor_text ds)
+plain_row : (ds : List DescriptorModel) (i : ℕ) → AreKept ds → list_any (λ d. is_empty d.name) ds ≡ false → position_from is_wrong_descriptor i ds ≡ None → DescriptorTexts ds (flat_map canonical_descriptor_text ds)
 plain_row [] i k n w = refl
 plain_row (d ∷ ds) i k n w =
     let names = or_parts (is_empty d.name) (list_any (λ x. is_empty x.name) ds) n in
     let first = none_from (is_wrong_descriptor d) i (position_from is_wrong_descriptor (i + 1) ds) w in (
-      plain_descriptor_text d,
-      flat_map plain_descriptor_text ds,
-      record { name = plain_name d.name; name_is = plain_name_text d.name (some_of d.name names.0); of_method = k.0; simple = not-false (are_simple d.disambiguator) first.0; whole = refl },
+      canonical_descriptor_text d,
+      flat_map canonical_descriptor_text ds,
+      record { name = canonical_name d.name; name_is = plain_name_text d.name (some_of d.name names.0); of_method = k.0; simple = not-false (are_simple d.disambiguator) first.0; whole = refl },
       plain_row ds (i + 1) k.1 names.1 first.1,
       refl,
     )
@@ -73,7 +73,7 @@ is_optional part e =
     stop : (part : List ℕ) → is_stop part ≡ false → part ≡ codes "." → ⊥
     stop part e s = let k : is_stop (codes ".") ≡ false = subst (λ (x : List ℕ). is_stop x ≡ false) s e in absurd cc
 
-pub writable_text : (s : PlainSymbol) → AreOfMethods s → IsWritable s → SymbolText s (plain_text s)
+pub writable_text : (s : SymbolModel) → AreOfMethods s → IsWritable s → SymbolText s (canonical_text s)
 writable_text (Local id) k w =
     let simple = none_from (not (are_simple id)) 0 None w.descriptors in
     (record { some = some_of id w.no_empty; simple = not-false (are_simple id) simple.0 }, refl)
@@ -91,31 +91,31 @@ writable_text (Global scheme m p v ds) k w =
       package_is = is_optional p c.0;
       version_is = is_optional v d.0;
       some = some_of ds rows.0;
-      rest = flat_map plain_descriptor_text ds;
+      rest = flat_map canonical_descriptor_text ds;
       rest_is = plain_row ds 0 k rows.1 w.descriptors;
       whole = refl;
     }
 
-pub writable_outcome : (s : PlainSymbol) → AreOfMethods s → IsWritable s → IsWriteOutcome s (Ok (plain_text s))
+pub writable_outcome : (s : SymbolModel) → AreOfMethods s → IsWritable s → IsWriteOutcome s (Ok (canonical_text s))
 writable_outcome s k w = (writable_text s k w, refl)
 
-pub symbol_text : (s : Symbol) → IsWritable (plain_symbol s) → SymbolText (plain_symbol s) (plain_text (plain_symbol s))
-symbol_text s w = writable_text (plain_symbol s) (are_of_methods s) w
+pub symbol_text : (s : Symbol) → IsWritable (symbol_model s) → SymbolText (symbol_model s) (canonical_text (symbol_model s))
+symbol_text s w = writable_text (symbol_model s) (are_of_methods s) w
 
 -- ---- every symbol answers something
 
-abbrev SomeOutcome : PlainSymbol → Type 0
+abbrev SomeOutcome : SymbolModel → Type 0
 SomeOutcome s = (o : Result (List ℕ) SymbolFault) × IsWriteOutcome s o
 
-by_descriptors : (s : PlainSymbol) (at : Option ℕ) → AreOfMethods s → has_empty s ≡ false → (HasLocalScheme s → ⊥) → wrong_part_of s ≡ None → wrong_descriptor_of s ≡ at → SomeOutcome s
-by_descriptors s None k e l p d = (Ok (plain_text s), (writable_text s k (record { no_empty = e; not_local = l; parts = p; descriptors = d }), refl))
+by_descriptors : (s : SymbolModel) (at : Option ℕ) → AreOfMethods s → has_empty s ≡ false → (HasLocalScheme s → ⊥) → wrong_part_of s ≡ None → wrong_descriptor_of s ≡ at → SomeOutcome s
+by_descriptors s None k e l p d = (Ok (canonical_text s), (writable_text s k (record { no_empty = e; not_local = l; parts = p; descriptors = d }), refl))
 by_descriptors s (Some at) k e l p d = (Err (faults.BadDescriptor at), (e, l, p, d))
 
-by_part : (s : PlainSymbol) (part : Option ℕ) → AreOfMethods s → has_empty s ≡ false → (HasLocalScheme s → ⊥) → wrong_part_of s ≡ part → SomeOutcome s
+by_part : (s : SymbolModel) (part : Option ℕ) → AreOfMethods s → has_empty s ≡ false → (HasLocalScheme s → ⊥) → wrong_part_of s ≡ part → SomeOutcome s
 by_part s None k e l p = by_descriptors s (wrong_descriptor_of s) k e l p refl
 by_part s (Some part) k e l p = (Err (faults.BadPart part), (e, l, p))
 
-has_local_or_not : (s : PlainSymbol) → HasLocalScheme s ⊎ (HasLocalScheme s → ⊥)
+has_local_or_not : (s : SymbolModel) → HasLocalScheme s ⊎ (HasLocalScheme s → ⊥)
 has_local_or_not (Local id) = inr (λ h. h)
 has_local_or_not (Global scheme m p v ds) = go (after_bytes (codes "local") scheme) refl
   where
@@ -123,7 +123,7 @@ has_local_or_not (Global scheme m p v ds) = go (after_bytes (codes "local") sche
     go (Some rest) e = inl (rest, after_bytes_some (codes "local") scheme rest e)
     go None e = inr (λ l. not_word (codes "local") scheme e l.0 l.1)
 
-some_writing : (s : PlainSymbol) → AreOfMethods s → SomeOutcome s
+some_writing : (s : SymbolModel) → AreOfMethods s → SomeOutcome s
 some_writing s k =
     elim (cases_Bool (has_empty s)) [
       | inl e ↦ (Err faults.Empty, e)
@@ -133,5 +133,5 @@ some_writing s k =
       ]
     ]
 
-pub symbol_outcome : (s : Symbol) → (o : Result (List ℕ) SymbolFault) × IsWriteOutcome (plain_symbol s) o
-symbol_outcome s = some_writing (plain_symbol s) (are_of_methods s)
+pub symbol_outcome : (s : Symbol) → (o : Result (List ℕ) SymbolFault) × IsWriteOutcome (symbol_model s) o
+symbol_outcome s = some_writing (symbol_model s) (are_of_methods s)

@@ -13,10 +13,10 @@ UnlessMemory Memory P = Unit {0}
 UnlessMemory (BadPart part) P = P
 
 -- the result, with the view of its value, has this property, unless it is `Memory`
-abbrev pub Tells : {X Y : Type 0} → (X → Y) → Result X SymbolFault → (Result Y SymbolFault → Type 0) → Type 0
-Tells view (Ok x) IsOutcome = IsOutcome (Ok (view x))
-Tells view (Err fault) IsOutcome = UnlessMemory fault (IsOutcome (Err fault))
+abbrev pub HasOutcome : {X Y : Type 0} → (X → Y) → Result X SymbolFault → (Result Y SymbolFault → Type 0) → Type 0
+HasOutcome view (Ok x) IsOutcome = IsOutcome (Ok (view x))
+HasOutcome view (Err fault) IsOutcome = UnlessMemory fault (IsOutcome (Err fault))
 
 -- the result, with the view of its value, is this outcome, unless it is `Memory`
 abbrev pub Accords : {X Y : Type 0} → (X → Y) → Result X SymbolFault → Result Y SymbolFault → Type 0
-Accords view result reading = Tells view result (λ outcome. reading ≡ outcome)
+Accords view result reading = HasOutcome view result (λ outcome. reading ≡ outcome)

@@ -5,7 +5,7 @@ use Rattle.scip_symbol.specs.declared.kind.DescriptorKind.{DescriptorKind}
 use Rattle.scip_symbol.specs.declared.fault.SymbolFault.{SymbolFault}
 use Rattle.scip_symbol.specs.declared.fault.SymbolFault.TheVariants as faults
 use Rattle.scip_symbol.specs.Bytes.{IsNotFirst, IsUnended}
-use Rattle.scip_symbol.specs.SymbolTexts.{PlainDescriptor, PlainSymbol, Local, Global, is_simple, are_simple, before_name, IsOfMethod, DescriptorText, DescriptorTexts, IsPackagePart, ended_part, BeginsLocal, SymbolText, plain_text}
+use Rattle.scip_symbol.specs.SymbolTexts.{DescriptorModel, SymbolModel, Local, Global, is_simple, are_simple, before_name, IsOfMethod, DescriptorText, DescriptorTexts, IsPackagePart, ended_part, BeginsLocal, SymbolText, canonical_text}
 
 -- ---- writing
 
@@ -15,12 +15,12 @@ is_empty [] = true
 is_empty (x ∷ xs) = false
 
 -- the scheme, the local id, a name or the list of descriptors is empty
-abbrev pub has_empty : PlainSymbol → Bool
+abbrev pub has_empty : SymbolModel → Bool
 has_empty (Local id) = is_empty id
 has_empty (Global scheme manager package_name version descriptors) = is_empty scheme || (is_empty descriptors || list_any (λ d. is_empty d.name) descriptors)
 
 -- the scheme begins with `local`
-abbrev pub HasLocalScheme : PlainSymbol → Type 0
+abbrev pub HasLocalScheme : SymbolModel → Type 0
 HasLocalScheme (Local id) = ⊥
 HasLocalScheme (Global scheme manager package_name version descriptors) = BeginsLocal scheme
 
@@ -40,45 +40,45 @@ abbrev pub is_wrong_part : List ℕ → Bool
 is_wrong_part part = begins_with_space part || is_stop part
 
 -- the number of the first part that can't be written: 0 is the scheme, 1 the manager, 2 the package name and 3 the version
-abbrev pub wrong_part_of : PlainSymbol → Option ℕ
+abbrev pub wrong_part_of : SymbolModel → Option ℕ
 wrong_part_of (Local id) = None
 wrong_part_of (Global scheme manager package_name version descriptors) =
     position_from (λ wrong. wrong) 0 (begins_with_space scheme ∷ is_wrong_part manager ∷ is_wrong_part package_name ∷ is_wrong_part version ∷ [])
 
 -- the disambiguator can't be written: it has a byte that isn't an identifier character
-abbrev pub is_wrong_descriptor : PlainDescriptor → Bool
+abbrev pub is_wrong_descriptor : DescriptorModel → Bool
 is_wrong_descriptor d = not (are_simple d.disambiguator)
 
 -- the index of the first descriptor that can't be written, or 0 for a local id that can't be written
-abbrev pub wrong_descriptor_of : PlainSymbol → Option ℕ
+abbrev pub wrong_descriptor_of : SymbolModel → Option ℕ
 wrong_descriptor_of (Local id) = position_from (λ wrong. wrong) 0 (not (are_simple id) ∷ [])
 wrong_descriptor_of (Global scheme manager package_name version descriptors) = position_from is_wrong_descriptor 0 descriptors
 
 -- only methods have a disambiguator, as the type of descriptors guarantees
-abbrev pub AreOfMethods : PlainSymbol → Type 0
+abbrev pub AreOfMethods : SymbolModel → Type 0
 AreOfMethods (Local id) = Unit {0}
 AreOfMethods (Global scheme manager package_name version descriptors) = AllByRecursion (λ d. IsOfMethod d.kind d.disambiguator) descriptors
 
 -- the symbol has no error
-pub record IsWritable (s : PlainSymbol) : Type 0 where
+pub record IsWritable (s : SymbolModel) : Type 0 where
   pub no_empty : has_empty s ≡ false
   pub not_local : HasLocalScheme s → ⊥
   pub parts : wrong_part_of s ≡ None
   pub descriptors : wrong_descriptor_of s ≡ None
 
 -- the first error of a symbol, in this order: Empty, LocalScheme, BadPart, BadDescriptor
-abbrev pub IsWriteRefusal : PlainSymbol → SymbolFault → Type 0
-IsWriteRefusal s faults.Empty = has_empty s ≡ true
-IsWriteRefusal s faults.LocalScheme = (has_empty s ≡ false) × HasLocalScheme s
-IsWriteRefusal s (faults.BadPart part) = (has_empty s ≡ false) × ¬ (HasLocalScheme s) × (wrong_part_of s ≡ Some part)
-IsWriteRefusal s (faults.BadDescriptor at) = (has_empty s ≡ false) × ¬ (HasLocalScheme s) × (wrong_part_of s ≡ None) × (wrong_descriptor_of s ≡ Some at)
-IsWriteRefusal s faults.OpenQuote = ⊥
-IsWriteRefusal s faults.Memory = ⊥
+abbrev pub IsWriteError : SymbolModel → SymbolFault → Type 0
+IsWriteError s faults.Empty = has_empty s ≡ true
+IsWriteError s faults.LocalScheme = (has_empty s ≡ false) × HasLocalScheme s
+IsWriteError s (faults.BadPart part) = (has_empty s ≡ false) × ¬ (HasLocalScheme s) × (wrong_part_of s ≡ Some part)
+IsWriteError s (faults.BadDescriptor at) = (has_empty s ≡ false) × ¬ (HasLocalScheme s) × (wrong_part_of s ≡ None) × (wrong_descriptor_of s ≡ Some at)
+IsWriteError s faults.OpenQuote = ⊥
+IsWriteError s faults.Memory = ⊥
 
--- the outcome of writing a symbol: its plain string, or its first error
-abbrev pub IsWriteOutcome : PlainSymbol → Result (List ℕ) SymbolFault → Type 0
-IsWriteOutcome s (Ok text) = SymbolText s text × (text ≡ plain_text s)
-IsWriteOutcome s (Err fault) = IsWriteRefusal s fault
+-- the outcome of writing a symbol: its canonical string, or its first error
+abbrev pub IsWriteOutcome : SymbolModel → Result (List ℕ) SymbolFault → Type 0
+IsWriteOutcome s (Ok text) = SymbolText s text × (text ≡ canonical_text s)
+IsWriteOutcome s (Err fault) = IsWriteError s fault
 
 -- ---- reading
 
@@ -104,25 +104,25 @@ pub record IsBadPart (text : List ℕ) (part : ℕ) : Type 0 where
   pub wrong : ((begins_with_space text ≡ true) × (part ≡ 0)) ⊎ LacksPart text part
 
 -- the string is four parts and descriptors, followed by the rest, which begins at this offset
-pub record HasFront (text : List ℕ) (at : ℕ) (rest : List ℕ) : Type 0 where
+pub record HasDescriptorPrefix (text : List ℕ) (at : ℕ) (rest : List ℕ) : Type 0 where
   pub parts : List (List ℕ)
-  pub descriptors : List PlainDescriptor
+  pub descriptors : List DescriptorModel
   pub front : List ℕ
   pub has_parts : BeginsWithParts text parts (front ++ rest)
   pub four : length parts ≡ 4
   pub front_is : DescriptorTexts descriptors front
-  pub place : at + length rest ≡ length text
+  pub offset : at + length rest ≡ length text
 
 -- the next descriptor's name begins with a backtick that isn't closed
 pub record HasOpenQuote (rest : List ℕ) : Type 0 where
   pub kind : DescriptorKind
   pub inside : List ℕ
-  pub there : rest ≡ before_name kind ++ 96 ∷ inside
+  pub begins : rest ≡ before_name kind ++ 96 ∷ inside
   pub open_is : IsUnended 96 inside
 
 -- no string of a descriptor is a prefix of the bytes
 abbrev pub HasNoDescriptor : List ℕ → Type 0
-HasNoDescriptor rest = (d : PlainDescriptor) (first others : List ℕ) → DescriptorText d first → rest ≢ first ++ others
+HasNoDescriptor rest = (d : DescriptorModel) (first others : List ℕ) → DescriptorText d first → rest ≢ first ++ others
 
 -- the first byte of a local id that isn't an identifier character is at this offset
 pub record IsBadId (text : List ℕ) (at : ℕ) : Type 0 where
@@ -132,26 +132,26 @@ pub record IsBadId (text : List ℕ) (at : ℕ) : Type 0 where
   pub whole : text ≡ codes "local " ++ front ++ b ∷ others
   pub simple : are_simple front ≡ true
   pub wrong : is_simple b ≡ false
-  pub place : at ≡ 6 + length front
+  pub offset : at ≡ 6 + length front
 
 -- four parts and descriptors are followed, at this offset, by something that isn't a descriptor and whose name has no open backtick
 pub record IsBadDescriptor (text : List ℕ) (at : ℕ) : Type 0 where
   pub rest : List ℕ
-  pub front : HasFront text at rest
+  pub front : HasDescriptorPrefix text at rest
   pub some : rest ≢ []
   pub none : HasNoDescriptor rest
   pub no_quote : HasOpenQuote rest → ⊥
 
 -- the first error of a string
-abbrev pub IsReadRefusal : List ℕ → SymbolFault → Type 0
-IsReadRefusal text faults.Empty = (text ≡ []) ⊎ ((text ≡ codes "local ") ⊎ ((parts : List (List ℕ)) × BeginsWithParts text parts [] × (length parts ≡ 4)))
-IsReadRefusal text (faults.BadDescriptor at) = IsBadId text at ⊎ IsBadDescriptor text at
-IsReadRefusal text faults.LocalScheme = BeginsLocal text × ((id : List ℕ) → text ≢ codes "local " ++ id)
-IsReadRefusal text faults.OpenQuote = (at : ℕ) × (rest : List ℕ) × HasFront text at rest × HasOpenQuote rest
-IsReadRefusal text faults.Memory = ⊥
-IsReadRefusal text (faults.BadPart part) = IsBadPart text part
+abbrev pub IsReadError : List ℕ → SymbolFault → Type 0
+IsReadError text faults.Empty = (text ≡ []) ⊎ ((text ≡ codes "local ") ⊎ ((parts : List (List ℕ)) × BeginsWithParts text parts [] × (length parts ≡ 4)))
+IsReadError text (faults.BadDescriptor at) = IsBadId text at ⊎ IsBadDescriptor text at
+IsReadError text faults.LocalScheme = BeginsLocal text × ((id : List ℕ) → text ≢ codes "local " ++ id)
+IsReadError text faults.OpenQuote = (at : ℕ) × (rest : List ℕ) × HasDescriptorPrefix text at rest × HasOpenQuote rest
+IsReadError text faults.Memory = ⊥
+IsReadError text (faults.BadPart part) = IsBadPart text part
 
 -- the outcome of reading a string: the symbol that has it, or its first error
-abbrev pub IsReadOutcome : List ℕ → Result PlainSymbol SymbolFault → Type 0
+abbrev pub IsReadOutcome : List ℕ → Result SymbolModel SymbolFault → Type 0
 IsReadOutcome text (Ok s) = SymbolText s text
-IsReadOutcome text (Err fault) = IsReadRefusal text fault
+IsReadOutcome text (Err fault) = IsReadError text fault

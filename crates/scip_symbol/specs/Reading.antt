@@ -8,7 +8,7 @@ use Rattle.scip_symbol.specs.declared.kind.DescriptorKind.{DescriptorKind}
 use Rattle.scip_symbol.specs.declared.kind.DescriptorKind.TheVariants.{Namespace, TypeName, Term, Method, Meta, Macro, TypeParameter, Parameter}
 use Rattle.scip_symbol.specs.declared.fault.SymbolFault.{SymbolFault}
 use Rattle.scip_symbol.specs.declared.fault.SymbolFault.TheVariants as faults
-use Rattle.scip_symbol.specs.SymbolTexts.{PlainDescriptor, PlainSymbol, Local, is_simple, DescriptorTexts}
+use Rattle.scip_symbol.specs.SymbolTexts.{DescriptorModel, SymbolModel, Local, is_simple, DescriptorTexts}
 
 -- continues with the value, or returns the error
 infixl 10 ◌>>=◌
@@ -18,8 +18,8 @@ abbrev pub ◌>>=◌ : {A B E : Type 0} → Result A E → (A → Result B E) �
 
 -- what follows this byte, if the bytes begin with it
 abbrev pub after_byte : ℕ → List ℕ → Option (List ℕ)
-after_byte mark [] = None
-after_byte mark (b ∷ bytes) = if b == mark then Some bytes else None
+after_byte delimiter [] = None
+after_byte delimiter (b ∷ bytes) = if b == delimiter then Some bytes else None
 
 -- what follows these bytes, if the string begins with them
 abbrev pub after_bytes : List ℕ → List ℕ → Option (List ℕ)
@@ -29,16 +29,16 @@ after_bytes (w ∷ word) (b ∷ bytes) = if b == w then after_bytes word bytes e
 
 -- the part that the bytes begin with, and what follows the single byte that ends it; in the part this byte is doubled. None if nothing ends the part
 unfoldable pub ended_by : ℕ → List ℕ → Option (List ℕ × List ℕ)
-ended_by mark [] = None
-ended_by mark (b ∷ []) = if b == mark then Some ([], []) else None
-ended_by mark (b ∷ c ∷ more) =
-    if b == mark then (if c == mark then option_map (with_first mark) (ended_by mark more) else Some ([], c ∷ more))
-    else option_map (with_first b) (ended_by mark (c ∷ more))
+ended_by delimiter [] = None
+ended_by delimiter (b ∷ []) = if b == delimiter then Some ([], []) else None
+ended_by delimiter (b ∷ c ∷ more) =
+    if b == delimiter then (if c == delimiter then option_map (with_first delimiter) (ended_by delimiter more) else Some ([], c ∷ more))
+    else option_map (with_first b) (ended_by delimiter (c ∷ more))
 
 -- the identifier characters that the bytes begin with, and what follows them
-unfoldable pub simple_front : List ℕ → List ℕ × List ℕ
-simple_front [] = ([], [])
-simple_front (b ∷ bytes) = if is_simple b then with_first b (simple_front bytes) else ([], b ∷ bytes)
+unfoldable pub simple_prefix : List ℕ → List ℕ × List ℕ
+simple_prefix [] = ([], [])
+simple_prefix (b ∷ bytes) = if is_simple b then with_first b (simple_prefix bytes) else ([], b ∷ bytes)
 
 -- ---- descriptors; `at` is the offset of the descriptor in the symbol string
 
@@ -49,7 +49,7 @@ nonempty_name at (b ∷ name) rest = Ok (b ∷ name, rest)
 
 -- the simple identifier that the bytes begin with, and what follows it
 unfoldable pub simple_name_at : ℕ → List ℕ → Result (List ℕ × List ℕ) SymbolFault
-simple_name_at at text = nonempty_name at (simple_front text).0 (simple_front text).1
+simple_name_at at text = nonempty_name at (simple_prefix text).0 (simple_prefix text).1
 
 -- the escaped name whose first backtick has been read, and what follows it
 unfoldable pub quoted_name_at : ℕ → List ℕ → Result (List ℕ × List ℕ) SymbolFault
@@ -58,26 +58,26 @@ quoted_name_at at inside = do
   nonempty_name at x.0 x.1
 
 -- the name that the bytes begin with, and what follows it, by whether a backtick is the first byte
-abbrev pub name_behind : ℕ → Option (List ℕ) → List ℕ → Result (List ℕ × List ℕ) SymbolFault
-name_behind at None text = simple_name_at at text
-name_behind at (Some inside) text = quoted_name_at at inside
+abbrev pub name_after_tick : ℕ → Option (List ℕ) → List ℕ → Result (List ℕ × List ℕ) SymbolFault
+name_after_tick at None text = simple_name_at at text
+name_after_tick at (Some inside) text = quoted_name_at at inside
 
 -- the name that the bytes begin with, unescaped, and what follows it
-unfoldable pub name_in_front : ℕ → List ℕ → Result (List ℕ × List ℕ) SymbolFault
-name_in_front at text = name_behind at (after_byte 96 text) text
+unfoldable pub first_name_at : ℕ → List ℕ → Result (List ℕ × List ℕ) SymbolFault
+first_name_at at text = name_after_tick at (after_byte 96 text) text
 
 -- the descriptor of a name and the byte that closes it, and what follows it; its opening byte has been read
-unfoldable pub closed_at : ℕ → DescriptorKind → ℕ → List ℕ → Result (PlainDescriptor × List ℕ) SymbolFault
+unfoldable pub closed_at : ℕ → DescriptorKind → ℕ → List ℕ → Result (DescriptorModel × List ℕ) SymbolFault
 closed_at at kind close inside = do
-  x ← name_in_front at inside
+  x ← first_name_at at inside
   rest ← ok_or (after_byte close x.1) (faults.BadDescriptor at)
   Ok (record { kind = kind; name = x.0; disambiguator = [] }, rest)
 
 -- the method whose name and `(` have been read, and what follows it
-unfoldable pub method_at : ℕ → List ℕ → List ℕ → Result (PlainDescriptor × List ℕ) SymbolFault
+unfoldable pub method_at : ℕ → List ℕ → List ℕ → Result (DescriptorModel × List ℕ) SymbolFault
 method_at at name inside = do
-  rest ← ok_or (after_bytes (codes ").") (simple_front inside).1) (faults.BadDescriptor at)
-  Ok (record { kind = Method; name = name; disambiguator = (simple_front inside).0 }, rest)
+  rest ← ok_or (after_bytes (codes ").") (simple_prefix inside).1) (faults.BadDescriptor at)
+  Ok (record { kind = Method; name = name; disambiguator = (simple_prefix inside).0 }, rest)
 
 -- the kind of a descriptor with this byte after its name
 abbrev pub kind_of : ℕ → Option DescriptorKind
@@ -95,39 +95,39 @@ suffix_at [] = None
 suffix_at (b ∷ rest) = option_map (λ kind. (kind, rest)) (kind_of b)
 
 -- the descriptor whose name has been read and that one byte ends, and what follows it
-unfoldable pub told_at : ℕ → List ℕ → List ℕ → Result (PlainDescriptor × List ℕ) SymbolFault
-told_at at name text = do
+unfoldable pub one_byte_suffixed_at : ℕ → List ℕ → List ℕ → Result (DescriptorModel × List ℕ) SymbolFault
+one_byte_suffixed_at at name text = do
   x ← ok_or (suffix_at text) (faults.BadDescriptor at)
   Ok (record { kind = x.0; name = name; disambiguator = [] }, x.1)
 
 -- the descriptor whose name has been read, and what follows it, by whether `(` comes next
-abbrev pub suffixed_behind : ℕ → List ℕ → Option (List ℕ) → List ℕ → Result (PlainDescriptor × List ℕ) SymbolFault
-suffixed_behind at name None text = told_at at name text
-suffixed_behind at name (Some inside) text = method_at at name inside
+abbrev pub suffixed_after_paren : ℕ → List ℕ → Option (List ℕ) → List ℕ → Result (DescriptorModel × List ℕ) SymbolFault
+suffixed_after_paren at name None text = one_byte_suffixed_at at name text
+suffixed_after_paren at name (Some inside) text = method_at at name inside
 
 -- the descriptor whose name has been read, and what follows it
-unfoldable pub suffixed_at : ℕ → List ℕ → List ℕ → Result (PlainDescriptor × List ℕ) SymbolFault
-suffixed_at at name text = suffixed_behind at name (after_byte 40 text) text
+unfoldable pub suffixed_at : ℕ → List ℕ → List ℕ → Result (DescriptorModel × List ℕ) SymbolFault
+suffixed_at at name text = suffixed_after_paren at name (after_byte 40 text) text
 
 -- the descriptor that begins with its name, and what follows it
-unfoldable pub bare_at : ℕ → List ℕ → Result (PlainDescriptor × List ℕ) SymbolFault
+unfoldable pub bare_at : ℕ → List ℕ → Result (DescriptorModel × List ℕ) SymbolFault
 bare_at at text = do
-  x ← name_in_front at text
+  x ← first_name_at at text
   suffixed_at at x.0 x.1
 
 -- the first descriptor, and what follows it, by whether `[` or `(` is the first byte
-abbrev pub descriptor_behind : ℕ → Option (List ℕ) → Option (List ℕ) → List ℕ → Result (PlainDescriptor × List ℕ) SymbolFault
-descriptor_behind at None None text = bare_at at text
-descriptor_behind at None (Some inside) text = closed_at at Parameter 41 inside
-descriptor_behind at (Some inside) _ text = closed_at at TypeParameter 93 inside
+abbrev pub descriptor_after_mark : ℕ → Option (List ℕ) → Option (List ℕ) → List ℕ → Result (DescriptorModel × List ℕ) SymbolFault
+descriptor_after_mark at None None text = bare_at at text
+descriptor_after_mark at None (Some inside) text = closed_at at Parameter 41 inside
+descriptor_after_mark at (Some inside) _ text = closed_at at TypeParameter 93 inside
 
 -- the first descriptor, and what follows it
-unfoldable pub descriptor_at : ℕ → List ℕ → Result (PlainDescriptor × List ℕ) SymbolFault
-descriptor_at at text = descriptor_behind at (after_byte 91 text) (after_byte 40 text) text
+unfoldable pub descriptor_at : ℕ → List ℕ → Result (DescriptorModel × List ℕ) SymbolFault
+descriptor_at at text = descriptor_after_mark at (after_byte 91 text) (after_byte 40 text) text
 
 -- some descriptors of the string are followed by a wrong one, which has this error; the string is the end of one of this length
 pub record IsFirstWrong (whole : ℕ) (text : List ℕ) (fault : SymbolFault) : Type 0 where
-  pub descriptors : List PlainDescriptor
+  pub descriptors : List DescriptorModel
   pub front : List ℕ
   pub rest : List ℕ
   pub front_is : DescriptorTexts descriptors front
@@ -136,15 +136,15 @@ pub record IsFirstWrong (whole : ℕ) (text : List ℕ) (fault : SymbolFault) : 
   pub answer : descriptor_at (whole - length rest) rest ≡ Err fault
 
 -- all descriptors of the string, or the error of the first wrong one
-abbrev pub IsDescriptorsOutcome : ℕ → List ℕ → Result (List PlainDescriptor) SymbolFault → Type 0
+abbrev pub IsDescriptorsOutcome : ℕ → List ℕ → Result (List DescriptorModel) SymbolFault → Type 0
 IsDescriptorsOutcome whole text (Ok ds) = DescriptorTexts ds text
 IsDescriptorsOutcome whole text (Err fault) = IsFirstWrong whole text fault
 
 -- ---- parts
 
 -- the part with this number, which the bytes begin with, and what follows the space that ends it
-unfoldable pub part_in_front : ℕ → List ℕ → Result (List ℕ × List ℕ) SymbolFault
-part_in_front number text = ok_or (ended_by 32 text) (faults.BadPart number)
+unfoldable pub first_part_at : ℕ → List ℕ → Result (List ℕ × List ℕ) SymbolFault
+first_part_at number text = ok_or (ended_by 32 text) (faults.BadPart number)
 
 -- a part that may be empty, from its bytes in a string: `.` is the placeholder of an empty one
 abbrev pub part_meant : List ℕ → List ℕ
@@ -155,37 +155,37 @@ part_meant (b ∷ c ∷ part) = b ∷ c ∷ part
 -- the part with this number, which may be empty, and what follows the space that ends it
 unfoldable pub optional_part_at : ℕ → List ℕ → Result (List ℕ × List ℕ) SymbolFault
 optional_part_at number text = do
-  x ← part_in_front number text
+  x ← first_part_at number text
   Ok (part_meant x.0, x.1)
 
 -- the four parts of a symbol, unescaped
-pub record PlainParts : Type 0 where
+pub record PartsModel : Type 0 where
   pub scheme : List ℕ
   pub manager : List ℕ
   pub package_name : List ℕ
   pub version : List ℕ
 
 -- the four parts that the bytes begin with, and what follows them
-unfoldable pub parts_at : List ℕ → Result (PlainParts × List ℕ) SymbolFault
+unfoldable pub parts_at : List ℕ → Result (PartsModel × List ℕ) SymbolFault
 parts_at text = do
-  scheme ← part_in_front 0 text
+  scheme ← first_part_at 0 text
   manager ← optional_part_at 1 scheme.1
   package_name ← optional_part_at 2 manager.1
   version ← optional_part_at 3 package_name.1
   Ok (record { scheme = scheme.0; manager = manager.0; package_name = package_name.0; version = version.0 }, version.1)
 
 -- the four parts as contracts describe them
-abbrev pub plain_parts : Parts → PlainParts
-plain_parts parts = record { scheme = string_bytes parts.scheme; manager = string_bytes parts.manager; package_name = string_bytes parts.package; version = string_bytes parts.version }
+abbrev pub parts_model : Parts → PartsModel
+parts_model parts = record { scheme = string_bytes parts.scheme; manager = string_bytes parts.manager; package_name = string_bytes parts.package; version = string_bytes parts.version }
 
 -- ---- the id of a local symbol
 
 -- the local symbol with this id, if no bytes follow the id's identifier characters
-abbrev pub local_by : List ℕ → List ℕ → Result PlainSymbol SymbolFault
+abbrev pub local_by : List ℕ → List ℕ → Result SymbolModel SymbolFault
 local_by id [] = Ok (Local id)
-local_by id (c ∷ rest) = Err (faults.BadDescriptor (6 + length (simple_front id).0))
+local_by id (c ∷ rest) = Err (faults.BadDescriptor (6 + length (simple_prefix id).0))
 
 -- the local symbol with this id, if the id isn't empty and has only identifier characters
-unfoldable pub local_of : List ℕ → Result PlainSymbol SymbolFault
+unfoldable pub local_of : List ℕ → Result SymbolModel SymbolFault
 local_of [] = Err faults.Empty
-local_of (b ∷ id) = local_by (b ∷ id) (simple_front (b ∷ id)).1
+local_of (b ∷ id) = local_by (b ∷ id) (simple_prefix (b ∷ id)).1

@@ -7,15 +7,15 @@ use Rattle.scip_symbol.specs.declared.kind.DescriptorKind.TheVariants.{Namespace
 use Rattle.scip_symbol.specs.Bytes.{doubled, IsNotFirst}
 
 -- a descriptor as contracts describe it: its name and disambiguator are lists of bytes
-pub record PlainDescriptor : Type 0 where
+pub record DescriptorModel : Type 0 where
   pub kind : DescriptorKind
   pub name : List ℕ
   pub disambiguator : List ℕ
 
 -- a symbol as contracts describe it: its strings are lists of bytes
-pub data PlainSymbol : Type 0 where
-  Local : (id : List ℕ) → PlainSymbol
-  Global : (scheme manager package_name version : List ℕ) (descriptors : List PlainDescriptor) → PlainSymbol
+pub data SymbolModel : Type 0 where
+  Local : (id : List ℕ) → SymbolModel
+  Global : (scheme manager package_name version : List ℕ) (descriptors : List DescriptorModel) → SymbolModel
 
 -- an identifier character: a letter, a digit or one of _ + - $
 abbrev pub is_simple : ℕ → Bool
@@ -66,7 +66,7 @@ abbrev pub IsOfMethod : DescriptorKind → List ℕ → Type 0
 IsOfMethod kind disambiguator = kind ≢ Method → disambiguator ≡ []
 
 -- a string of a descriptor, with its name simple or escaped; the disambiguator is empty or a simple identifier
-pub record DescriptorText (d : PlainDescriptor) (text : List ℕ) : Type 0 where
+pub record DescriptorText (d : DescriptorModel) (text : List ℕ) : Type 0 where
   pub name : List ℕ
   pub name_is : NameText d.name name
   pub of_method : IsOfMethod d.kind d.disambiguator
@@ -74,7 +74,7 @@ pub record DescriptorText (d : PlainDescriptor) (text : List ℕ) : Type 0 where
   pub whole : text ≡ before_name d.kind ++ name ++ closing d.kind d.disambiguator
 
 -- the string is the concatenation of strings of the descriptors
-abbrev pub DescriptorTexts : List PlainDescriptor → List ℕ → Type 0
+abbrev pub DescriptorTexts : List DescriptorModel → List ℕ → Type 0
 DescriptorTexts [] text = text ≡ []
 DescriptorTexts (d ∷ ds) text = (first : List ℕ) × (others : List ℕ) × DescriptorText d first × DescriptorTexts ds others × (text ≡ first ++ others)
 
@@ -110,7 +110,7 @@ abbrev pub BeginsLocal : List ℕ → Type 0
 BeginsLocal bytes = (rest : List ℕ) × (bytes ≡ codes "local" ++ rest)
 
 -- the string of a global symbol with these parts and descriptors
-pub record GlobalText (scheme manager package_name version : List ℕ) (descriptors : List PlainDescriptor) (text : List ℕ) : Type 0 where
+pub record GlobalText (scheme manager package_name version : List ℕ) (descriptors : List DescriptorModel) (text : List ℕ) : Type 0 where
   pub scheme_is : IsPackagePart scheme
   pub not_local : BeginsLocal scheme → ⊥
   pub manager_is : IsOptionalPart manager
@@ -122,19 +122,19 @@ pub record GlobalText (scheme manager package_name version : List ℕ) (descript
   pub whole : text ≡ parts_text scheme manager package_name version ++ rest
 
 -- the symbol has this string by the grammar
-abbrev pub SymbolText : PlainSymbol → List ℕ → Type 0
+abbrev pub SymbolText : SymbolModel → List ℕ → Type 0
 SymbolText (Local id) text = IsSimple id × (text ≡ codes "local " ++ id)
 SymbolText (Global scheme manager package_name version descriptors) text = GlobalText scheme manager package_name version descriptors text
 
 -- a name, in backticks only if it isn't a simple identifier
-abbrev pub plain_name : List ℕ → List ℕ
-plain_name name = if are_simple name then name else quoted name
+abbrev pub canonical_name : List ℕ → List ℕ
+canonical_name name = if are_simple name then name else quoted name
 
--- the plain string of a descriptor: its name is in backticks only if it isn't a simple identifier
-abbrev pub plain_descriptor_text : PlainDescriptor → List ℕ
-plain_descriptor_text d = before_name d.kind ++ plain_name d.name ++ closing d.kind d.disambiguator
+-- the canonical string of a descriptor: its name is in backticks only if it isn't a simple identifier
+abbrev pub canonical_descriptor_text : DescriptorModel → List ℕ
+canonical_descriptor_text d = before_name d.kind ++ canonical_name d.name ++ closing d.kind d.disambiguator
 
--- the plain string of a symbol: a name is in backticks only if it isn't a simple identifier
-abbrev pub plain_text : PlainSymbol → List ℕ
-plain_text (Local id) = codes "local " ++ id
-plain_text (Global scheme manager package_name version descriptors) = parts_text scheme manager package_name version ++ flat_map plain_descriptor_text descriptors
+-- the canonical string of a symbol: a name is in backticks only if it isn't a simple identifier
+abbrev pub canonical_text : SymbolModel → List ℕ
+canonical_text (Local id) = codes "local " ++ id
+canonical_text (Global scheme manager package_name version descriptors) = parts_text scheme manager package_name version ++ flat_map canonical_descriptor_text descriptors

@@ -4,18 +4,18 @@ use Rattle.std.specs.String.{string_bytes}
 use Rattle.scip_symbol.specs.declared.descriptor.Descriptor.{Descriptor}
 use Rattle.scip_symbol.specs.declared.symbol.Symbol.{Symbol}
 use Rattle.scip_symbol.specs.declared.symbol.Symbol.TheVariants as symbols
-use Rattle.scip_symbol.specs.SymbolTexts.{PlainDescriptor, PlainSymbol, Local, Global}
+use Rattle.scip_symbol.specs.SymbolTexts.{DescriptorModel, SymbolModel, Local, Global}
 
 -- a descriptor as contracts describe it
-abbrev pub plain_descriptor : Descriptor → PlainDescriptor
-plain_descriptor d = record { kind = d.kind; name = string_bytes d.name; disambiguator = string_bytes d.disambiguator }
+abbrev pub descriptor_model : Descriptor → DescriptorModel
+descriptor_model d = record { kind = d.kind; name = string_bytes d.name; disambiguator = string_bytes d.disambiguator }
 
 -- descriptors as contracts describe them
-abbrev pub plain_descriptors : List Descriptor → List PlainDescriptor
-plain_descriptors ds = map plain_descriptor ds
+abbrev pub descriptor_models : List Descriptor → List DescriptorModel
+descriptor_models ds = map descriptor_model ds
 
 -- a symbol as contracts describe it
-abbrev pub plain_symbol : Symbol → PlainSymbol
-plain_symbol (symbols.Local id) = Local (string_bytes id)
-plain_symbol (symbols.Global scheme manager package_name version descriptors) =
-    Global (string_bytes scheme) (string_bytes manager) (string_bytes package_name) (string_bytes version) (plain_descriptors descriptors.items)
+abbrev pub symbol_model : Symbol → SymbolModel
+symbol_model (symbols.Local id) = Local (string_bytes id)
+symbol_model (symbols.Global scheme manager package_name version descriptors) =
+    Global (string_bytes scheme) (string_bytes manager) (string_bytes package_name) (string_bytes version) (descriptor_models descriptors.items)

@@ -4,16 +4,16 @@ ghost use Rattle.std.specs.List.{prefix_len};
 ghost use Rattle.std.specs.String.{string_bytes};
 ghost use Rattle.scip_symbol.specs.SymbolTexts.{are_simple, is_simple};
 ghost use Rattle.texts.specs.Fields.{cut_at};
-ghost use Rattle.scip_symbol.specs.Reading.{after_byte, after_bytes, ended_by, simple_front};
+ghost use Rattle.scip_symbol.specs.Reading.{after_byte, after_bytes, ended_by, simple_prefix};
 
 use std::alloc::{AllocError, Global};
 
-/// What follows the ASCII character `mark`, if the string begins with it.
-pub(crate) fn after_mark(text: &str, mark: char) -> Option<&str>
-    requires { mark < 128 }
-    ensures { option_map (λ rest. rest.now) result ≡ after_byte mark text.now }
+/// What follows the ASCII character `delimiter`, if the string begins with it.
+pub(crate) fn after_char(text: &str, delimiter: char) -> Option<&str>
+    requires { delimiter < 128 }
+    ensures { option_map (λ rest. rest.now) result ≡ after_byte delimiter text.now }
 {
-    text.strip_prefix(mark)
+    text.strip_prefix(delimiter)
 }
 
 /// What follows `word`, if the string begins with it.
@@ -23,32 +23,32 @@ pub(crate) fn after_word<'a>(text: &'a str, word: &str) -> Option<&'a str>
     text.strip_prefix(word)
 }
 
-/// What precedes and what follows the first ASCII character `mark`, if the string has one.
-pub(crate) fn cut_at_mark(text: &str, mark: char) -> Option<(&str, &str)>
-    requires { mark < 128 }
-    ensures { option_map (λ parts. (parts.0.now, parts.1.now)) result ≡ cut_at mark text.now }
+/// What precedes and what follows the first ASCII character `delimiter`, if the string has one.
+pub(crate) fn split_at_char(text: &str, delimiter: char) -> Option<(&str, &str)>
+    requires { delimiter < 128 }
+    ensures { option_map (λ parts. (parts.0.now, parts.1.now)) result ≡ cut_at delimiter text.now }
 {
-    text.split_once(mark)
+    text.split_once(delimiter)
 }
 
-/// The part that the string begins with, unescaped, and what follows the ASCII character `mark` that ends the part. In the part each `mark`
-/// is doubled, so a single one ends it. `None` if no single `mark` ends the part.
+/// The part that the string begins with, unescaped, and what follows the ASCII character `delimiter` that ends the part. In the part each `delimiter`
+/// is doubled, so a single one ends it. `None` if no single `delimiter` ends the part.
 pub(crate) fn ended_in(
     alloc: Global,
     text: &str,
-    mark: char,
+    delimiter: char,
 ) -> Result<Option<(String, &str)>, AllocError>
-    requires { mark < 128 }
-    ensures { IfOk result (λ found. option_map (λ x. (string_bytes x.0, x.1.now)) found ≡ ended_by mark text.now) }
+    requires { delimiter < 128 }
+    ensures { IfOk result (λ found. option_map (λ x. (string_bytes x.0, x.1.now)) found ≡ ended_by delimiter text.now) }
 {
     let mut part = String::new(alloc);
     let mut rest = text;
-    while let Some((front, after)) = cut_at_mark(rest, mark) {
+    while let Some((front, after)) = split_at_char(rest, delimiter) {
         part.push_str(front)?;
-        let Some(more) = after_mark(after, mark) else {
+        let Some(more) = after_char(after, delimiter) else {
             return Ok(Some((part, after)));
         };
-        part.push(mark)?;
+        part.push(delimiter)?;
         rest = more;
     }
     Ok(None)
@@ -76,7 +76,7 @@ fn simple_len(bytes: &[u8]) -> usize
 
 /// The identifier characters that the string begins with, and what follows them.
 pub(crate) fn simple_in(text: &str) -> (&str, &str)
-    ensures { (result.0.now, result.1.now) ≡ simple_front text.now }
+    ensures { (result.0.now, result.1.now) ≡ simple_prefix text.now }
 {
     text.split_at(simple_len(text.as_bytes()))
 }

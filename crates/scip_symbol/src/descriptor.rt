@@ -19,12 +19,12 @@ impl Descriptor {
     ghost use Rattle.std.specs.Prelude.{◌≡◌, ◌≢◌, []};
     ghost use Rattle.std.specs.String.{string_bytes};
     ghost use Rattle.scip_symbol.specs.declared.kind.DescriptorKind.TheVariants.{Method};
-    ghost use Rattle.scip_symbol.specs.Views.{plain_descriptor};
+    ghost use Rattle.scip_symbol.specs.Views.{descriptor_model};
 
     /// A descriptor of this kind and name without a disambiguator, as `T#` for a type or `p().` for a method. The name is unescaped.
     pub fn new(kind: DescriptorKind, name: String) -> Descriptor
         // The result has this kind and name and an empty disambiguator.
-        ensures { plain_descriptor result ≡ record { kind = kind; name = string_bytes name; disambiguator = [] } }
+        ensures { descriptor_model result ≡ record { kind = kind; name = string_bytes name; disambiguator = [] } }
     {
         let disambiguator = String::new(*name.allocator());
         Descriptor {
@@ -37,7 +37,7 @@ impl Descriptor {
     /// A method of this name with this disambiguator, as `p(+1).`; an empty disambiguator means none. The name is unescaped.
     pub fn method(name: String, disambiguator: String) -> Descriptor
         // The result is a method with this name and this disambiguator.
-        ensures { plain_descriptor result ≡ record { kind = Method; name = string_bytes name; disambiguator = string_bytes disambiguator } }
+        ensures { descriptor_model result ≡ record { kind = Method; name = string_bytes name; disambiguator = string_bytes disambiguator } }
     {
         Descriptor {
             kind: DescriptorKind::Method,
@@ -49,7 +49,7 @@ impl Descriptor {
     /// The kind of the descriptor.
     pub fn kind(&self) -> DescriptorKind
         // The result is the descriptor's kind.
-        ensures { result ≡ (plain_descriptor self.now).kind }
+        ensures { result ≡ (descriptor_model self.now).kind }
     {
         self.kind
     }
@@ -57,7 +57,7 @@ impl Descriptor {
     /// The name, unescaped.
     pub fn name(&self) -> &str
         // The result is the descriptor's name.
-        ensures { result.now ≡ (plain_descriptor self.now).name }
+        ensures { result.now ≡ (descriptor_model self.now).name }
     {
         self.name.as_str()
     }
@@ -65,9 +65,9 @@ impl Descriptor {
     /// The disambiguator of a method; empty for every other kind.
     pub fn disambiguator(&self) -> &str
         // The result is the descriptor's disambiguator.
-        ensures value { result.now ≡ (plain_descriptor self.now).disambiguator }
+        ensures value { result.now ≡ (descriptor_model self.now).disambiguator }
         // If the descriptor isn't a method, the result is empty.
-        ensures of_method { (plain_descriptor self.now).kind ≢ Method → result.now ≡ [] }
+        ensures of_method { (descriptor_model self.now).kind ≢ Method → result.now ≡ [] }
     {
         self.disambiguator.as_str()
     }

@@ -1,11 +1,11 @@
 //! The reader of descriptors. Offsets are in bytes from the start of the symbol string.
 ghost use Rattle.std.specs.Prelude.{◌≡◌, ◌≤◌, ◌<◌, length, option_map};
 ghost use Rattle.std.specs.String.{string_bytes};
-ghost use Rattle.scip_symbol.specs.Faults.{Accords, Tells};
-ghost use Rattle.scip_symbol.specs.Views.{plain_descriptor, plain_descriptors};
-ghost use Rattle.scip_symbol.specs.Reading.{bare_at, closed_at, descriptor_at, kind_of, method_at, suffix_at, suffixed_at, told_at, IsDescriptorsOutcome};
+ghost use Rattle.scip_symbol.specs.Faults.{Accords, HasOutcome};
+ghost use Rattle.scip_symbol.specs.Views.{descriptor_model, descriptor_models};
+ghost use Rattle.scip_symbol.specs.Reading.{bare_at, closed_at, descriptor_at, kind_of, method_at, suffix_at, suffixed_at, one_byte_suffixed_at, IsDescriptorsOutcome};
 
-use crate::cuts::{after_mark, after_word, simple_in};
+use crate::cuts::{after_char, after_word, simple_in};
 use crate::name::name_in;
 use crate::{Descriptor, DescriptorKind, SymbolFault};
 use std::alloc::Global;
@@ -20,10 +20,10 @@ fn closed_in(
     inside: &str,
 ) -> Result<(Descriptor, &str), SymbolFault>
     requires { close < 128 }
-    ensures { Accords (λ x. (plain_descriptor x.0, x.1.now)) result (closed_at at kind close inside.now) }
+    ensures { Accords (λ x. (descriptor_model x.0, x.1.now)) result (closed_at at kind close inside.now) }
 {
     let (name, rest) = name_in(alloc, at, inside)?;
-    let rest = after_mark(rest, close).ok_or(SymbolFault::BadDescriptor { at })?;
+    let rest = after_char(rest, close).ok_or(SymbolFault::BadDescriptor { at })?;
     Ok((Descriptor::new(kind, name), rest))
 }
 
@@ -35,7 +35,7 @@ fn method_in(
     name: String,
     inside: &str,
 ) -> Result<(Descriptor, &str), SymbolFault>
-    ensures { Accords (λ x. (plain_descriptor x.0, x.1.now)) result (method_at at (string_bytes name) inside.now) }
+    ensures { Accords (λ x. (descriptor_model x.0, x.1.now)) result (method_at at (string_bytes name) inside.now) }
 {
     let (disambiguator, rest) = simple_in(inside);
     let rest = after_word(rest, ").").ok_or(SymbolFault::BadDescriptor { at })?;
@@ -44,7 +44,7 @@ fn method_in(
 }
 
 /// The kind of a descriptor with this byte after its name.
-fn kind_told(b: u8) -> Option<DescriptorKind>
+fn suffix_kind(b: u8) -> Option<DescriptorKind>
     ensures { result ≡ kind_of b }
 {
     match b {
@@ -62,15 +62,19 @@ fn suffix_in(text: &str) -> Option<(DescriptorKind, &str)>
     ensures { option_map (λ x. (x.0, x.1.now)) result ≡ suffix_at text.now }
 {
     let first = *text.as_bytes().first()?;
-    let kind = kind_told(first)?;
+    let kind = suffix_kind(first)?;
     let (_, rest) = text.split_at(1);
     Some((kind, rest))
 }
 
 /// Reads the one byte that ends a descriptor whose name has been read.
-#[tactic(auto, unfolding(crate::specs::Reading::told_at))]
-fn told_in(at: usize, name: String, text: &str) -> Result<(Descriptor, &str), SymbolFault>
-    ensures { Accords (λ x. (plain_descriptor x.0, x.1.now)) result (told_at at (string_bytes name) text.now) }
+#[tactic(auto, unfolding(crate::specs::Reading::one_byte_suffixed_at))]
+fn one_byte_suffixed_in(
+    at: usize,
+    name: String,
+    text: &str,
+) -> Result<(Descriptor, &str), SymbolFault>
+    ensures { Accords (λ x. (descriptor_model x.0, x.1.now)) result (one_byte_suffixed_at at (string_bytes name) text.now) }
 {
     let (kind, rest) = suffix_in(text).ok_or(SymbolFault::BadDescriptor { at })?;
     Ok((Descriptor::new(kind, name), rest))
@@ -84,10 +88,10 @@ fn suffixed_in(
     name: String,
     text: &str,
 ) -> Result<(Descriptor, &str), SymbolFault>
-    ensures { Accords (λ x. (plain_descriptor x.0, x.1.now)) result (suffixed_at at (string_bytes name) text.now) }
+    ensures { Accords (λ x. (descriptor_model x.0, x.1.now)) result (suffixed_at at (string_bytes name) text.now) }
 {
-    match after_mark(text, '(') {
-        None => told_in(at, name, text),
+    match after_char(text, '(') {
+        None => one_byte_suffixed_in(at, name, text),
         Some(inside) => method_in(alloc, at, name, inside),
     }
 }
@@ -95,7 +99,7 @@ fn suffixed_in(
 /// Reads a descriptor that begins with its name.
 #[tactic(auto, unfolding(crate::specs::Reading::bare_at))]
 fn bare_in(alloc: Global, at: usize, text: &str) -> Result<(Descriptor, &str), SymbolFault>
-    ensures { Accords (λ x. (plain_descriptor x.0, x.1.now)) result (bare_at at text.now) }
+    ensures { Accords (λ x. (descriptor_model x.0, x.1.now)) result (bare_at at text.now) }
 {
     let (name, rest) = name_in(alloc, at, text)?;
     suffixed_in(alloc, at, name, rest)
@@ -104,12 +108,12 @@ fn bare_in(alloc: Global, at: usize, text: &str) -> Result<(Descriptor, &str), S
 /// Reads the first descriptor, which begins at offset `at`. Returns it with what follows it.
 #[tactic(auto, unfolding(crate::specs::Reading::descriptor_at))]
 fn descriptor_in(alloc: Global, at: usize, text: &str) -> Result<(Descriptor, &str), SymbolFault>
-    ensures { Accords (λ x. (plain_descriptor x.0, x.1.now)) result (descriptor_at at text.now) }
+    ensures { Accords (λ x. (descriptor_model x.0, x.1.now)) result (descriptor_at at text.now) }
 {
-    if let Some(inside) = after_mark(text, '[') {
+    if let Some(inside) = after_char(text, '[') {
         return closed_in(alloc, at, DescriptorKind::TypeParameter, ']', inside);
     }
-    match after_mark(text, '(') {
+    match after_char(text, '(') {
         None => bare_in(alloc, at, text),
         Some(inside) => closed_in(alloc, at, DescriptorKind::Parameter, ')', inside),
     }
@@ -122,7 +126,7 @@ pub(crate) fn descriptors_in(
     text: &str,
 ) -> Result<Vec<Descriptor>, SymbolFault>
     requires { length text.now ≤ whole }
-    ensures { Tells (λ ds. plain_descriptors ds.items) result (IsDescriptorsOutcome whole text.now) }
+    ensures { HasOutcome (λ ds. descriptor_models ds.items) result (IsDescriptorsOutcome whole text.now) }
 {
     let mut descriptors = Vec::new(alloc);
     let mut rest = text;

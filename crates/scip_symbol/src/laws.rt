@@ -2,71 +2,71 @@
 ghost use Rattle.std.specs.Prelude.{◌≡◌, ◌<◌, ◌⊎◌, ℕ, List, Ok, Result, length};
 ghost use Rattle.scip_symbol.specs.declared.fault.SymbolFault.{SymbolFault};
 ghost use Rattle.scip_symbol.specs.declared.symbol.Symbol.{Symbol};
-ghost use Rattle.scip_symbol.specs.SymbolTexts.{plain_text, PlainSymbol, SymbolText};
-ghost use Rattle.scip_symbol.specs.Views.{plain_symbol};
+ghost use Rattle.scip_symbol.specs.SymbolTexts.{canonical_text, SymbolModel, SymbolText};
+ghost use Rattle.scip_symbol.specs.Views.{symbol_model};
 ghost use Rattle.scip_symbol.specs.Outcomes.{AreOfMethods, IsReadOutcome, IsWritable, IsWriteOutcome};
 
 /// At most one symbol has a given string.
 pub fn one_symbol()
     // Two symbols that have one string are equal.
-    ensures { (text : List ℕ) (s t : PlainSymbol) → SymbolText s text → SymbolText t text → s ≡ t }
+    ensures { (text : List ℕ) (s t : SymbolModel) → SymbolText s text → SymbolText t text → s ≡ t }
 {}
 
-/// A symbol that has a string has its plain string, and each of its other strings is longer, by the backticks around simple names.
-pub fn plain_text_is_shortest()
-    // If a symbol has a string, it has its plain string.
-    ensures text { (s : PlainSymbol) (text : List ℕ) → SymbolText s text → SymbolText s (plain_text s) }
-    // Each string of a symbol is its plain string or is longer.
-    ensures shortest { (s : PlainSymbol) (text : List ℕ) → SymbolText s text → (text ≡ plain_text s) ⊎ (length (plain_text s) < length text) }
+/// A symbol that has a string has its canonical string, and each of its other strings is longer, by the backticks around simple names.
+pub fn canonical_text_is_shortest()
+    // If a symbol has a string, it has its canonical string.
+    ensures text { (s : SymbolModel) (text : List ℕ) → SymbolText s text → SymbolText s (canonical_text s) }
+    // Each string of a symbol is its canonical string or is longer.
+    ensures shortest { (s : SymbolModel) (text : List ℕ) → SymbolText s text → (text ≡ canonical_text s) ⊎ (length (canonical_text s) < length text) }
 {}
 
-/// Two different symbols that have strings have different plain strings.
+/// Two different symbols that have strings have different canonical strings.
 pub fn different_texts()
-    // If two symbols have their plain strings, and these are equal, the symbols are equal.
-    ensures { (s t : PlainSymbol) → SymbolText s (plain_text s) → SymbolText t (plain_text t) → plain_text s ≡ plain_text t → s ≡ t }
+    // If two symbols have their canonical strings, and these are equal, the symbols are equal.
+    ensures { (s t : SymbolModel) → SymbolText s (canonical_text s) → SymbolText t (canonical_text t) → canonical_text s ≡ canonical_text t → s ≡ t }
 {}
 
 /// Every string has an outcome of reading: a symbol or an error.
 pub fn some_reading()
     // Each list of bytes has an outcome of reading.
-    ensures { (text : List ℕ) → (o : Result PlainSymbol SymbolFault) × IsReadOutcome text o }
+    ensures { (text : List ℕ) → (o : Result SymbolModel SymbolFault) × IsReadOutcome text o }
 {}
 
 /// A string has at most one outcome of reading: a symbol or an error.
 pub fn one_reading()
     // Two outcomes of reading one string are equal.
-    ensures { (text : List ℕ) (o p : Result PlainSymbol SymbolFault) → IsReadOutcome text o → IsReadOutcome text p → o ≡ p }
+    ensures { (text : List ℕ) (o p : Result SymbolModel SymbolFault) → IsReadOutcome text o → IsReadOutcome text p → o ≡ p }
 {}
 
-/// Every symbol has an outcome of writing: its plain string or an error.
+/// Every symbol has an outcome of writing: its canonical string or an error.
 pub fn some_writing()
     // Each symbol has an outcome of writing.
-    ensures { (s : Symbol) → (o : Result (List ℕ) SymbolFault) × IsWriteOutcome (plain_symbol s) o }
+    ensures { (s : Symbol) → (o : Result (List ℕ) SymbolFault) × IsWriteOutcome (symbol_model s) o }
 {}
 
-/// A symbol has at most one outcome of writing: its plain string or an error. So a symbol that has a string isn't rejected.
+/// A symbol has at most one outcome of writing: its canonical string or an error. So a symbol that has a string isn't rejected.
 pub fn one_writing()
     // Two outcomes of writing one symbol are equal.
-    ensures { (s : PlainSymbol) (o p : Result (List ℕ) SymbolFault) → IsWriteOutcome s o → IsWriteOutcome s p → o ≡ p }
+    ensures { (s : SymbolModel) (o p : Result (List ℕ) SymbolFault) → IsWriteOutcome s o → IsWriteOutcome s p → o ≡ p }
 {}
 
-/// A symbol without an error is written as its plain string, and no other symbol is written.
+/// A symbol without an error is written as its canonical string, and no other symbol is written.
 /// So if a caller knows that a symbol has no error, `write` returns the string, unless memory runs out.
 /// The type of descriptors guarantees that only methods have a disambiguator.
 pub fn what_is_writable_is_written()
-    // If a symbol has no error, and only its methods have a disambiguator, the outcome of writing it is its plain string.
-    ensures written { (s : PlainSymbol) → AreOfMethods s → IsWritable s → IsWriteOutcome s (Ok (plain_text s)) }
+    // If a symbol has no error, and only its methods have a disambiguator, the outcome of writing it is its canonical string.
+    ensures written { (s : SymbolModel) → AreOfMethods s → IsWritable s → IsWriteOutcome s (Ok (canonical_text s)) }
     // In every symbol only methods have a disambiguator.
-    ensures kept { (s : Symbol) → AreOfMethods (plain_symbol s) }
+    ensures methods_only { (s : Symbol) → AreOfMethods (symbol_model s) }
     // If the outcome of writing a symbol is a string, the symbol has no error.
-    ensures only { (s : PlainSymbol) (text : List ℕ) → IsWriteOutcome s (Ok text) → IsWritable s }
+    ensures only { (s : SymbolModel) (text : List ℕ) → IsWriteOutcome s (Ok text) → IsWritable s }
 {}
 
 /// The string that is written for a symbol is read as this symbol, and has no other outcome. So by its clause `only` `read` returns the
 /// symbol, unless memory runs out.
 pub fn what_is_written_is_read()
     // If the outcome of writing a symbol is a string, the symbol is an outcome of reading the string.
-    ensures some { (s : PlainSymbol) (text : List ℕ) → IsWriteOutcome s (Ok text) → IsReadOutcome text (Ok s) }
+    ensures some { (s : SymbolModel) (text : List ℕ) → IsWriteOutcome s (Ok text) → IsReadOutcome text (Ok s) }
     // If the outcome of writing a symbol is a string, each outcome of reading the string is the symbol.
-    ensures only { (s : PlainSymbol) (text : List ℕ) (o : Result PlainSymbol SymbolFault) → IsWriteOutcome s (Ok text) → IsReadOutcome text o → o ≡ Ok s }
+    ensures only { (s : SymbolModel) (text : List ℕ) (o : Result SymbolModel SymbolFault) → IsWriteOutcome s (Ok text) → IsReadOutcome text o → o ≡ Ok s }
 {}

@@ -1,7 +1,7 @@
 //! The strings of SCIP symbols: a reader, by recursive descent, and a writer (scip.proto, the grammar of `Symbol`).
 //! Depends on `texts` for cuts of a string at a byte, and on `thiserror` for errors.
 //! The main calls are `read` and `write`. `read` returns exactly the symbol that has the string by the grammar, or the first error.
-//! `write` returns the symbol's one plain string, in which a name is escaped with backticks only if necessary, or the first error.
+//! `write` returns the symbol's one canonical string, in which a name is escaped with backticks only if necessary, or the first error.
 #![tactic(auto)]
 
 mod cuts;

@@ -1,10 +1,10 @@
 //! The reader of names. Offsets are in bytes from the start of the symbol string.
 ghost use Rattle.std.specs.String.{string_bytes};
 ghost use Rattle.scip_symbol.specs.Faults.{Accords};
-ghost use Rattle.scip_symbol.specs.Reading.{name_in_front, quoted_name_at, simple_name_at};
+ghost use Rattle.scip_symbol.specs.Reading.{first_name_at, quoted_name_at, simple_name_at};
 
 use crate::SymbolFault;
-use crate::cuts::{after_mark, ended_in, simple_in};
+use crate::cuts::{after_char, ended_in, simple_in};
 use std::alloc::Global;
 
 /// Reads a name that is a simple identifier. `at` is the offset of its descriptor.
@@ -33,11 +33,11 @@ fn quoted_name_in(alloc: Global, at: usize, inside: &str) -> Result<(String, &st
 
 /// Reads the name that the string begins with, a simple identifier or one in backticks. Returns it unescaped, with what follows it. `at` is
 /// the offset of its descriptor.
-#[tactic(auto, unfolding(crate::specs::Reading::name_in_front))]
+#[tactic(auto, unfolding(crate::specs::Reading::first_name_at))]
 pub(crate) fn name_in(alloc: Global, at: usize, text: &str) -> Result<(String, &str), SymbolFault>
-    ensures { Accords (λ x. (string_bytes x.0, x.1.now)) result (name_in_front at text.now) }
+    ensures { Accords (λ x. (string_bytes x.0, x.1.now)) result (first_name_at at text.now) }
 {
-    match after_mark(text, '`') {
+    match after_char(text, '`') {
         None => simple_name_in(alloc, at, text),
         Some(inside) => quoted_name_in(alloc, at, inside),
     }

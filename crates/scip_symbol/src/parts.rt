@@ -1,7 +1,7 @@
 //! The reader of the four parts of a symbol: scheme, manager, package name and version.
 ghost use Rattle.std.specs.String.{string_bytes};
 ghost use Rattle.scip_symbol.specs.Faults.{Accords};
-ghost use Rattle.scip_symbol.specs.Reading.{optional_part_at, part_in_front, parts_at, plain_parts};
+ghost use Rattle.scip_symbol.specs.Reading.{optional_part_at, first_part_at, parts_at, parts_model};
 
 use crate::SymbolFault;
 use crate::cuts::ended_in;
@@ -17,9 +17,9 @@ pub(crate) struct Parts {
 }
 
 /// Reads the part with this number, which the string begins with. Returns it unescaped, with what follows the space that ends it.
-#[tactic(auto, unfolding(crate::specs::Reading::part_in_front))]
+#[tactic(auto, unfolding(crate::specs::Reading::first_part_at))]
 fn part_in(alloc: Global, part: usize, text: &str) -> Result<(String, &str), SymbolFault>
-    ensures { Accords (λ x. (string_bytes x.0, x.1.now)) result (part_in_front part text.now) }
+    ensures { Accords (λ x. (string_bytes x.0, x.1.now)) result (first_part_at part text.now) }
 {
     let found = ended_in(alloc, text, ' ')?;
     let ended = found.ok_or(SymbolFault::BadPart { part })?;
@@ -42,7 +42,7 @@ fn optional_part_in(alloc: Global, part: usize, text: &str) -> Result<(String, &
 /// Reads the four parts that the string begins with. Returns them with what follows them.
 #[tactic(auto, unfolding(crate::specs::Reading::parts_at))]
 pub(crate) fn parts_in(alloc: Global, text: &str) -> Result<(Parts, &str), SymbolFault>
-    ensures { Accords (λ x. (plain_parts x.0, x.1.now)) result (parts_at text.now) }
+    ensures { Accords (λ x. (parts_model x.0, x.1.now)) result (parts_at text.now) }
 {
     let (scheme, rest) = part_in(alloc, 0, text)?;
     let (manager, rest) = optional_part_in(alloc, 1, rest)?;

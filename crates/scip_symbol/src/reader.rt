@@ -1,13 +1,13 @@
 //! The reader of symbol strings.
 ghost use Rattle.std.specs.Prelude.{◌≡◌, ◌+◌, ◌<◌, ◌^◌, length, Result};
 ghost use Rattle.scip_symbol.specs.declared.fault.SymbolFault.{SymbolFault};
-ghost use Rattle.scip_symbol.specs.Faults.{Accords, Tells};
-ghost use Rattle.scip_symbol.specs.SymbolTexts.{BeginsLocal, IsPackagePart, PlainSymbol};
-ghost use Rattle.scip_symbol.specs.Views.{plain_symbol};
+ghost use Rattle.scip_symbol.specs.Faults.{Accords, HasOutcome};
+ghost use Rattle.scip_symbol.specs.SymbolTexts.{BeginsLocal, IsPackagePart, SymbolModel};
+ghost use Rattle.scip_symbol.specs.Views.{symbol_model};
 ghost use Rattle.scip_symbol.specs.Outcomes.{IsReadOutcome};
 ghost use Rattle.scip_symbol.specs.Reading.{local_of};
 
-use crate::cuts::{after_mark, after_word, simple_in};
+use crate::cuts::{after_char, after_word, simple_in};
 use crate::descriptors::descriptors_in;
 use crate::parts::parts_in;
 use crate::{Symbol, SymbolFault};
@@ -17,7 +17,7 @@ use std::alloc::Global;
 #[tactic(auto, unfolding(crate::specs::Reading::local_of))]
 fn local_in(alloc: Global, id: &str) -> Result<Symbol, SymbolFault>
     requires { 6 + length id.now < 2 ^ 64 }
-    ensures { Accords plain_symbol result (local_of id.now) }
+    ensures { Accords symbol_model result (local_of id.now) }
 {
     if id.is_empty() {
         return Err(SymbolFault::Empty);
@@ -34,7 +34,7 @@ fn local_in(alloc: Global, id: &str) -> Result<Symbol, SymbolFault>
 fn global_in(alloc: Global, text: &str) -> Result<Symbol, SymbolFault>
     requires part { IsPackagePart text.now }
     requires not_local { BeginsLocal text.now → ⊥ }
-    ensures { Tells plain_symbol result (IsReadOutcome text.now) }
+    ensures { HasOutcome symbol_model result (IsReadOutcome text.now) }
 {
     let (parts, rest) = parts_in(alloc, text)?;
     if rest.is_empty() {
@@ -52,7 +52,7 @@ fn global_in(alloc: Global, text: &str) -> Result<Symbol, SymbolFault>
 
 /// Reads a symbol. The contract of `read` follows from this one.
 fn read_any(alloc: Global, text: &str) -> Result<Symbol, SymbolFault>
-    ensures { Tells plain_symbol result (IsReadOutcome text.now) }
+    ensures { HasOutcome symbol_model result (IsReadOutcome text.now) }
 {
     if text.is_empty() {
         return Err(SymbolFault::Empty);
@@ -63,7 +63,7 @@ fn read_any(alloc: Global, text: &str) -> Result<Symbol, SymbolFault>
     if after_word(text, "local").is_some() {
         return Err(SymbolFault::LocalScheme);
     }
-    if after_mark(text, ' ').is_some() {
+    if after_char(text, ' ').is_some() {
         return Err(SymbolFault::BadPart { part: 0 });
     }
     global_in(alloc, text)
@@ -82,9 +82,9 @@ fn read_any(alloc: Global, text: &str) -> Result<Symbol, SymbolFault>
 /// Fails with `Memory` if an allocation fails.
 pub fn read(alloc: Global, text: &str) -> Result<Symbol, SymbolFault>
     // The result is the symbol that has the string, or the error of the string, or `Memory`.
-    ensures exact { Tells plain_symbol result (IsReadOutcome text.now) }
+    ensures exact { HasOutcome symbol_model result (IsReadOutcome text.now) }
     // Each outcome of reading the string, a symbol or an error, is the result, unless the result is `Memory`.
-    ensures only { (o : Result PlainSymbol SymbolFault) → IsReadOutcome text.now o → Tells plain_symbol result (λ p. p ≡ o) }
+    ensures only { (o : Result SymbolModel SymbolFault) → IsReadOutcome text.now o → HasOutcome symbol_model result (λ p. p ≡ o) }
 {
     read_any(alloc, text)
 }

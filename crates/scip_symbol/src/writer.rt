@@ -3,27 +3,27 @@ ghost use Rattle.std.specs.Prelude.{◌≡◌, ◌<◌, ◌++◌, [], IfOk, List
 ghost use Rattle.std.specs.List.{flat_map};
 ghost use Rattle.std.specs.String.{string_bytes};
 ghost use Rattle.scip_symbol.specs.declared.fault.SymbolFault.{SymbolFault};
-ghost use Rattle.scip_symbol.specs.Faults.{Tells};
+ghost use Rattle.scip_symbol.specs.Faults.{HasOutcome};
 ghost use Rattle.scip_symbol.specs.Bytes.{doubled};
-ghost use Rattle.scip_symbol.specs.SymbolTexts.{closing, ended_part, before_name, part_shown, parts_text, plain_descriptor_text, plain_name, plain_text};
-ghost use Rattle.scip_symbol.specs.Views.{plain_descriptor, plain_descriptors, plain_symbol};
+ghost use Rattle.scip_symbol.specs.SymbolTexts.{closing, ended_part, before_name, part_shown, parts_text, canonical_descriptor_text, canonical_name, canonical_text};
+ghost use Rattle.scip_symbol.specs.Views.{descriptor_model, descriptor_models, symbol_model};
 ghost use Rattle.scip_symbol.specs.Outcomes.{IsWriteOutcome};
 
-use crate::cuts::{cut_at_mark, is_simple_text};
+use crate::cuts::{is_simple_text, split_at_char};
 use crate::writable::check;
 use crate::{Descriptor, DescriptorKind, Symbol, SymbolFault};
 use std::alloc::{AllocError, Global};
 
-/// Appends a string with each ASCII character `mark` doubled.
-fn push_doubled(out: &mut String, text: &str, mark: char) -> Result<(), AllocError>
-    requires { mark < 128 }
-    ensures { OnOk result (string_bytes out.new ≡ string_bytes out.old ++ doubled mark text.now) }
+/// Appends a string with each ASCII character `delimiter` doubled.
+fn push_doubled(out: &mut String, text: &str, delimiter: char) -> Result<(), AllocError>
+    requires { delimiter < 128 }
+    ensures { OnOk result (string_bytes out.new ≡ string_bytes out.old ++ doubled delimiter text.now) }
 {
     let mut rest = text;
-    while let Some((front, after)) = cut_at_mark(rest, mark) {
+    while let Some((front, after)) = split_at_char(rest, delimiter) {
         out.push_str(front)?;
-        out.push(mark)?;
-        out.push(mark)?;
+        out.push(delimiter)?;
+        out.push(delimiter)?;
         rest = after;
     }
     out.push_str(rest)
@@ -31,7 +31,7 @@ fn push_doubled(out: &mut String, text: &str, mark: char) -> Result<(), AllocErr
 
 /// Appends a name, escaped with backticks if it isn't a simple identifier.
 fn push_name(out: &mut String, name: &str) -> Result<(), AllocError>
-    ensures { OnOk result (string_bytes out.new ≡ string_bytes out.old ++ plain_name name.now) }
+    ensures { OnOk result (string_bytes out.new ≡ string_bytes out.old ++ canonical_name name.now) }
 {
     if is_simple_text(name) {
         return out.push_str(name);
@@ -82,7 +82,7 @@ fn push_closing(
 }
 
 fn push_descriptor(out: &mut String, descriptor: &Descriptor) -> Result<(), AllocError>
-    ensures { OnOk result (string_bytes out.new ≡ string_bytes out.old ++ plain_descriptor_text (plain_descriptor descriptor.now)) }
+    ensures { OnOk result (string_bytes out.new ≡ string_bytes out.old ++ canonical_descriptor_text (descriptor_model descriptor.now)) }
 {
     let kind = descriptor.kind();
     out.push_str(opening_of(kind))?;
@@ -91,7 +91,7 @@ fn push_descriptor(out: &mut String, descriptor: &Descriptor) -> Result<(), Allo
 }
 
 fn push_descriptors(out: &mut String, descriptors: &[Descriptor]) -> Result<(), AllocError>
-    ensures { OnOk result (string_bytes out.new ≡ string_bytes out.old ++ flat_map plain_descriptor_text (plain_descriptors descriptors.now)) }
+    ensures { OnOk result (string_bytes out.new ≡ string_bytes out.old ++ flat_map canonical_descriptor_text (descriptor_models descriptors.now)) }
 {
     for descriptor in descriptors {
         push_descriptor(out, descriptor)?;
@@ -144,17 +144,17 @@ pub fn write_parts(
 /// becomes that of the symbol with one more descriptor.
 /// Fails with `AllocError` if an allocation fails.
 pub fn push_step(out: &mut String, kind: DescriptorKind, name: &str) -> Result<(), AllocError>
-    // With `Ok` the string has grown by the plain string of a descriptor of this kind and name, without a disambiguator.
-    ensures { OnOk result (string_bytes out.new ≡ string_bytes out.old ++ plain_descriptor_text (record { kind = kind; name = name.now; disambiguator = [] })) }
+    // With `Ok` the string has grown by the canonical string of a descriptor of this kind and name, without a disambiguator.
+    ensures { OnOk result (string_bytes out.new ≡ string_bytes out.old ++ canonical_descriptor_text (record { kind = kind; name = name.now; disambiguator = [] })) }
 {
     out.push_str(opening_of(kind))?;
     push_name(out, name)?;
     push_closing(out, kind, "")
 }
 
-/// The plain string of a symbol, which isn't checked.
+/// The canonical string of a symbol, which isn't checked.
 fn text_of(alloc: Global, symbol: &Symbol) -> Result<String, AllocError>
-    ensures { IfOk result (λ text. string_bytes text ≡ plain_text (plain_symbol symbol.now)) }
+    ensures { IfOk result (λ text. string_bytes text ≡ canonical_text (symbol_model symbol.now)) }
 {
     match symbol {
         Symbol::Local(id) => {
@@ -185,14 +185,14 @@ fn text_of(alloc: Global, symbol: &Symbol) -> Result<String, AllocError>
 
 /// Writes a symbol. The contract of `write` follows from this one.
 fn write_any(alloc: Global, symbol: &Symbol) -> Result<String, SymbolFault>
-    ensures { Tells string_bytes result (IsWriteOutcome (plain_symbol symbol.now)) }
+    ensures { HasOutcome string_bytes result (IsWriteOutcome (symbol_model symbol.now)) }
 {
     check(symbol)?;
     Ok(text_of(alloc, symbol)?)
 }
 
-/// Returns the plain string of a symbol (scip.proto, the grammar of `Symbol`), or the first error. In a plain string a name is escaped with
-/// backticks only if it isn't a simple identifier.
+/// Returns the canonical string of a symbol (scip.proto, the grammar of `Symbol`), or the first error. In a canonical string a name is
+/// escaped with backticks only if it isn't a simple identifier.
 /// An empty scheme, local id, name or list of descriptors fails with `Empty`.
 /// A scheme that begins with `local` fails with `LocalScheme`.
 /// A part that begins with a space, or is `.` and isn't the scheme, fails with `BadPart` and the number of the first one.
@@ -200,10 +200,10 @@ fn write_any(alloc: Global, symbol: &Symbol) -> Result<String, SymbolFault>
 /// one. A local id that isn't a simple identifier fails with `BadDescriptor` and 0.
 /// Fails with `Memory` if an allocation fails.
 pub fn write(alloc: Global, symbol: &Symbol) -> Result<String, SymbolFault>
-    // The result is the symbol's plain string, or the error of the symbol, or `Memory`.
-    ensures exact { Tells string_bytes result (IsWriteOutcome (plain_symbol symbol.now)) }
-    // Each outcome of writing the symbol, its plain string or an error, is the result, unless the result is `Memory`.
-    ensures only { (o : Result (List ℕ) SymbolFault) → IsWriteOutcome (plain_symbol symbol.now) o → Tells string_bytes result (λ p. p ≡ o) }
+    // The result is the symbol's canonical string, or the error of the symbol, or `Memory`.
+    ensures exact { HasOutcome string_bytes result (IsWriteOutcome (symbol_model symbol.now)) }
+    // Each outcome of writing the symbol, its canonical string or an error, is the result, unless the result is `Memory`.
+    ensures only { (o : Result (List ℕ) SymbolFault) → IsWriteOutcome (symbol_model symbol.now) o → HasOutcome string_bytes result (λ p. p ≡ o) }
 {
     write_any(alloc, symbol)
 }

@@ -1,8 +1,8 @@
-//! Bytes as records, as packed numbers and as indexes. They are worked by hand from the encoding, or stand in its description.
+//! Bytes as records, as packed numbers and as indexes. They are computed by hand, or are examples of the encoding's description.
 ghost use Rattle.scip_index.specs.Meaning.{Means};
-ghost use Rattle.scip_index.specs.Plain.{PlainIndex};
+ghost use Rattle.scip_index.specs.Plain.{IndexModel};
 
-use crate::told::is_told;
+use crate::description::expect;
 use index_store::{
     Position, Store, StoreFault, definitions_in_bytes, references_in_bytes, symbol_in_bytes,
 };
@@ -11,20 +11,20 @@ use scip_index::{Index, IndexReader, check, from_bytes, to_bytes};
 use std::alloc::{AllocError, Global};
 use std::test::Fail;
 
-/// What bytes are read as, and what is told of them.
+/// How bytes are decoded, and the expected result.
 #[derive(Clone, Copy)]
 pub(crate) enum As {
-    /// Records: the field of each, its value, where its key stands, and where its payload.
+    /// Records: the field number, the value and the offsets of the key and of the payload of each.
     Records,
-    /// The numbers of a packed payload, whose record has offset 5.
+    /// A packed payload, whose record has offset 5: its numbers.
     Packed,
-    /// An index: the bytes that are written of it, in hexadecimal digits.
+    /// An index: its written form in hexadecimal digits.
     Index,
-    /// An index beside its documents: whether there is metadata, and how many external symbols there are.
+    /// An index without its documents: whether it has metadata, and its number of external symbols.
     Rest,
-    /// An index that is put into a store: the symbol at the eighth column of the first line of its document `a`.
+    /// A store: the symbol at the eighth column of the first line of document `a`.
     Store,
-    /// An index that is checked and asked without a store: in how many places the symbol there is defined, and in how many used.
+    /// Queries without a store: the numbers of definitions and of references of that symbol.
     Checked,
 }
 
@@ -36,7 +36,7 @@ pub(crate) const FOREIGN: &[u8] =
 pub(crate) const MODULE: &[u8] =
     b"\x0a\x0e\x12\x0a\x0a\x05oscip\x12\x011\x20\x01\x12\x6d\x0a\x05M.Mod\x12\x22\x0a\x03\x00\x07\x08\x12\x14scip-oberon . . . M/\x18\x01\x3a\x03\x00\x00\x10\x12\x1b\x0a\x03\x00\x0e\x0f\x12\x14scip-oberon . . . M/\x1a\x19\x0a\x14scip-oberon . . . M/\x32\x01M\x22\x06Oberon\x30\x01";
 
-/// An index of two documents with nothing but their paths, and of two external symbols.
+/// An index of two documents that have only paths, and of two external symbols.
 const TWO: &[u8] =
     b"\x0a\x05\x1a\x01r\x20\x01\x12\x03\x0a\x01a\x12\x03\x0a\x01b\x1a\x06\x0a\x01x\x32\x01X\x1a\x03\x0a\x01y";
 
@@ -55,7 +55,7 @@ pub(crate) const ROWS: &[(As, &[u8], &str)] = &[
         b"\xf8\xff\xff\xff\x0f\x00",
         "536870911 varint 0 at 0, 5; ",
     ),
-    // Varints need not be shortest.
+    // Varints needn't be minimal.
     (As::Records, b"\x08\x85\x00", "1 varint 5 at 0, 1; "),
     (
         As::Records,
@@ -77,7 +77,7 @@ pub(crate) const ROWS: &[(As, &[u8], &str)] = &[
         b"\x08\x81\x80\x80\x80\x80\x80\x80\x80\x80\x02",
         "1 varint 1 at 0, 1; ",
     ),
-    // Numbers of three to six bytes, cut off where they would end, and of eleven bytes.
+    // Numbers of three to six bytes, truncated ones, and numbers of eleven bytes.
     (
         As::Records,
         b"\x08\x81\x82\x03\x08\x81\x82\x83\x04\x08\x81\x82\x83\x84\x05\x08\x81\x82\x83\x84\x85\x06",
@@ -109,7 +109,7 @@ pub(crate) const ROWS: &[(As, &[u8], &str)] = &[
         b"\x08\x81\x82\x83\x84\x85\x86\x87\x88\x89\x80\x00",
         "the record at 0 has a varint of more than ten bytes",
     ),
-    // An index, its document, and what stands in the range of that.
+    // An index, its document, and the content of that document's range.
     (
         As::Records,
         FOREIGN,
@@ -125,9 +125,9 @@ pub(crate) const ROWS: &[(As, &[u8], &str)] = &[
         b"\x08\x00\x08\x07\x08\x08\x12\x07local 0\x18\x01",
         "1 varint 0 at 0, 1; 1 varint 7 at 2, 3; 1 varint 8 at 4, 5; 2 bytes 7 at 6, 8; 3 varint 1 at 15, 16; ",
     ),
-    // A document whose path is no UTF-8 is a record as any other.
+    // A document whose path isn't UTF-8 is still a record.
     (As::Records, b"\x12\x03\x0a\x01\xff", "2 bytes 3 at 0, 2; "),
-    // The first record that is wrong.
+    // The first wrong record is reported.
     (As::Records, b"\x00", "the record at 0 has no field number"),
     (As::Records, b"\x03", "the record at 0 has no field number"),
     (As::Records, b"\x0b", "the record at 0 is a group"),
@@ -187,7 +187,7 @@ pub(crate) const ROWS: &[(As, &[u8], &str)] = &[
         b"\x01\xff\xff\xff\xff\xff\xff\xff\xff\xff\xff",
         "the record at 5 has a varint of more than ten bytes",
     ),
-    // An index is written in one way, whoever wrote what it was read from.
+    // An index has one written form, whichever form it was decoded from.
     (As::Index, b"", ""),
     (
         As::Index,
@@ -214,7 +214,7 @@ pub(crate) const ROWS: &[(As, &[u8], &str)] = &[
         FOREIGN,
         "0a02200112150a016112100a0300070812076c6f63616c20301801",
     ),
-    // An empty argument, an empty tool and an empty document are written; what is 0 or empty besides is left out.
+    // An empty argument, an empty tool and an empty document are written; other zeros and empty strings are left out.
     (
         As::Index,
         b"\x0a\x10\x12\x0c\x0a\x05oscip\x12\x011\x1a\x00\x20\x01",
@@ -231,19 +231,19 @@ pub(crate) const ROWS: &[(As, &[u8], &str)] = &[
         b"\x0a\x06\x20\xff\xff\xff\xff\x0f",
         "0a0b20ffffffffffffffffff01",
     ),
-    // So does the least of an int32, and the greatest takes five.
+    // The minimum of an int32 too, and its maximum takes five.
     (
         As::Index,
         b"\x12\x13\x12\x11\x0a\x0f\xff\xff\xff\xff\x07\x80\x80\x80\x80\xf8\xff\xff\xff\xff\x01",
         "121312110a0fffffffff0780808080f8ffffffff01",
     ),
-    // A range that is packed and unpacked, negative numbers, and the last of several texts and numbers.
+    // A range that is packed and unpacked, negative numbers, and repeated strings and numbers, of which the last counts.
     (
         As::Index,
         b"\x12\x1c\x12\x1a\x08\x01\x0a\x01\x02\x08\xff\xff\xff\xff\xff\xff\xff\xff\xff\x01\x12\x01a\x12\x01b\x18\x04\x18\x08",
         "121512130a0c0102ffffffffffffffffff011201621808",
     ),
-    // Metadata and the tool are merged, and arguments added.
+    // Metadata and the tool are merged, and arguments are appended.
     (
         As::Index,
         b"\x0a\x06\x12\x04\x0a\x02ab\x0a\x06\x12\x04\x12\x02cd\x0a\x07\x12\x05\x1a\x00\x1a\x01x\x1a\x05\x0a\x01s\x32\x00",
@@ -255,7 +255,7 @@ pub(crate) const ROWS: &[(As, &[u8], &str)] = &[
         b"\x12\x03\x0a\x01\xff\x12\x05",
         "the text of the record at 2 is no UTF-8",
     ),
-    // What stands beside the documents.
+    // The data besides the documents.
     (As::Rest, b"", "none, 0"),
     (As::Rest, TWO, "some, 2"),
     (
@@ -271,7 +271,7 @@ pub(crate) const ROWS: &[(As, &[u8], &str)] = &[
         "no symbol",
     ),
     (As::Checked, FOREIGN, "1 defined, 0 used"),
-    // Two documents of one path, of whose two occurrences neither is a definition, and a third occurrence in a document of another path.
+    // Two documents of one path with two occurrences, neither a definition, and an occurrence in a document of another path.
     (
         As::Checked,
         b"\x12\x0f\x0a\x01a\x12\x0a\x0a\x03\x00\x07\x08\x12\x01s\x18\x00\x12\x0d\x12\x08\x0a\x03\x01\x00\x02\x12\x01s\x0a\x01a\x12\x0f\x12\x0a\x0a\x03\x02\x00\x02\x12\x01s\x18\x03\x0a\x01b",
@@ -287,14 +287,14 @@ pub(crate) const ROWS: &[(As, &[u8], &str)] = &[
     ),
 ];
 
-pub(crate) fn told_fault(alloc: Global, fault: WireFault) -> Result<String, AllocError> {
+pub(crate) fn describe_fault(alloc: Global, fault: WireFault) -> Result<String, AllocError> {
     match fault {
         WireFault::Memory => Err(AllocError),
         _ => format!(in alloc; "{fault}"),
     }
 }
 
-fn told_value(alloc: Global, value: WireValue) -> Result<String, AllocError> {
+fn describe_value(alloc: Global, value: WireValue) -> Result<String, AllocError> {
     match value {
         WireValue::Varint(number) => format!(in alloc; "varint {number}"),
         WireValue::Eight => String::from_str(alloc, "eight"),
@@ -303,10 +303,10 @@ fn told_value(alloc: Global, value: WireValue) -> Result<String, AllocError> {
     }
 }
 
-fn told_records(alloc: Global, found: &[WireRecord]) -> Result<String, AllocError> {
+fn describe_records(alloc: Global, found: &[WireRecord]) -> Result<String, AllocError> {
     let mut text = String::new(alloc);
     for record in found {
-        let value = told_value(alloc, record.value)?;
+        let value = describe_value(alloc, record.value)?;
         write!(
             text,
             "{} {value} at {}, {}; ",
@@ -316,82 +316,82 @@ fn told_records(alloc: Global, found: &[WireRecord]) -> Result<String, AllocErro
     Ok(text)
 }
 
-fn told_packed(alloc: Global, payload: &[u8]) -> Result<String, AllocError> {
+fn describe_packed(alloc: Global, payload: &[u8]) -> Result<String, AllocError> {
     match packed_values(alloc, payload, 5) {
         Ok(numbers) => format!(in alloc; "{:?}", numbers.as_slice()),
-        Err(fault) => told_fault(alloc, fault),
+        Err(fault) => describe_fault(alloc, fault),
     }
 }
 
-fn told_written(alloc: Global, index: &Index) -> Result<String, AllocError> {
+fn describe_written(alloc: Global, index: &Index) -> Result<String, AllocError> {
     match to_bytes(alloc, index) {
         Ok(bytes) => hex::encode(alloc, bytes.as_slice()),
         Err(_) => Err(AllocError),
     }
 }
 
-pub(crate) fn told_rest(alloc: Global, reader: IndexReader) -> Result<String, AllocError> {
+pub(crate) fn describe_rest(alloc: Global, reader: IndexReader) -> Result<String, AllocError> {
     match &reader.rest() {
         Ok((metadata, externals)) => {
             let word = if metadata.is_some() { "some" } else { "none" };
             format!(in alloc; "{word}, {}", externals.len())
         }
-        Err(fault) => told_fault(alloc, *fault),
+        Err(fault) => describe_fault(alloc, *fault),
     }
 }
 
-fn told_symbol(alloc: Global, store: &Store) -> Result<String, AllocError> {
+fn describe_symbol(alloc: Global, store: &Store) -> Result<String, AllocError> {
     match store.symbol_at("a", Position { line: 0, column: 7 }) {
         Ok(symbol) => String::from_str(alloc, symbol.unwrap_or("no symbol")),
         Err(_) => Err(AllocError),
     }
 }
 
-fn told_store(alloc: Global, index: Index) -> Result<String, AllocError> {
+fn describe_store(alloc: Global, index: Index) -> Result<String, AllocError> {
     match Store::new(alloc, index) {
-        Ok(store) => told_symbol(alloc, &store),
+        Ok(store) => describe_symbol(alloc, &store),
         Err(_) => Err(AllocError),
     }
 }
 
-fn told_places(alloc: Global, bytes: &[u8], symbol: &[u8]) -> Result<String, AllocError>
-    requires { (index : PlainIndex) × Means bytes.now index }
+fn describe_occurrences(alloc: Global, bytes: &[u8], symbol: &[u8]) -> Result<String, AllocError>
+    requires { (index : IndexModel) × Means bytes.now index }
 {
     let defined = definitions_in_bytes(alloc, bytes, "a", symbol)?;
     let used = references_in_bytes(alloc, bytes, "a", symbol)?;
     format!(in alloc; "{} defined, {} used", defined.len(), used.len())
 }
 
-fn told_checked(alloc: Global, bytes: &[u8]) -> Result<String, AllocError>
-    requires { (index : PlainIndex) × Means bytes.now index }
+fn describe_checked(alloc: Global, bytes: &[u8]) -> Result<String, AllocError>
+    requires { (index : IndexModel) × Means bytes.now index }
 {
     match symbol_in_bytes(alloc, bytes, "a", Position { line: 0, column: 7 }) {
-        Ok(Some(symbol)) => told_places(alloc, bytes, symbol),
+        Ok(Some(symbol)) => describe_occurrences(alloc, bytes, symbol),
         Ok(None) => String::from_str(alloc, "no symbol"),
         Err(StoreFault::NoDocument) => String::from_str(alloc, "no document"),
         Err(StoreFault::Memory) => Err(AllocError),
     }
 }
 
-fn told(alloc: Global, way: As, bytes: &[u8]) -> Result<String, AllocError> {
+fn description(alloc: Global, way: As, bytes: &[u8]) -> Result<String, AllocError> {
     match way {
         As::Records => match records(alloc, bytes) {
-            Ok(found) => told_records(alloc, found.as_slice()),
-            Err(fault) => told_fault(alloc, fault),
+            Ok(found) => describe_records(alloc, found.as_slice()),
+            Err(fault) => describe_fault(alloc, fault),
         },
-        As::Packed => told_packed(alloc, bytes),
-        As::Rest => told_rest(alloc, IndexReader::new(alloc, bytes)),
+        As::Packed => describe_packed(alloc, bytes),
+        As::Rest => describe_rest(alloc, IndexReader::new(alloc, bytes)),
         As::Index => match from_bytes(alloc, bytes) {
-            Ok(index) => told_written(alloc, &index),
-            Err(fault) => told_fault(alloc, fault),
+            Ok(index) => describe_written(alloc, &index),
+            Err(fault) => describe_fault(alloc, fault),
         },
         As::Store => match from_bytes(alloc, bytes) {
-            Ok(index) => told_store(alloc, index),
-            Err(fault) => told_fault(alloc, fault),
+            Ok(index) => describe_store(alloc, index),
+            Err(fault) => describe_fault(alloc, fault),
         },
         As::Checked => match check(alloc, bytes) {
-            Ok(()) => told_checked(alloc, bytes),
-            Err(fault) => told_fault(alloc, fault),
+            Ok(()) => describe_checked(alloc, bytes),
+            Err(fault) => describe_fault(alloc, fault),
         },
     }
 }
@@ -399,8 +399,8 @@ fn told(alloc: Global, way: As, bytes: &[u8]) -> Result<String, AllocError> {
 #[test]
 fn bytes_mean_what_they_mean(rt: HostRuntime) -> Result<(), Fail> {
     for (way, bytes, want) in ROWS {
-        let told = told(rt.alloc(), *way, bytes)?;
-        is_told(&rt, told.as_str(), want);
+        let description = description(rt.alloc(), *way, bytes)?;
+        expect(&rt, description.as_str(), want);
     }
     Ok(())
 }

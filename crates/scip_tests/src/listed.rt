@@ -1,34 +1,34 @@
-//! What is put of an index: its definitions, the symbol at a position, and the places of a symbol by its text.
-use crate::told::is_told;
+//! The output of queries on an index: its definitions, the symbol at a position, and the locations of a symbol by its string.
+use crate::description::expect;
 use index_store::{
-    Position, QueryFault, Which, put_symbol, put_symbols, query_fault_text, query_symbol,
+    Position, QueryFault, Which, list_symbols, query_fault_text, query_symbol, write_symbol,
 };
 use std::alloc::{AllocError, Global};
 use std::process::Abort;
 use std::test::Fail;
 use test_doubles::ByOne;
-use text_escape::PlaceStyle;
+use text_escape::LocationStyle;
 
-/// Three documents, the first and the last of one path. The first has a definition of `s` and a use of it, and definitions of a local
-/// symbol, of none, of one without a place, and one with another role beside that, on two lines; the second has control characters
-/// in its path and in a symbol.
+/// Three documents, the first and the last with one path. The first has a definition and a reference of `s`, definitions of a local symbol,
+/// of no symbol, of one without a range, and one with a second role, on two lines.
+/// The second has control characters in its path and in a symbol.
 pub(crate) const DEFINES: &[u8] =
     b"\x12\x4c\x0a\x01a\x12\x0a\x0a\x03\x00\x07\x08\x12\x01s\x18\x01\x12\x08\x0a\x03\x01\x00\x01\x12\x01s\x12\x10\x0a\x03\x02\x00\x02\x12\x07local 0\x18\x01\x12\x07\x0a\x03\x03\x00\x01\x18\x01\x12\x09\x0a\x02\x04\x00\x12\x01t\x18\x01\x12\x0b\x0a\x04\x05\x00\x06\x01\x12\x01u\x18\x03\x12\x11\x0a\x02b\x0a\x12\x0b\x0a\x03\x00\x00\x01\x12\x02\x09v\x18\x01\x12\x0f\x0a\x01a\x12\x0a\x0a\x03\x07\x00\x01\x12\x01w\x18\x01";
 
-/// What is put.
+/// A query.
 #[derive(Clone, Copy)]
 pub(crate) enum Ask {
-    /// The definitions, of the documents of a path or of all.
+    /// The definitions in the documents of a path, or in all documents.
     Symbols(Option<&'static str>),
     /// The symbol at a line and a column of a document.
     Symbol(&'static str, u32, u32),
     /// The definitions of a symbol, with the path of a document or without.
     Definitions(Option<&'static str>, &'static str),
-    /// Its uses.
+    /// Its references.
     References(Option<&'static str>, &'static str),
 }
 
-/// What is asked, and what is put or refused.
+/// A query with its expected output or error.
 pub(crate) const ROWS: &[(Ask, &str)] = &[
     (
         Ask::Symbols(None),
@@ -60,18 +60,18 @@ pub(crate) const ROWS: &[(Ask, &str)] = &[
     (Ask::References(Some("a"), "local 0"), ""),
 ];
 
-/// Puts what is asked of an index.
+/// Runs a query on an index.
 pub(crate) fn put(
     alloc: Global,
     bytes: &[u8],
     ask: Ask,
     sink: &mut ByOne,
 ) -> Result<(), QueryFault> {
-    let style = PlaceStyle::Plain;
+    let style = LocationStyle::Plain;
     match ask {
-        Ask::Symbols(path) => put_symbols(alloc, bytes, path, style, sink),
+        Ask::Symbols(path) => list_symbols(alloc, bytes, path, style, sink),
         Ask::Symbol(path, line, column) => {
-            put_symbol(alloc, bytes, path, Position { line, column }, sink)
+            write_symbol(alloc, bytes, path, Position { line, column }, sink)
         }
         Ask::Definitions(path, symbol) => {
             let which = Which::Definitions;
@@ -84,8 +84,8 @@ pub(crate) fn put(
     }
 }
 
-/// What is put, or the fault in place of it: nothing was put then.
-fn told(alloc: Global, bytes: &[u8], ask: Ask) -> Result<String, AllocError> {
+/// The output, or the error; after an error nothing was written.
+fn description(alloc: Global, bytes: &[u8], ask: Ask) -> Result<String, AllocError> {
     let mut sink = ByOne::new(alloc, 10_000);
     match put(alloc, bytes, ask, &mut sink) {
         Ok(()) => String::from_utf8_lossy(alloc, sink.taken.as_slice()),
@@ -95,29 +95,29 @@ fn told(alloc: Global, bytes: &[u8], ask: Ask) -> Result<String, AllocError> {
     }
 }
 
-fn tells<R: Abort + AllocGlobal>(
+fn check_answer<R: Abort + AllocGlobal>(
     rt: &R,
     bytes: &[u8],
     ask: Ask,
     want: &str,
 ) -> Result<(), AllocError> {
-    is_told(rt, told(rt.alloc(), bytes, ask)?.as_str(), want);
+    expect(rt, description(rt.alloc(), bytes, ask)?.as_str(), want);
     Ok(())
 }
 
 #[test]
-fn an_index_tells_its_symbols(rt: HostRuntime) -> Result<(), Fail> {
+fn symbols_of_an_index_are_listed(rt: HostRuntime) -> Result<(), Fail> {
     for (ask, want) in ROWS {
-        tells(&rt, DEFINES, *ask, want)?;
+        check_answer(&rt, DEFINES, *ask, want)?;
     }
     Ok(())
 }
 
 #[test]
-fn what_means_no_index_tells_nothing(rt: HostRuntime) -> Result<(), Fail> {
+fn what_is_no_index_has_no_answer(rt: HostRuntime) -> Result<(), Fail> {
     let cut = &DEFINES[..DEFINES.len() - 1];
     for (ask, _) in ROWS {
-        tells(&rt, cut, *ask, "Truncated 97")?;
+        check_answer(&rt, cut, *ask, "Truncated 97")?;
     }
     Ok(())
 }

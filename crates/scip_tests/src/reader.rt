@@ -1,26 +1,26 @@
-//! An index that is read one document after the other, whole and without its last byte: a refusal is answered again.
-use crate::bytes::{FOREIGN, told_fault, told_rest};
+//! An index that is read one document at a time, whole and without its last byte. An error is returned again.
+use crate::bytes::{FOREIGN, describe_fault, describe_rest};
 use scip_index::IndexReader;
 use std::alloc::{AllocError, Global};
 use std::test::Fail;
 
 const CUT_OFF: &str = "the record at 27 is cut off";
 
-/// How many of its bytes are left out, what the next three documents are, and what stands beside the documents.
+/// The number of bytes that are left out, the results of the next three calls, and the data besides the documents.
 const ROWS: &[(usize, [&str; 3], &str)] = &[
     (0, ["document a", "no document", "no document"], "some, 0"),
     (1, ["document a", CUT_OFF, CUT_OFF], CUT_OFF),
 ];
 
-fn told_next(alloc: Global, reader: &mut IndexReader) -> Result<String, AllocError> {
+fn describe_next(alloc: Global, reader: &mut IndexReader) -> Result<String, AllocError> {
     match &reader.next() {
         Ok(Some(document)) => format!(in alloc; "document {}", document.relative_path),
         Ok(None) => String::from_str(alloc, "no document"),
-        Err(fault) => told_fault(alloc, *fault),
+        Err(fault) => describe_fault(alloc, *fault),
     }
 }
 
-/// Whether a reader of these bytes answers so many of these, and then this beside the documents.
+/// Whether a reader of these bytes returns this many of these documents, and then these other data.
 fn answers(
     alloc: Global,
     bytes: &[u8],
@@ -29,11 +29,11 @@ fn answers(
 ) -> Result<bool, AllocError> {
     let mut reader = IndexReader::new(alloc, bytes);
     for want in documents {
-        if told_next(alloc, &mut reader)?.as_str() != *want {
+        if describe_next(alloc, &mut reader)?.as_str() != *want {
             return Ok(false);
         }
     }
-    Ok(told_rest(alloc, reader)?.as_str() == rest)
+    Ok(describe_rest(alloc, reader)?.as_str() == rest)
 }
 
 #[test]

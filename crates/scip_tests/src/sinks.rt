@@ -1,4 +1,4 @@
-//! What is put into a sink that takes one byte at a time and fails: records, the parts of an index, and the lines of an answer.
+//! Output to a sink that takes one byte at a time and fails: records, the parts of an index, and the lines of a query.
 use crate::bytes::MODULE;
 use crate::listed::{self, Ask, DEFINES};
 use index_store::{Position, QueryFault, Which, query};
@@ -7,22 +7,22 @@ use scip_index::{Document, Index, IndexWriter, Metadata, from_bytes};
 use std::alloc::{AllocError, Global};
 use std::test::Fail;
 use test_doubles::ByOne;
-use text_escape::PlaceStyle;
+use text_escape::LocationStyle;
 
-/// What is put.
+/// An output.
 #[derive(Clone, Copy)]
 enum What {
-    /// Four records: 150, the text "testing", packed numbers, and an empty message.
+    /// Four records: 150, the string "testing", packed numbers, and an empty message.
     Records,
     /// The index of a module.
     Index,
-    /// The lines of the uses of a symbol.
+    /// The lines of a symbol's references.
     Lines,
-    /// This of an index with definitions.
+    /// This query on an index with definitions.
     Asked(Ask),
 }
 
-/// A document with two uses of a symbol, at the first columns of two lines.
+/// A document with two references of a symbol, at the first columns of two lines.
 const USES: &[u8] =
     b"\x12\x17\x0a\x01a\x12\x08\x0a\x03\x01\x00\x01\x12\x01s\x12\x08\x0a\x03\x02\x00\x01\x12\x01s";
 
@@ -41,8 +41,8 @@ const ROWS: &[(What, &[u8])] = &[
     (What::Asked(Ask::References(None, "s")), b"a:1:0-1:1\n"),
 ];
 
-/// Whether all was put, and not the device failed.
-fn is_put(put: Result<(), WireFault>) -> Result<bool, AllocError> {
+/// Whether everything was written, so that the device didn't fail.
+fn is_written(put: Result<(), WireFault>) -> Result<bool, AllocError> {
     match put {
         Ok(()) => Ok(true),
         Err(WireFault::Device) => Ok(false),
@@ -50,25 +50,25 @@ fn is_put(put: Result<(), WireFault>) -> Result<bool, AllocError> {
     }
 }
 
-fn put_four(alloc: Global, writer: &mut Writer, sink: &mut ByOne) -> Result<(), WireFault> {
+fn write_four(alloc: Global, writer: &mut Writer, sink: &mut ByOne) -> Result<(), WireFault> {
     writer.varint(alloc, 1, 150, sink)?;
     writer.text(alloc, 2, "testing", sink)?;
     writer.packed(alloc, 4, &[3, -2], sink)?;
     writer.message(alloc, 536_870_911, b"", sink)
 }
 
-/// Whether the records are put. Where they are not, none is put into the sink when it has room again.
-fn put_records(alloc: Global, sink: &mut ByOne) -> Result<bool, AllocError> {
+/// Writes the records. After an error nothing more is written, even if the sink has room again.
+fn write_records(alloc: Global, sink: &mut ByOne) -> Result<bool, AllocError> {
     let mut writer = Writer::new();
-    if is_put(put_four(alloc, &mut writer, sink))? {
+    if is_written(write_four(alloc, &mut writer, sink))? {
         return Ok(true);
     }
-    sink.puts = 100;
-    is_put(writer.varint(alloc, 1, 150, sink))
+    sink.writes = 100;
+    is_written(writer.varint(alloc, 1, 150, sink))
 }
 
-/// Puts the parts of an index. Where its metadata is not put, none is put into the sink when it has room again.
-fn put_parts(
+/// Writes the parts of an index. After an error of the metadata nothing more is written, even if the sink has room again.
+fn write_parts(
     alloc: Global,
     metadata: &Metadata,
     document: &Document,
@@ -79,19 +79,21 @@ fn put_parts(
         writer.document(document, sink)?;
         return writer.end(&[], sink);
     };
-    sink.puts = 100;
+    sink.writes = 100;
     writer.end(&[], sink)
 }
 
-/// Whether the metadata and the first document are put.
-fn put_index(alloc: Global, index: &Index, sink: &mut ByOne) -> Result<bool, AllocError> {
+/// Whether the metadata and the first document are written.
+fn write_index(alloc: Global, index: &Index, sink: &mut ByOne) -> Result<bool, AllocError> {
     match (&index.metadata, index.documents.first()) {
-        (Some(metadata), Some(document)) => is_put(put_parts(alloc, metadata, document, sink)),
+        (Some(metadata), Some(document)) => is_written(write_parts(
+            alloc, metadata, document, sink,
+        )),
         _ => Err(AllocError),
     }
 }
 
-/// Whether the answer is put, and not the device failed.
+/// Whether the output is written, so that the device didn't fail.
 fn is_answered(put: Result<(), QueryFault>) -> Result<bool, AllocError> {
     match put {
         Ok(()) => Ok(true),
@@ -100,27 +102,27 @@ fn is_answered(put: Result<(), QueryFault>) -> Result<bool, AllocError> {
     }
 }
 
-/// Whether the lines are put.
-fn put_lines(alloc: Global, sink: &mut ByOne) -> Result<bool, AllocError> {
+/// Whether the lines are written.
+fn write_lines(alloc: Global, sink: &mut ByOne) -> Result<bool, AllocError> {
     let at = Position { line: 2, column: 0 };
-    let (which, style) = (Which::References, PlaceStyle::Plain);
+    let (which, style) = (Which::References, LocationStyle::Plain);
     is_answered(query(alloc, USES, "a", at, which, style, sink))
 }
 
 fn put(alloc: Global, what: What, sink: &mut ByOne) -> Result<bool, AllocError> {
     match what {
-        What::Records => put_records(alloc, sink),
+        What::Records => write_records(alloc, sink),
         What::Index => match from_bytes(alloc, MODULE) {
-            Ok(index) => put_index(alloc, &index, sink),
+            Ok(index) => write_index(alloc, &index, sink),
             Err(_) => Err(AllocError),
         },
-        What::Lines => put_lines(alloc, sink),
+        What::Lines => write_lines(alloc, sink),
         What::Asked(ask) => is_answered(listed::put(alloc, DEFINES, ask, sink)),
     }
 }
 
-/// Whether a sink with room for so many bytes has these, and failed once where there are more. It is never asked to take none.
-fn has_front(alloc: Global, what: What, whole: &[u8], room: usize) -> Result<bool, AllocError> {
+/// Whether a sink with room for this many bytes has exactly these, and failed once if there are more. No call writes zero bytes.
+fn check_prefix(alloc: Global, what: What, whole: &[u8], room: usize) -> Result<bool, AllocError> {
     let mut sink = ByOne::new(alloc, room as u64);
     let all = put(alloc, what, &mut sink)?;
     Ok(
@@ -132,10 +134,10 @@ fn has_front(alloc: Global, what: What, whole: &[u8], room: usize) -> Result<boo
     )
 }
 
-/// The first room with which the sink has something else.
+/// The smallest room for which the sink has other bytes.
 fn first_wrong(alloc: Global, what: What, whole: &[u8]) -> Result<Option<usize>, AllocError> {
     for room in 0..=whole.len() {
-        if !has_front(alloc, what, whole, room)? {
+        if !check_prefix(alloc, what, whole, room)? {
             return Ok(Some(room));
         }
     }
@@ -143,7 +145,7 @@ fn first_wrong(alloc: Global, what: What, whole: &[u8]) -> Result<Option<usize>,
 }
 
 #[test]
-fn a_sink_that_fails_has_a_front(rt: HostRuntime) -> Result<(), Fail> {
+fn a_sink_that_fails_has_a_prefix(rt: HostRuntime) -> Result<(), Fail> {
     for (what, whole) in ROWS {
         assert_eq!(rt; first_wrong(rt.alloc(), *what, whole)?, None);
     }

@@ -1,5 +1,5 @@
-//! Symbols and their texts.
-use crate::told::is_told;
+//! Symbols and their strings.
+use crate::description::expect;
 use scip_symbol::{Descriptor, DescriptorKind, Symbol, SymbolFault, read, write};
 use std::alloc::{AllocError, Global};
 use std::test::Fail;
@@ -7,10 +7,10 @@ use std::test::Fail;
 /// The scheme, the manager, the package and the version of a symbol.
 type Parts = [&'static str; 4];
 
-/// A step of a path: what it names, its name, and its disambiguator.
+/// A descriptor: its kind, its name, and its disambiguator.
 type Step = (DescriptorKind, &'static str, &'static str);
 
-/// Symbols with their texts, or why they have none.
+/// Symbols with their strings or errors.
 const SYMBOLS: &[(Parts, &[Step], &str)] = &[
     (
         ["x y", "", "", ""],
@@ -32,7 +32,7 @@ const SYMBOLS: &[(Parts, &[Step], &str)] = &[
         ],
         "x m p v n/t#v.p().q(+1).m:c![a](b)",
     ),
-    // The first reason is told.
+    // The first error is reported.
     (
         ["local", ".", "", ""],
         &[(DescriptorKind::TypeName, "", "")],
@@ -58,7 +58,7 @@ const SYMBOLS: &[(Parts, &[Step], &str)] = &[
     ),
 ];
 
-/// Texts with the plain ones of what they stand for, or why they are no symbols.
+/// Strings with the canonical strings of their symbols, or their errors.
 const TEXTS: &[(&str, &str)] = &[
     ("local 0", "local 0"),
     ("local a_+-$9", "local a_+-$9"),
@@ -66,7 +66,7 @@ const TEXTS: &[(&str, &str)] = &[
         "scip-oberon . editor . M/R#f.",
         "scip-oberon . editor . M/R#f.",
     ),
-    // A simple name may stand in backticks, and any other has to.
+    // A simple name may be in backticks, and any other has to be.
     ("x . . . `a`#", "x . . . a#"),
     (
         "x . . . `a/b`/`a.b`.`a()`(1).`a:b`:`a!b`![`[a]`](`(a)`)",
@@ -82,14 +82,14 @@ const TEXTS: &[(&str, &str)] = &[
     (". . . . t#", ". . . . t#"),
     ("схема m ü  é . t#", "схема m ü  é . t#"),
     ("loca local local  a ` t#", "loca local local  a ` t#"),
-    // Texts that are no symbols. Something is empty.
+    // Strings of no symbol. Something is empty.
     ("", "something is empty"),
     ("local ", "something is empty"),
     ("x . . . ", "something is empty"),
     // An id is wrong.
     ("local  0", "the descriptor at 6 is wrong"),
     ("local ab.c.", "the descriptor at 8 is wrong"),
-    // The scheme begins with local.
+    // The scheme begins with `local`.
     ("local", "the scheme begins with local"),
     ("localx . . . a#", "the scheme begins with local"),
     ("local. ", "the scheme begins with local"),
@@ -113,11 +113,11 @@ const TEXTS: &[(&str, &str)] = &[
     ("x . . . M/ü#", "the descriptor at 10 is wrong"),
     ("x . . . `ü`/a", "the descriptor at 13 is wrong"),
     ("x y . z  . M/T#f", "the descriptor at 15 is wrong"),
-    // A backtick is open.
+    // A backtick isn't closed.
     ("x . . . `a#", "a backtick is open"),
     ("x . . . ```", "a backtick is open"),
     ("x . . . M/(`a)", "a backtick is open"),
-    // The first reason is told.
+    // The first error is reported.
     ("x . . . a/b c/`d", "the descriptor at 10 is wrong"),
     ("x . . . `a/b c/", "a backtick is open"),
     ("local a#`b", "the descriptor at 7 is wrong"),
@@ -152,14 +152,14 @@ fn global(alloc: Global, parts: Parts, steps: &[Step]) -> Result<Symbol, AllocEr
     })
 }
 
-fn told_fault(alloc: Global, fault: SymbolFault) -> Result<String, AllocError> {
+fn describe_fault(alloc: Global, fault: SymbolFault) -> Result<String, AllocError> {
     match fault {
         SymbolFault::Memory => Err(AllocError),
         _ => format!(in alloc; "{fault}"),
     }
 }
 
-/// Whether a text is read as this symbol.
+/// Whether a string is read as this symbol.
 fn is_read(alloc: Global, text: &str, symbol: &Symbol) -> Result<bool, AllocError> {
     match read(alloc, text) {
         Ok(found) => Ok(found == *symbol),
@@ -168,8 +168,8 @@ fn is_read(alloc: Global, text: &str, symbol: &Symbol) -> Result<bool, AllocErro
     }
 }
 
-/// The text, if it is read as this symbol.
-fn told_again(alloc: Global, text: String, symbol: &Symbol) -> Result<String, AllocError> {
+/// The string, if it is read as this symbol.
+fn describe_reread(alloc: Global, text: String, symbol: &Symbol) -> Result<String, AllocError> {
     if is_read(alloc, text.as_str(), symbol)? {
         Ok(text)
     } else {
@@ -177,31 +177,31 @@ fn told_again(alloc: Global, text: String, symbol: &Symbol) -> Result<String, Al
     }
 }
 
-/// The text of a symbol, which is read as the symbol again, or why it has none.
-fn told_written(alloc: Global, symbol: &Symbol) -> Result<String, AllocError> {
+/// The string of a symbol, which is read as the symbol again, or the error.
+fn describe_written(alloc: Global, symbol: &Symbol) -> Result<String, AllocError> {
     match write(alloc, symbol) {
-        Ok(text) => told_again(alloc, text, symbol),
-        Err(fault) => told_fault(alloc, fault),
+        Ok(text) => describe_reread(alloc, text, symbol),
+        Err(fault) => describe_fault(alloc, fault),
     }
 }
 
-fn told_global(alloc: Global, parts: Parts, steps: &[Step]) -> Result<String, AllocError> {
-    told_written(alloc, &global(alloc, parts, steps)?)
+fn describe_global(alloc: Global, parts: Parts, steps: &[Step]) -> Result<String, AllocError> {
+    describe_written(alloc, &global(alloc, parts, steps)?)
 }
 
-/// The plain text of the symbol that a text stands for, or why it is none.
-fn told_read(alloc: Global, text: &str) -> Result<String, AllocError> {
+/// The canonical string of the symbol that has a string, or the error.
+fn describe_read(alloc: Global, text: &str) -> Result<String, AllocError> {
     match read(alloc, text) {
-        Ok(symbol) => told_written(alloc, &symbol),
-        Err(fault) => told_fault(alloc, fault),
+        Ok(symbol) => describe_written(alloc, &symbol),
+        Err(fault) => describe_fault(alloc, fault),
     }
 }
 
 #[test]
 fn symbols_have_texts(rt: HostRuntime) -> Result<(), Fail> {
     for (parts, steps, want) in SYMBOLS {
-        let told = told_global(rt.alloc(), *parts, steps)?;
-        is_told(&rt, told.as_str(), want);
+        let description = describe_global(rt.alloc(), *parts, steps)?;
+        expect(&rt, description.as_str(), want);
     }
     Ok(())
 }
@@ -209,8 +209,8 @@ fn symbols_have_texts(rt: HostRuntime) -> Result<(), Fail> {
 #[test]
 fn texts_are_read(rt: HostRuntime) -> Result<(), Fail> {
     for (text, want) in TEXTS {
-        let told = told_read(rt.alloc(), text)?;
-        is_told(&rt, told.as_str(), want);
+        let description = describe_read(rt.alloc(), text)?;
+        expect(&rt, description.as_str(), want);
     }
     Ok(())
 }

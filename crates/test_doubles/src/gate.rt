@@ -5,22 +5,22 @@ use std::sync::atomic::{AtomicU64, Ordering};
 use std::thread;
 use std::time::{Clock, Duration};
 
-/// Waits at most this often, a millisecond each time.
+/// The maximum number of waits, of a millisecond each.
 const MOST_WAITS: u32 = 1000;
 
-/// Holds each worker at turn 0 until all of them came to theirs, or it waited for a second.
+/// A gate that holds each worker at step 0 until all have come there, or for at most a second.
 #[derive(Drop)]
 pub struct AllCome<'a, R> {
     clock: &'a R,
     workers: u64,
-    /// How many workers came to turn 0.
+    /// The number of workers that came to step 0.
     pub came: AtomicU64,
-    /// How many of them were let go because all had come.
+    /// The number of workers that were released because all had come.
     pub let_go: AtomicU64,
 }
 
 impl<'a, R: Clock> AllCome<'a, R> {
-    /// A gate for so many workers, to which none came yet.
+    /// A gate for this many workers, to which none has come yet.
     pub fn new(clock: &'a R, workers: u64) -> AllCome<'a, R> {
         AllCome {
             clock,

@@ -1,6 +1,6 @@
-//! What the tests of several crates share: a sink that fails, and a gate at which all workers meet.
-//! Stands on `byte_sink`, whose sink it plays, and on `cut_solve`, whose gate.
-//! Its contract: the sink keeps that of sinks, with what it took and how often it failed in plain sight. Of the gate no clause speaks.
+//! Test doubles that several crates use: a sink that fails, and a gate at which all workers meet.
+//! Depends on `byte_sink` and `cut_solve`, whose traits they implement.
+//! The sink satisfies the contract of sinks, and shows the bytes that it took and the number of its failures. No clause describes the gate.
 #![tactic(auto)]
 
 mod gate;

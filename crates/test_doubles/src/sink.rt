@@ -3,24 +3,24 @@
 use byte_sink::{Sink, SinkFault};
 use std::alloc::Global;
 
-/// Takes one byte at a time, fails from its last put on, and counts the puts of no bytes.
+/// A sink that takes one byte at a time, fails from a certain write on, and counts the writes of no bytes.
 #[derive(Drop)]
 pub struct ByOne {
-    /// How many bytes it will still take. Each put of one byte or more takes one.
-    pub puts: u64,
+    /// The number of bytes that it will still take. Each write of one byte or more takes one.
+    pub writes: u64,
     /// The bytes taken so far.
     pub taken: Vec<u8>,
-    /// How many puts have failed. At 2^64 - 1 the count stays.
+    /// The number of failed writes, at most 2^64 - 1.
     pub failures: u64,
-    /// How many puts had no bytes. At 2^64 - 1 the count stays.
+    /// The number of writes of no bytes, at most 2^64 - 1.
     pub empty: u64,
 }
 
 impl ByOne {
-    /// A sink that takes so many bytes, and then fails.
-    pub fn new(alloc: Global, puts: u64) -> ByOne {
+    /// A sink that takes this many bytes, and then fails.
+    pub fn new(alloc: Global, writes: u64) -> ByOne {
         ByOne {
-            puts,
+            writes,
             taken: Vec::new(alloc),
             failures: 0,
             empty: 0,
@@ -40,12 +40,12 @@ impl Sink for ByOne {
             self.empty = self.empty.saturating_add(1);
             return Ok(0);
         };
-        if self.puts == 0 {
+        if self.writes == 0 {
             self.failures = self.failures.saturating_add(1);
             return Err(SinkFault::Device);
         }
         self.taken.push(*first).map_err(|_| SinkFault::Memory)?;
-        self.puts -= 1;
+        self.writes -= 1;
         Ok(1)
     }
 }

@@ -37,7 +37,7 @@ stays (b ∷ text) e =
     let parts = or_parts (is_ascii_control b) (list_any is_ascii_control text) e in
     ap (λ t. cond t (escape_of b) (b ∷ []) ++ escaped text) parts.0 ∙ ap (λ t. b ∷ t) (stays text parts.1)
 
--- behind words without a control character it is one line
+-- after words without a control character it is one line
 pub one_line : (words text : List ℕ) → list_any is_ascii_control words ≡ false → IsOneLine (words ++ escaped text ++ codes "\n")
 one_line words text e = record {
   line = words ++ escaped text;

@@ -1,4 +1,4 @@
-//! Control characters, written out.
+//! Escapes of control characters.
 ghost use Rattle.std.specs.Prelude.{◌≡◌, ◌<◌, ◌++◌, IfOk, OnOk, true};
 ghost use Rattle.std.specs.Char.{digit_char, encode_utf8, is_ascii_control};
 ghost use Rattle.std.specs.List.{list_any};
@@ -7,6 +7,7 @@ ghost use Rattle.text_escape.specs.Escapes.{escape_of, escaped, hex_escape};
 
 use std::alloc::{AllocError, Global};
 
+/// Whether the text has a control character.
 pub(crate) fn has_control(text: &[u8]) -> bool
     ensures { result ≡ list_any is_ascii_control text.now }
 {
@@ -23,6 +24,7 @@ fn hex_digit(value: u32) -> char
     }
 }
 
+/// Appends `\x` and the code in two lower-case hexadecimal digits.
 fn push_hex(out: &mut String, code: u32) -> Result<(), AllocError>
     requires { code < 128 }
     ensures { OnOk result (string_bytes out.new ≡ string_bytes out.old ++ hex_escape code) }
@@ -32,7 +34,7 @@ fn push_hex(out: &mut String, code: u32) -> Result<(), AllocError>
     out.push(hex_digit(code % 16))
 }
 
-/// Puts a control character's escape behind the text.
+/// Appends the escape of a control character.
 fn push_escape(out: &mut String, control: char) -> Result<(), AllocError>
     requires { is_ascii_control control ≡ true }
     ensures { OnOk result (string_bytes out.new ≡ string_bytes out.old ++ escape_of control) }
@@ -45,7 +47,7 @@ fn push_escape(out: &mut String, control: char) -> Result<(), AllocError>
     }
 }
 
-/// Puts a character behind the text, written out where it is a control character.
+/// Appends a character, or its escape if it is a control character.
 fn push_char(out: &mut String, character: char) -> Result<(), AllocError>
     ensures { OnOk result (string_bytes out.new ≡ string_bytes out.old ++ escaped (encode_utf8 character)) }
 {
@@ -56,7 +58,7 @@ fn push_char(out: &mut String, character: char) -> Result<(), AllocError>
     }
 }
 
-/// Appends the text's characters, control characters written out.
+/// Appends the characters of the text, control characters as their escapes.
 fn push_chars(out: &mut String, text: &str) -> Result<(), AllocError>
     ensures { OnOk result (string_bytes out.new ≡ string_bytes out.old ++ escaped text.now) }
 {
@@ -66,9 +68,10 @@ fn push_chars(out: &mut String, text: &str) -> Result<(), AllocError>
     Ok(())
 }
 
-/// The text with its control characters written out: `\t`, `\n` and `\r`, and `\x` with two lower-case hexadecimal digits for each
-/// other below 32, and 127. Every other byte, a backslash too, stays. Fails where memory is refused.
+/// The text with its control characters escaped: `\t`, `\n` and `\r`, and `\x` with two lower-case hexadecimal digits for 127 and each
+/// other character below 32. Every other byte is copied, a backslash too. Fails if an allocation does.
 pub fn escaped(alloc: Global, text: &str) -> Result<String, AllocError>
+    // The escaped text.
     ensures { IfOk result (λ out. string_bytes out ≡ escaped text.now) }
 {
     let mut out = String::new(alloc);

@@ -1,8 +1,8 @@
-//! Texts of one line: control characters are written out. Places in files, written as they are or as editors take them.
+//! Text that fits on one line: control characters are escaped. Locations in files, in the style of the formats or of editors.
 //! Depends on std alone.
-//! Its contract: each control character of a text is written as its escape, and every other byte as it is; what is written so has no
-//! control character, and a text without one stays as it is. A place in a style is the shifted place with the prefixed path, written
-//! plainly.
+//! Main calls: `escaped` and `EscapingWriter::push` replace each control character by its escape and copy every other byte, so the result
+//! has none. `LocationWriter::push_start` writes `PATH:LINE:COL` in a style, which may prefix the path and
+//! count lines and columns from 1.
 #![tactic(auto)]
 
 mod escape;
@@ -11,5 +11,5 @@ mod places;
 mod writer;
 
 pub use escape::escaped;
-pub use places::{PlaceStyle, PlaceWriter};
+pub use places::{LocationStyle, LocationWriter};
 pub use writer::EscapingWriter;

@@ -1,4 +1,4 @@
-//! Places in files, as they are written.
+//! Locations in files, in the style of the formats or of editors.
 ghost use Rattle.std.specs.Prelude.{◌≡◌, ◌++◌, IfOk, OnOk};
 ghost use Rattle.std.specs.String.{string_bytes};
 ghost use Rattle.text_escape.specs.Escapes.{escaped};
@@ -7,34 +7,35 @@ ghost use Rattle.text_escape.specs.Places.{location_text, needs_slash, path_text
 use crate::EscapingWriter;
 use std::alloc::{AllocError, Global};
 
-/// How places in files are written.
+/// The style of locations.
 #[derive(Clone, Copy)]
-pub enum PlaceStyle<'a> {
-    /// Lines and columns from 0, and paths as they are.
+pub enum LocationStyle<'a> {
+    /// Lines and columns from 0, and paths unchanged.
     Plain,
-    /// Lines and columns from 1, and each path below this folder: after the folder's path and a slash, or without the slash if that
-    /// path is empty or ends in one.
+    /// Lines and columns from 1, and each path after the path of this folder and a slash. The slash is left out if the path of the folder
+    /// is empty or ends in one.
     Editor { folder: &'a str },
 }
 
+/// Whether a slash separates this folder from a path in it.
 fn needs_slash(path: &str) -> bool
     ensures { result ≡ needs_slash path.now }
 {
     !path.is_empty() && !path.as_bytes().ends_with(b"/")
 }
 
-impl PlaceStyle<'_> {
-    /// The path in this style, control characters as they are.
+impl LocationStyle<'_> {
+    /// The path in this style. Control characters are not escaped.
     pub fn full_path(self, alloc: Global, path: &str) -> Result<String, AllocError>
-        // The whole path.
+        // The prefix of the style and the path.
         ensures { IfOk result (λ text. string_bytes text ≡ (style_of self.entry).prefix ++ path.now) }
     {
         match self {
-            PlaceStyle::Plain => String::from_str(alloc, path),
-            PlaceStyle::Editor { folder } if needs_slash(folder) => {
+            LocationStyle::Plain => String::from_str(alloc, path),
+            LocationStyle::Editor { folder } if needs_slash(folder) => {
                 format!(in alloc; "{folder}/{path}")
             }
-            PlaceStyle::Editor { folder } => format!(in alloc; "{folder}{path}"),
+            LocationStyle::Editor { folder } => format!(in alloc; "{folder}{path}"),
         }
     }
 
@@ -43,13 +44,13 @@ impl PlaceStyle<'_> {
         ensures { result ≡ (style_of self.entry).first }
     {
         match self {
-            PlaceStyle::Plain => 0,
-            PlaceStyle::Editor { .. } => 1,
+            LocationStyle::Plain => 0,
+            LocationStyle::Editor { .. } => 1,
         }
     }
 
-    /// Appends the position, whose line and column are counted from 0, as `LINE:COL`, in this style. If an allocation fails, a prefix
-    /// of it may have been appended.
+    /// Appends the position, whose line and column are counted from 0, as `LINE:COL` in this style. If an allocation fails, a prefix of
+    /// it may have been appended.
     pub fn push_position(self, out: &mut String, line: u32, column: u32) -> Result<(), AllocError>
         // The whole position.
         ensures { OnOk result (string_bytes out.new ≡ string_bytes out.old ++ position_text (style_of self.entry) line column) }
@@ -60,34 +61,33 @@ impl PlaceStyle<'_> {
     }
 }
 
-/// Writes places of one style, each path as an `EscapingWriter` does: one that is the same as the path before is copied after one
-/// comparison.
+/// Writes locations of one style, each path as an `EscapingWriter` does: a path equal to the one before is copied after one comparison.
 #[derive(Drop)]
-pub struct PlaceWriter<'a> {
-    style: PlaceStyle<'a>,
+pub struct LocationWriter<'a> {
+    style: LocationStyle<'a>,
     folders: EscapingWriter<'a>,
     paths: EscapingWriter<'a>,
 }
 
-impl<'a> PlaceWriter<'a> {
-    /// Before the first place.
-    pub fn new(style: PlaceStyle<'a>) -> PlaceWriter<'a>
-        // It writes in this style.
+impl<'a> LocationWriter<'a> {
+    /// A writer that has written nothing yet.
+    pub fn new(style: LocationStyle<'a>) -> LocationWriter<'a>
+        // It has this style.
         ensures { writer_style result ≡ style_of style.entry }
     {
-        PlaceWriter {
+        LocationWriter {
             style,
             folders: EscapingWriter::new(),
             paths: EscapingWriter::new(),
         }
     }
 
-    /// Appends what the style has before each path.
+    /// Appends the prefix that the style has for each path.
     fn push_prefix(&mut self, out: &mut String) -> Result<(), AllocError>
         ensures appended { OnOk result (string_bytes out.new ≡ string_bytes out.old ++ escaped (writer_style self.old).prefix) }
         ensures style { writer_style self.new ≡ writer_style self.old }
     {
-        let PlaceStyle::Editor { folder } = self.style else {
+        let LocationStyle::Editor { folder } = self.style else {
             return Ok(());
         };
         self.folders.push(out, folder)?;
@@ -97,19 +97,19 @@ impl<'a> PlaceWriter<'a> {
         Ok(())
     }
 
-    /// Appends the path as `PATH`, in this style and with its control characters written out. If an allocation fails, a prefix of it
-    /// may have been appended.
+    /// Appends the path as `PATH` in this style, with its control characters escaped. If an allocation fails, a prefix of it may have
+    /// been appended.
     pub fn push_path(&mut self, out: &mut String, path: &'a str) -> Result<(), AllocError>
         // The whole path.
         ensures appended { OnOk result (string_bytes out.new ≡ string_bytes out.old ++ path_text (writer_style self.old) path.now) }
-        // The style stays, also after an error.
+        // The style is unchanged, after an error too.
         ensures style { writer_style self.new ≡ writer_style self.old }
     {
         self.push_prefix(out)?;
         self.paths.push(out, path)
     }
 
-    /// Appends the position as `PlaceStyle::push_position` does, in this style.
+    /// Appends the position in the style of this writer, as `LocationStyle::push_position` does.
     pub fn push_position(&self, out: &mut String, line: u32, column: u32) -> Result<(), AllocError>
         // The whole position.
         ensures { OnOk result (string_bytes out.new ≡ string_bytes out.old ++ position_text (writer_style self.now) line column) }
@@ -117,8 +117,8 @@ impl<'a> PlaceWriter<'a> {
         self.style.push_position(out, line, column)
     }
 
-    /// Appends the path and the position, whose line and column are counted from 0, as `PATH:LINE:COL`, in this style and with the
-    /// control characters of the path written out. If an allocation fails, a prefix of it may have been appended.
+    /// Appends the path and the position, whose line and column are counted from 0, as `PATH:LINE:COL` in this style, with the control
+    /// characters of the path escaped. If an allocation fails, a prefix of it may have been appended.
     pub fn push_start(
         &mut self,
         out: &mut String,
@@ -126,9 +126,9 @@ impl<'a> PlaceWriter<'a> {
         line: u32,
         column: u32,
     ) -> Result<(), AllocError>
-        // The whole place.
+        // The whole location.
         ensures appended { OnOk result (string_bytes out.new ≡ string_bytes out.old ++ location_text (writer_style self.old) path.now line column) }
-        // The style stays, also after an error.
+        // The style is unchanged, after an error too.
         ensures style { writer_style self.new ≡ writer_style self.old }
     {
         self.push_path(out, path)?;

@@ -1,4 +1,4 @@
-//! Texts written one behind the other, of which most are the one before.
+//! A writer of escaped texts, most of which equal the text before.
 ghost use Rattle.std.specs.Prelude.{◌≡◌, ◌++◌, OnErr, OnOk, false};
 ghost use Rattle.std.specs.Char.{is_ascii_control};
 ghost use Rattle.std.specs.List.{list_any};
@@ -8,8 +8,8 @@ ghost use Rattle.text_escape.specs.Escapes.{escaped};
 use crate::escape::{escaped, has_control};
 use std::alloc::AllocError;
 
-/// Writes texts behind others, with their control characters written out. It keeps the last text that has none: one that is the same is
-/// copied after one comparison.
+/// Appends texts with their control characters escaped. It remembers the last text that has none: an equal text is copied after one
+/// comparison, with no scan.
 #[derive(Drop)]
 pub struct EscapingWriter<'a> {
     plain: &'a str,
@@ -17,15 +17,16 @@ pub struct EscapingWriter<'a> {
 }
 
 impl<'a> EscapingWriter<'a> {
-    /// Before the first text.
+    /// A writer that has written nothing yet.
     pub fn new() -> EscapingWriter<'a> {
         EscapingWriter { plain: "" }
     }
 
-    /// Appends the text to `out`, with its control characters written out. If an allocation fails, `out` and the writer are unchanged.
+    /// Appends the text to `out`, with its control characters escaped. If an allocation fails, `out` and the writer are unchanged.
     pub fn push(&mut self, out: &mut String, text: &'a str) -> Result<(), AllocError>
+        // The whole escaped text.
         ensures appended { OnOk result (string_bytes out.new ≡ string_bytes out.old ++ escaped text.now) }
-        // An error leaves the text as it was, and the writer too.
+        // After an error `out` is unchanged, and the writer too.
         ensures out_unchanged { OnErr result (string_bytes out.new ≡ string_bytes out.old) }
         ensures writer_unchanged { OnErr result (self.new ≡ self.old) }
     {

@@ -1,22 +1,24 @@
-//! The digest of a text, at about an instruction a byte, where std's own hash takes several. Each word moves both sides of one of four pairs,
-//! in two ways, and the product of the sides moves the pair before it: a word, which has 64 bits, can't set a pair, which has 128.
-//! std hashes the length, the bytes behind the last block and then the pairs (SipHash-1-3; Aumasson and Bernstein 2012).
+//! The digest of a text, at about one instruction per byte; std's own hash takes several. Each word changes both halves of one of four
+//! pairs, by two different operations, and the product of the halves changes the pair before it. A word has 64 bits and a pair 128, so no
+//! single word determines a pair. Last, std hashes the length, the bytes after the last block and the pairs (SipHash-1-3; Aumasson and
+//! Bernstein 2012).
 ghost use Rattle.std.specs.Prelude.{◌≡◌, ◌-◌, ◌*◌, ◌/◌, ◌^◌, bit_and, fold};
 ghost use Rattle.text_hash.specs.Digest.{digest, first_state, with_block, with_word};
 
 use std::hash::{DefaultHasher, Hasher};
 
-/// The bits of a word that are taken in: those in which names, which are of ASCII, differ. Who solves for a word finds few without others.
+/// Selects seven bits of each byte, the only ones in which names, being ASCII, differ. An attacker who solves an equation for a word
+/// seldom gets one that has these bits alone.
 const SEVEN_BITS: u64 = 0x7F7F_7F7F_7F7F_7F7F;
 
-/// Two sides that are moved by the same words.
+/// Two halves, both of which each word changes.
 #[derive(Clone, Copy)]
 struct Pair {
     left: u64,
     right: u64,
 }
 
-/// The state behind the words so far: its pairs in the order in which they take in the next ones.
+/// The state after some words: the pairs in the order in which they absorb the next words.
 #[derive(Clone, Copy)]
 pub(crate) struct State {
     first: Pair,
@@ -25,7 +27,7 @@ pub(crate) struct State {
     fourth: Pair,
 }
 
-/// The two halves of a product, the lower one first.
+/// The low and the high 64 bits of the product.
 fn product(left: u64, right: u64) -> (u64, u64)
     ensures low { result.0 ≡ bit_and (left * right) (2 ^ 64 - 1) }
     ensures high { result.1 ≡ left * right / 2 ^ 64 }
@@ -62,7 +64,7 @@ impl State {
         }
     }
 
-    /// The state behind one more word.
+    /// The state after one more word.
     fn with_word(self, word: u64) -> State
         ensures { result ≡ with_word self word }
     {
@@ -81,7 +83,7 @@ impl State {
         }
     }
 
-    /// The state behind the four words of one more block, with which each pair stands where it stood.
+    /// The state after the four words of a block, which returns each pair to its position.
     fn with_block(self, block: &[u8; 32]) -> State
         ensures { result ≡ with_block self block.now }
     {
@@ -92,7 +94,7 @@ impl State {
             .with_word(u64::from_le_bytes(words[3]))
     }
 
-    /// The state behind so many blocks.
+    /// The state after these blocks of 32 bytes.
     #[inline(never)]
     fn of(blocks: &[[u8; 32]]) -> State
         ensures { result ≡ fold with_block first_state blocks.now }
@@ -105,7 +107,7 @@ impl State {
     }
 }
 
-/// The digest of a text.
+/// The digest of a text: 64 bits that depend on each of its bytes.
 pub(crate) fn digest(text: &[u8]) -> u64
     ensures { result ≡ digest text.now }
 {

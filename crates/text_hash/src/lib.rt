@@ -1,6 +1,7 @@
-//! Names as keys, and seeds of hashers, for tables whose keys the author of a text chooses.
-//! Stands on std alone.
-//! Its contract: a small table has the seed of all texts, and a large one that which its text's digest gives; a name is hashed by its bytes at once. Of how keys spread no clause speaks.
+//! Names as keys of hash tables, and seeds of their hashers against hash flooding: the author of a file chooses its names.
+//! Depends on std alone. The digest of a file is the SipHash-1-3 of a state that its words have mixed.
+//! Main call: `Seed::for_keys`. A small table gets one fixed seed, a large one a seed made from the digest of its file; how well names
+//! spread is measured, not proved.
 #![tactic(auto)]
 
 mod digest;

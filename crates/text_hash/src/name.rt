@@ -5,7 +5,7 @@ ghost use Rattle.std.proofs.Common.{rules};
 
 use std::hash::{Hash, Hasher};
 
-/// A name as a key, by its bytes. It is hashed as a whole, where a slice is hashed byte by byte.
+/// A name as a key. Its bytes are hashed with one call; std hashes a slice with its length and element by element.
 #[derive(Clone, Copy, PartialEq, Eq)]
 pub struct Name<'a> {
     pub bytes: &'a [u8],

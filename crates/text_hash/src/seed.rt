@@ -1,4 +1,4 @@
-//! The seed of a table's hashers.
+//! The seed of a hash table.
 ghost use Rattle.std.specs.Prelude.{◌≡◌, ◌≤◌, ◌<◌, fold};
 ghost use Rattle.std.specs.Hash as fed;
 ghost use Rattle.std.specs.Hash.FoldHasher as folding;
@@ -7,19 +7,19 @@ ghost use Rattle.text_hash.specs.Digest.{digest};
 use crate::digest::digest;
 use std::hash::{BuildHasher, FoldHasher, Hasher};
 
-/// The most keys of a table that has the seed of all texts: so many that fall together are looked up in some hundred steps.
-const FEW: usize = 1024;
+/// The largest number of keys for which the fixed seed is used: even if all of them collide, a lookup takes a few hundred steps.
+const SMALL_TABLE: usize = 1024;
 
-/// The seed of a table's hashers. It is a matter of speed alone: a table answers the same with each. Keys that fall together with one seed
-/// are expected to be spread with another.
+/// The seed of the hashers of a table. It affects speed alone: the contents of a table are the same with each seed. Names that collide
+/// with one seed are expected to spread with another.
 #[derive(Clone, Copy)]
 pub struct Seed {
     hasher: FoldHasher,
 }
 
 impl Seed {
-    /// The seed that a text gives by its digest. It has no secret: what an author writes so that it falls together with one seed changes
-    /// the seed, and to bring it back he has to solve for many words of the text at once. Nothing proves that this is hard.
+    /// The seed made from the digest of a text. It is not secret: an author who writes names that collide with one seed changes the seed
+    /// by writing them, and has to solve for many words at once to return to it. Nothing proves that this is hard.
     fn of(text: &[u8]) -> Seed
         ensures { result.hasher ≡ fold folding.write folding.initial (fed.u64 (digest text.now)) }
     {
@@ -28,13 +28,15 @@ impl Seed {
         Seed { hasher }
     }
 
-    /// The seed of a table that gets about so many keys, which stand in a text: that of all texts for a small table, and that which the
-    /// text's digest gives for a large one.
+    /// The seed of a table of about `count` keys that occur in `text`: fixed for up to 1,024 keys, and made from the digest of the text
+    /// for more, so that the cost of the digest is paid for large tables only.
     pub fn for_keys(text: &[u8], count: usize) -> Seed
-        ensures few { count ≤ 1024 → result.hasher ≡ folding.initial }
-        ensures many { 1024 < count → result.hasher ≡ fold folding.write folding.initial (fed.u64 (digest text.now)) }
+        // For up to 1,024 keys it is the initial state of the hasher, whatever the text is.
+        ensures small { count ≤ 1024 → result.hasher ≡ folding.initial }
+        // For more keys it is the hasher after the digest of the text.
+        ensures large { 1024 < count → result.hasher ≡ fold folding.write folding.initial (fed.u64 (digest text.now)) }
     {
-        if count > FEW {
+        if count > SMALL_TABLE {
             return Seed::of(text);
         }
         let hasher = FoldHasher::default();

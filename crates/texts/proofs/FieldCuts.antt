@@ -1,4 +1,4 @@
--- What was parted is put together again, and the other way round.
+-- What was parted is written together again, and the other way round.
 use Rattle.std.proofs.Common.{◌≡◌, ℕ, suc, ◌+◌, Bool, true, false, cond, eqb, eq-eqb, ltb, not, List, [], ◌∷◌, ◌++◌, length, take, drop, Option, Some, None, refl, sym, ap, ◌∙◌, arith, inl, inr}
 use Rattle.std.specs.Prelude.{option_map}
 use Rattle.std.specs.List.{position, prefix_len, list_all}

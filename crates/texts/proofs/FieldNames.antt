@@ -32,7 +32,7 @@ name_is_text (b ∷ bytes) e =
     let p = and_parts _ _ e in
     IsUtf8-from_ascii (b ∷ bytes) (IsAscii-cons b bytes (letter_small b p.0) (others_ascii bytes p.1))
 
--- a byte that stands in no name
+-- a byte that is in no name
 abbrev pub IsApart : ℕ → Type 0
 IsApart stop = is_ascii_alphanumeric stop ≡ false
 

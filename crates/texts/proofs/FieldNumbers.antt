@@ -18,7 +18,7 @@ use Rattle.std.proofs.lemmas.Option.{cond_some}
 use Rattle.std.proofs.lemmas.Str.{IsUtf8-from_ascii}
 use Rattle.std.proofs.lemmas.Str.Parse.{IsNumeralModel, digits_value-take-le, numerals_by_value, parse_digits}
 use Rattle.std.proofs.lemmas.Fmt.{IsAscii-from_digits, decimal-digits_value, digits_decimal, digits_value-decimal, decimal_digit, decimal_nonempty, first_decimal}
-use Rattle.texts.specs.Fields.{digits_of, is_plain_number, number_of}
+use Rattle.texts.specs.Fields.{digits_of, is_canonical_number, number_of}
 
 pub own : IsNumeralModel (λ ds. list_all is_ascii_digit ds ≡ true) (digits_value 10)
 own = numerals_by_value _ (search rules)
@@ -34,10 +34,10 @@ and_false false = refl
 lead : (first len : ℕ) → (not (eqb first 48) || eqb len 1) ≡ true → first ≡ 48 → len ≡ 1
 lead first len e z = grind (arith, nat_tests)
 
-pub number_is_text : (bs : List ℕ) → is_plain_number bs ≡ true → IsUtf8 bs
+pub number_is_text : (bs : List ℕ) → is_canonical_number bs ≡ true → IsUtf8 bs
 number_is_text bs plain = IsUtf8-from_ascii bs (IsAscii-from_digits bs (own.to bs (and_parts _ _ plain).0))
 
-pub number_read : {E : Type 0} (bs : List ℕ) (r : Result ℕ E) → is_plain_number bs ≡ true → ParsesUnsigned 64 10 bs r → result_ok r ≡ number_of bs
+pub number_read : {E : Type 0} (bs : List ℕ) (r : Result ℕ E) → is_canonical_number bs ≡ true → ParsesUnsigned 64 10 bs r → result_ok r ≡ number_of bs
 unfolding number_of
 number_read {E} bs (Ok x) plain h =
     let p = parse_digits own {E = E} 64 bs (Ok x) h (and_parts _ _ plain).0 in
@@ -98,11 +98,11 @@ pub number_again : (n : ℕ) → n < 2 ^ 64 → number_of (decimal n) ≡ Some n
 unfolding number_of
 number_again n lt =
     let v = digits_value-decimal own n lt in
-    let ok : is_plain_number (decimal n) ≡ true =
+    let ok : is_canonical_number (decimal n) ≡ true =
     and_from _ _ (digits_decimal own n lt) (and_from _ _ (lt-ltb _ _ (decimal_nonempty n lt)) (leads n lt)) in
     rw (ok, v, lt-ltb n (2 ^ 64) lt) refl
 
--- digits before a line end are a number, where no zero leads them
+-- digits before a line end are a number, if no zero leads them
 pub number_stands : (text : List ℕ) (end value : ℕ) → end < length text → get_or text end 0 ≡ 10 → list_all is_ascii_digit (take end text) ≡ true → value ≡ digits_value 10 (take end text) → value < 2 ^ 64
     → 0 < end → (get_or text 0 0 ≡ 48 → end ≡ 1) → text ≡ decimal value ++ 10 ∷ drop (end + 1) text
 number_stands text end value within ends digits is fits some lead =

@@ -23,16 +23,16 @@ same_run : (p q : ℕ → Bool) (xs : List ℕ) → Each1 (Fits w8) xs → agree
 same_run p q [] fits all = refl
 same_run p q (x ∷ xs) fits all = rw (agree_below_at p q 256 x all fits.0.fits, same_run p q xs fits.1 all) refl
 
--- how many lanes stand before the first that is marked, where the marks are those that end a run
+-- how many lanes are before the first that is marked, if the marks are those that end a run
 pub run_is : (passes : ℕ → Bool) (d : List ℕ) (i : ℕ) (z : List ℕ) → i + 16 ≤ length d → ((k : ℕ) → Fits w8 (get_or d k 0))
     → (f : ℕ → ℕ) → z ≡ map f (chunk i 16 d) → agree_below (λ x. not (top 7 (f x))) passes 256 ≡ true
     → cond (eqb (mask_l (map (top 7) z) % 2 ^ 64) 0) 16 (count_trailing_zeros 64 (mask_l (map (top 7) z) % 2 ^ 64)) ≡ prefix_len passes (take 16 (drop i d))
 run_is passes d i z room fits f lanes all =
     let v = chunk i 16 d in
     let long = length-chunk i 16 d room in
-    let marks = λ (x : ℕ). top 7 (f x) in
-    let mask = ap (λ l. mask_l l % 2 ^ 64) (ap (map (top 7)) lanes ∙ map-map (top 7) f v) ∙ mask_l-mod (map marks v) 64 (omega (arith, length-map v marks)) in
-    ap (λ m. cond (eqb m 0) 16 (count_trailing_zeros 64 m)) mask ∙ (first_set_mask_l marks v 16 long (omega arith) ∙ same_run (λ x. not (marks x)) passes v (chunk-fits w8 i 16 d fits) all)
+    let bits = λ (x : ℕ). top 7 (f x) in
+    let mask = ap (λ l. mask_l l % 2 ^ 64) (ap (map (top 7)) lanes ∙ map-map (top 7) f v) ∙ mask_l-mod (map bits v) 64 (omega (arith, length-map v bits)) in
+    ap (λ m. cond (eqb m 0) 16 (count_trailing_zeros 64 m)) mask ∙ (first_set_mask_l bits v 16 long (omega arith) ∙ same_run (λ x. not (bits x)) passes v (chunk-fits w8 i 16 d fits) all)
 
 short_by : (p : ℕ → Bool) (n : ℕ) (x : ℕ) (xs : List ℕ) (b : Bool) → p x ≡ b → n ≤ length xs → (prefix_len p (take n xs) < n → prefix_len p (take n xs) ≡ prefix_len p xs)
     → cond b (1 + prefix_len p (take n xs)) 0 < suc n → cond b (1 + prefix_len p (take n xs)) 0 ≡ cond b (1 + prefix_len p xs) 0

@@ -2,4 +2,4 @@ pub mod FieldCuts
 pub mod FieldNames
 pub mod FieldNumbers
 pub mod LaneRuns
-pub mod NamesAhead
+pub mod NamePrefixes

@@ -1,27 +1,27 @@
--- The fields of a line: names, numbers, and where they are parted. A text is a list of bytes.
+-- The fields of a line: names, numbers, and splits at a byte. A text is a list of bytes.
 use Rattle.std.specs.Prelude.{ℕ, ◌^◌, ◌==◌, ◌&&◌, ◌||◌, Bool, false, not, nat_lt, List, [], ◌∷◌, ◌++◌, length, Option, Some, None, option_map, if◌then◌else◌, slice_index}
 use Rattle.std.specs.Char.{is_ascii_alphabetic, is_ascii_alphanumeric, is_ascii_digit}
 use Rattle.std.specs.Str.Parse.{digits_value}
 use Rattle.std.specs.List.{list_all, join_with_byte}
 
--- with one more byte in front of the first part
+-- the pair of lists with `b` prepended to the first one
 abbrev pub with_first : ℕ → List ℕ × List ℕ → List ℕ × List ℕ
 with_first b parts = (b ∷ parts.0, parts.1)
 
--- what stands before the first such byte, and what stands after it
+-- the bytes before the first `stop` and those after it, if it occurs
 unfoldable pub cut_at : ℕ → List ℕ → Option (List ℕ × List ℕ)
 cut_at stop [] = None
 cut_at stop (b ∷ bytes) = if b == stop then Some ([], bytes) else option_map (with_first b) (cut_at stop bytes)
 
--- digits without a leading zero
-abbrev pub is_plain_number : List ℕ → Bool
-is_plain_number text = list_all is_ascii_digit text && (nat_lt 0 (length text) && (not (slice_index text 0 == 48) || length text == 1))
+-- the bytes are one or more digits without a leading zero
+abbrev pub is_canonical_number : List ℕ → Bool
+is_canonical_number text = list_all is_ascii_digit text && (nat_lt 0 (length text) && (not (slice_index text 0 == 48) || length text == 1))
 
--- the number below 2 ^ 64 that such digits write
+-- the number below 2 ^ 64 whose decimal digits, without a leading zero, these bytes are
 unfoldable pub number_of : List ℕ → Option ℕ
-number_of text = if is_plain_number text && nat_lt (digits_value 10 text) (2 ^ 64) then Some (digits_value 10 text) else None
+number_of text = if is_canonical_number text && nat_lt (digits_value 10 text) (2 ^ 64) then Some (digits_value 10 text) else None
 
--- the number below 2 ^ 64 that digits write, with leading zeros or not
+-- the number below 2 ^ 64 whose decimal digits, with leading zeros or not, these bytes are
 unfoldable pub digits_of : List ℕ → Option ℕ
 digits_of text = if list_all is_ascii_digit text && nat_lt (digits_value 10 text) (2 ^ 64) then Some (digits_value 10 text) else None
 
@@ -30,14 +30,14 @@ abbrev pub is_name : List ℕ → Bool
 is_name [] = false
 is_name (b ∷ bytes) = is_ascii_alphabetic b && list_all is_ascii_alphanumeric bytes
 
--- the bytes, where they are a name
+-- the bytes, if they are a name
 abbrev pub named : List ℕ → Option (List ℕ)
 named bytes = if is_name bytes then Some bytes else None
 
--- words with one space between each two
+-- the words separated by single blanks
 abbrev pub line_of : List (List ℕ) → List ℕ
 line_of words = join_with_byte 32 words
 
--- a line and its end
+-- a line followed by its LF
 abbrev pub ended : List ℕ → List ℕ
 ended line = line ++ 10 ∷ []

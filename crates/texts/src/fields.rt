@@ -1,21 +1,22 @@
-//! The fields of a line: what stands before a byte, names, and decimal numbers.
+//! The fields of a line: the bytes before a separator, names, and decimal numbers.
 ghost use Rattle.std.specs.Prelude.{◌≡◌, ◌==◌, ℕ, option_map};
 ghost use Rattle.std.specs.List.{list_all, position};
 ghost use Rattle.std.specs.Char.{is_ascii_alphanumeric, is_ascii_digit};
 ghost use Rattle.texts.specs.Fields.{cut_at, digits_of, is_name, named, number_of};
 
-fn place_of(bytes: &[u8], byte: u8) -> Option<usize>
+fn index_of(bytes: &[u8], byte: u8) -> Option<usize>
     ensures { result ≡ position (λ b. b == byte) bytes.now }
 {
     bytes.iter().position(|b| *b == byte)
 }
 
-/// What stands before the first such byte and what stands after it, or none where there is no such byte.
+/// The bytes before and after the first `stop`, or `None` if there is none in them.
 #[tactic(auto, using(crate::proofs::FieldCuts::cut_is))]
 pub fn cut_at_byte(bytes: &[u8], stop: u8) -> Option<(&[u8], &[u8])>
+    // The two parts of the first split, or nothing if the byte does not occur.
     ensures { option_map (λ parts. (parts.0.now, parts.1.now)) result ≡ cut_at stop bytes.now }
 {
-    let at = place_of(bytes, stop)?;
+    let at = index_of(bytes, stop)?;
     let (before, _) = bytes.split_at(at);
     let (_, after) = bytes.split_at(at + 1);
     Some((before, after))
@@ -27,7 +28,7 @@ fn is_alphanumeric(bytes: &[u8]) -> bool
     bytes.iter().all(|b| b.is_ascii_alphanumeric())
 }
 
-/// Whether the bytes are an identifier: a letter, and then letters and digits (Oberon-07 report, section 3).
+/// Whether the bytes are an identifier: a letter, followed by letters and digits (Oberon-07 report, section 3).
 pub fn is_identifier(bytes: &[u8]) -> bool
     ensures { result ≡ is_name bytes.now }
 {
@@ -37,7 +38,8 @@ pub fn is_identifier(bytes: &[u8]) -> bool
     }
 }
 
-/// The number up to 2^64 - 1 of which the bytes are the decimal digits, or none: each byte is tested and counted in one pass.
+/// The number up to 2^64 - 1 that the decimal digits denote, with leading zeros or not, or `None`. Tests and evaluates each byte in one
+/// pass.
 #[tactic(auto, unfolding(crate::specs::Fields::digits_of))]
 fn digits_in(bytes: &[u8]) -> Option<u64>
     ensures { result ≡ digits_of bytes.now }
@@ -53,9 +55,9 @@ fn digits_in(bytes: &[u8]) -> Option<u64>
     Some(value)
 }
 
-/// The number up to 2^64 - 1 of which the bytes are the decimal digits, without a leading zero; or none.
+/// The number up to 2^64 - 1 that the decimal digits denote, or `None`. Leading zeros are rejected, so each number has one form.
 #[tactic(auto, unfolding(crate::specs::Fields::number_of, crate::specs::Fields::digits_of))]
-pub fn number_in(bytes: &[u8]) -> Option<u64>
+pub fn field_number(bytes: &[u8]) -> Option<u64>
     ensures { result ≡ number_of bytes.now }
 {
     if !bytes.is_empty() && (bytes[0] != b'0' || bytes.len() == 1) {
@@ -65,13 +67,13 @@ pub fn number_in(bytes: &[u8]) -> Option<u64>
     }
 }
 
-/// The bytes as text, or none where they are no identifier (Oberon-07 report, section 3).
-pub fn name_in(bytes: &[u8]) -> Option<&str>
+/// The bytes as a string slice, or `None` if they are no identifier (Oberon-07 report, section 3).
+pub fn field_name(bytes: &[u8]) -> Option<&str>
     ensures { option_map (λ name. name.now) result ≡ named bytes.now }
 {
     if !is_identifier(bytes) {
         return None;
     }
-    // An identifier is ASCII, so it is text, and no byte needs another look.
+    // An identifier is ASCII, so the bytes are UTF-8 and are not validated again.
     Some(unsafe { std::str::from_utf8_unchecked(bytes) })
 }

@@ -1,4 +1,4 @@
-//! Tests of sixteen bytes at once: each answers how many of them stand before the first that ends a run.
+//! Tests of sixteen bytes at once, each of which returns the length of the prefix that passes the test.
 ghost use Rattle.std.specs.Prelude.{◌≡◌, ◌+◌, ◌≤◌, ◌==◌, if◌then◌else◌, length, take, drop};
 ghost use Rattle.std.specs.Char.{is_ascii_alphanumeric};
 ghost use Rattle.std.specs.Int.{trailing_zeros, w64};
@@ -6,24 +6,25 @@ ghost use Rattle.std.specs.List.{prefix_len};
 
 use std::simd::prelude::*;
 
-/// How many bytes are tested at once.
+/// The number of bytes that are tested at once.
 pub const LANES: usize = 16;
 
-/// How many lanes stand before the first whose bit is set, of sixteen.
+/// The number of lanes before the first one whose bit is set, or 16 if no bit is.
 #[inline(always)]
-pub fn before_first(marks: u64) -> usize
-    ensures { result ≡ (if marks == 0 then 16 else trailing_zeros w64 marks) }
+pub fn lanes_before_bit(bits: u64) -> usize
+    // The number of trailing zeros, or 16 for 0.
+    ensures { result ≡ (if bits == 0 then 16 else trailing_zeros w64 bits) }
 {
-    if marks == 0 {
+    if bits == 0 {
         LANES
     } else {
-        marks.trailing_zeros() as usize
+        bits.trailing_zeros() as usize
     }
 }
 
-/// How many of the first sixteen bytes are letters and digits before the first that is neither.
+/// The number of letters and digits before the first other byte, of the first sixteen bytes.
 #[inline(always)]
-pub(crate) fn letters_in(bytes: &[u8]) -> usize
+pub(crate) fn alnum_lanes(bytes: &[u8]) -> usize
     requires { 16 ≤ length bytes.now }
     ensures { result ≡ prefix_len is_ascii_alphanumeric (take 16 bytes.now) }
 {
@@ -31,5 +32,5 @@ pub(crate) fn letters_in(bytes: &[u8]) -> usize
     let between = lanes.simd_gt(u8x16::splat(b'9')) & lanes.simd_lt(u8x16::splat(b'A'));
     let among = lanes.simd_gt(u8x16::splat(b'Z')) & lanes.simd_lt(u8x16::splat(b'a'));
     let outside = lanes.simd_lt(u8x16::splat(b'0')) | lanes.simd_gt(u8x16::splat(b'z'));
-    before_first((between | among | outside).to_bitmask())
+    lanes_before_bit((between | among | outside).to_bitmask())
 }

@@ -5,7 +5,7 @@ use Rattle.std.proofs.lemmas.Bool.{cases_eq}
 use Rattle.std.proofs.lemmas.List.{get_or-set_same, get_or-set_other, length-set}
 use Rattle.work_board.specs.declared.state.State.{State}
 use Rattle.work_board.specs.declared.state.State.TheVariants.{Waiting, Free, Claimed}
-use Rattle.work_board.specs.Graphs.{row_at, IsGraph, Modules}
+use Rattle.work_board.specs.Graphs.{list_at, IsGraph, Modules}
 use Rattle.work_board.specs.Cores.{has_entry}
 use Rattle.work_board.specs.Marks.{marked, IsReachedBy}
 use Rattle.work_board.specs.Keeping.{state_at, taken, IsValidBoard, IsStateOf}
@@ -17,10 +17,10 @@ module _ {E : Type 0} (is_of : List ℕ → E → Type 0) (g : Modules) (waiting
   below = let size = kept.states_size in omega arith
 
   none_open : slice_index waiting n ≡ 0
-  none_open = told_zero (state_at states n) (slice_index waiting n) (has_entry entries n) (kept.told n below) (λ (f : state_at states n ≡ Waiting). cc)
+  none_open = told_zero (state_at states n) (slice_index waiting n) (has_entry entries n) (kept.fits_state n below) (λ (f : state_at states n ≡ Waiting). cc)
 
   told_held : IsStateOf Claimed (slice_index waiting n) (has_entry entries n)
-  told_held = subst (λ (s : State). IsStateOf s (slice_index waiting n) (has_entry entries n)) free (kept.told n below)
+  told_held = subst (λ (s : State). IsStateOf s (slice_index waiting n) (has_entry entries n)) free (kept.fits_state n below)
 
   held_here : state_at (set states n Claimed) n ≡ Claimed
   held_here = get_or-set_same states n Claimed Waiting within
@@ -30,9 +30,9 @@ module _ {E : Type 0} (is_of : List ℕ → E → Type 0) (g : Modules) (waiting
 
   pub held_kept : IsGraph g → (reached' : List (List Bool)) (spare' : List Bool)
       → length reached' ≡ length reached → length spare' ≡ length spare
-      → ((m : ℕ) → (m ≡ n → ⊥) → row_at reached' m ≡ row_at reached m)
-      → ((v : ℕ) → v < length spare → (marked (row_at reached' n) v ≡ true) ↔ IsReachedBy reached (row_at g.imports n) v)
-      → length (row_at reached' n) ≡ length spare
+      → ((m : ℕ) → (m ≡ n → ⊥) → list_at reached' m ≡ list_at reached m)
+      → ((v : ℕ) → v < length spare → (marked (list_at reached' n) v ≡ true) ↔ IsReachedBy reached (list_at g.imports n) v)
+      → length (list_at reached' n) ≡ length spare
       → IsValidBoard is_of g waiting (set states n Claimed) reached' spare' entries
   held_kept graph reached' spare' r_size p_size others filled long = record {
     entries_size = kept.entries_size;
@@ -41,16 +41,16 @@ module _ {E : Type 0} (is_of : List ℕ → E → Type 0) (g : Modules) (waiting
     reached_size = r_size ∙ kept.reached_size;
     spare_size = p_size ∙ kept.spare_size;
     width = λ m lt. elim (cases_eq m n) [
-      | inl same ↦ ap (λ k. length (row_at reached' k)) same ∙ long ∙ kept.spare_size
+      | inl same ↦ ap (λ k. length (list_at reached' k)) same ∙ long ∙ kept.spare_size
       | inr other ↦ ap length (others m other) ∙ kept.width m lt
     ];
     count_open = kept.count_open;
-    told = λ m lt. elim (cases_eq m n) [
+    fits_state = λ m lt. elim (cases_eq m n) [
       | inl same ↦ rw (same, held_here) told_held
-      | inr other ↦ rw (held_away m other) (kept.told m lt)
+      | inr other ↦ rw (held_away m other) (kept.fits_state m lt)
     ];
     own = kept.own;
-    marks = λ m v lt lv is_taken. elim (cases_eq m n) [
+    flags = λ m v lt lv is_taken. elim (cases_eq m n) [
       | inl same ↦
           let size = kept.spare_size in
           let met = filled v (omega arith) in
@@ -58,6 +58,6 @@ module _ {E : Type 0} (is_of : List ℕ → E → Type 0) (g : Modules) (waiting
           rw same ((λ mark. reaches.0 (met.0 mark)), (λ chain. met.1 (reaches.1 chain)))
       | inr other ↦
           let before : taken (state_at states m) ≡ true = sym (ap taken (held_away m other)) ∙ is_taken in
-          rw (others m other) (kept.marks m v lt lv before)
+          rw (others m other) (kept.flags m v lt lv before)
     ];
   }

@@ -5,11 +5,11 @@ use Rattle.std.specs.declared.alloc.Global.{Global}
 use Rattle.std.proofs.lemmas.Bool.{cases_eq}
 use Rattle.std.proofs.lemmas.List.{append-nil, drop_all, get_or-map, get_or-set_same, get_or-set_other, take_all, take_more}
 use Rattle.std.proofs.lemmas.List.Elements.{Contains-append_cases, Contains-append_left, Contains-append_right}
-use Rattle.work_board.specs.Graphs.{lists, row_at}
+use Rattle.work_board.specs.Graphs.{lists, list_at}
 use Rattle.work_board.specs.Marks.{marked, IsReachedBy}
 use Rattle.work_board.proofs.Members.{one_member}
 
-pub row_of : {X : Type 0} (rows : List (Vec X Global)) (n : ℕ) (d : Vec X Global) → n < length rows → row_at (lists rows) n ≡ (get_or rows n d).items
+pub row_of : {X : Type 0} (rows : List (Vec X Global)) (n : ℕ) (d : Vec X Global) → n < length rows → list_at (lists rows) n ≡ (get_or rows n d).items
 row_of rows n d lt = get_or-map (λ r. r.items) rows n d [] lt
 
 pub restored : {X : Type 0} (len : ℕ) (new old : List X) → length new ≡ length old → len ≡ length old → take len (new ++ drop (length new) old) ≡ new
@@ -19,7 +19,7 @@ restored len new old same long =
 
 -- one more is met
 pub met_more : (reached : List (List Bool)) (row : List ℕ) (i : ℕ) → i < length row → (w : ℕ) → get_or row i 0 ≡ w → (v : ℕ)
-    → IsReachedBy reached (take (i + 1) row) v ↔ (IsReachedBy reached (take i row) v ⊎ ((w ≡ v) ⊎ (marked (row_at reached w) v ≡ true)))
+    → IsReachedBy reached (take (i + 1) row) v ↔ (IsReachedBy reached (take i row) v ⊎ ((w ≡ v) ⊎ (marked (list_at reached w) v ≡ true)))
 met_more reached row i lt w is v =
     let more : take (i + 1) row ≡ take i row ++ w ∷ [] = take_more row i 0 lt ∙ ap (λ x. take i row ++ x ∷ []) is in
     rw more (
@@ -37,11 +37,11 @@ pub or_true : (a b : Bool) → ((a || b) ≡ true) ↔ ((a ≡ true) ⊎ (b ≡ 
 or_true true b = ((λ e. inl refl), (λ e. refl))
 or_true false b = ((λ e. inr e), (λ e. elim e [ inl f ↦ cc | inr f ↦ f ]))
 
-pub marked_set : (marks : List Bool) (w v : ℕ) → w < length marks → (marked (set marks w true) v ≡ true) ↔ ((w ≡ v) ⊎ (marked marks v ≡ true))
-marked_set marks w v lt =
+pub marked_set : (flags : List Bool) (w v : ℕ) → w < length flags → (marked (set flags w true) v ≡ true) ↔ ((w ≡ v) ⊎ (marked flags v ≡ true))
+marked_set flags w v lt =
     elim (cases_eq v w) [
-      | inl same ↦ ((λ e. inl (sym same)), (λ e. ap (marked (set marks w true)) same ∙ get_or-set_same marks w true false lt))
+      | inl same ↦ ((λ e. inl (sym same)), (λ e. ap (marked (set flags w true)) same ∙ get_or-set_same flags w true false lt))
       | inr other ↦
-          let old : marked (set marks w true) v ≡ marked marks v = get_or-set_other marks w v true false other in
+          let old : marked (set flags w true) v ≡ marked flags v = get_or-set_other flags w v true false other in
           ((λ e. inr (sym old ∙ e)), (λ e. elim e [ inl same ↦ absurd (other (sym same)) | inr f ↦ old ∙ f ]))
     ]

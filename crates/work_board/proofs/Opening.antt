@@ -4,7 +4,7 @@ use Rattle.std.specs.Prelude.{Option, None, is_some, slice_index, replicate}
 use Rattle.std.proofs.lemmas.Bool.{cases_lt}
 use Rattle.std.proofs.lemmas.List.{get_or-replicate, get_or_past, length-replicate, length-map, get_or-map}
 use Rattle.work_board.specs.declared.state.State.TheVariants.{Waiting}
-use Rattle.work_board.specs.Graphs.{row_at, Modules}
+use Rattle.work_board.specs.Graphs.{list_at, Modules}
 use Rattle.work_board.specs.Cores.{entry_at, has_entry, Core}
 use Rattle.work_board.specs.Keeping.{freed, open_of, state_at, taken, IsValidBoard, IsStateOf}
 
@@ -43,12 +43,12 @@ core_same {E = E} es fs cs ds a p q =
     ap (λ (x : List (Option E)). record { entries = x; claimed = cs; abandoned = a }) p ∙ ap (λ (x : List Bool). record { entries = fs; claimed = x; abandoned = a }) q
 
 pub opened : {E : Type 0} (is_of : List ℕ → E → Type 0) (g : Modules) (counts : List ℕ) → length counts ≡ length g.names
-    → ((m : ℕ) → m < length g.names → slice_index counts m ≡ length (row_at g.imports m)) → length g.imports ≡ length g.names
+    → ((m : ℕ) → m < length g.names → slice_index counts m ≡ length (list_at g.imports m)) → length g.imports ≡ length g.names
     → IsValidBoard is_of g counts (map (freed Waiting) counts) (replicate (length g.names) (replicate (length g.names) false)) (replicate (length g.names) false) (replicate (length g.names) None)
 opened {E = E} is_of g counts size counted rows =
     let n = length g.names in
     let at : (m : ℕ) → m < n → state_at (map (freed Waiting) counts) m ≡ freed Waiting (slice_index counts m) = λ m lt. get_or-map (freed Waiting) counts m 0 Waiting (omega arith) in
-    let row : (m : ℕ) → m < n → row_at (replicate n (replicate n false)) m ≡ replicate n false = λ m lt. get_or-replicate n m (replicate n false) [] lt in
+    let row : (m : ℕ) → m < n → list_at (replicate n (replicate n false)) m ≡ replicate n false = λ m lt. get_or-replicate n m (replicate n false) [] lt in
     record {
       entries_size = length-replicate n None;
       waiting_size = size;
@@ -56,10 +56,10 @@ opened {E = E} is_of g counts size counted rows =
       reached_size = length-replicate n (replicate n false);
       spare_size = length-replicate n false;
       width = λ m lt. ap length (row m lt) ∙ length-replicate n false;
-      count_open = λ m lt. counted m lt ∙ sym (all_open E n (row_at g.imports m));
-      told = λ m lt. rw (at m lt, none_yet E n m) (first_told (slice_index counts m));
+      count_open = λ m lt. counted m lt ∙ sym (all_open E n (list_at g.imports m));
+      fits_state = λ m lt. rw (at m lt, none_yet E n m) (first_told (slice_index counts m));
       own = λ m e is. let nothing_m = nothing E n m in cc;
-      marks = λ m v lt lv is_taken.
+      flags = λ m v lt lv is_taken.
           let f : taken (state_at (map (freed Waiting) counts) m) ≡ false = ap taken (at m lt) ∙ first_taken (slice_index counts m) in
           cc;
     }

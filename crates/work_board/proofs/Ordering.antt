@@ -26,14 +26,14 @@ pub order_has : (names : List (List ℕ)) (order : List ℕ) → IsNameOrder nam
 order_has names order is v lt =
     Contains-permutation (range_with_len 0 (length names)) order v is.all (v, omega (arith, lt, length-range_with_len 0 (length names)), number_at (length names) v v lt)
 
-no_mark : (marks : List Bool) → ((v : ℕ) → 0 ≤ v → v < length marks → get_or marks v false ≡ false) → (v : ℕ) → get_or marks v false ≡ false
-no_mark marks none v = elim (cases_lt v (length marks)) [
+no_mark : (flags : List Bool) → ((v : ℕ) → 0 ≤ v → v < length flags → get_or flags v false ≡ false) → (v : ℕ) → get_or flags v false ≡ false
+no_mark flags none v = elim (cases_lt v (length flags)) [
   | inl l ↦ none v (omega arith) l
-  | inr past ↦ get_or_past marks v false past
+  | inr past ↦ get_or_past flags v false past
 ]
 
 -- where there is no mark they share nothing
-pub shares_none : {E X : Type 0} (f : E → X) (marks : List Bool) (entries : List (Option E)) (order : List ℕ) → ((v : ℕ) → 0 ≤ v → v < length marks → get_or marks v false ≡ false)
-    → flat_map (share_at f marks entries) order ≡ []
-shares_none f marks entries [] none = refl
-shares_none f marks entries (v ∷ order) none = rw (no_mark marks none v) (shares_none f marks entries order none)
+pub shares_none : {E X : Type 0} (f : E → X) (flags : List Bool) (entries : List (Option E)) (order : List ℕ) → ((v : ℕ) → 0 ≤ v → v < length flags → get_or flags v false ≡ false)
+    → flat_map (share_at f flags entries) order ≡ []
+shares_none f flags entries [] none = refl
+shares_none f flags entries (v ∷ order) none = rw (no_mark flags none v) (shares_none f flags entries order none)

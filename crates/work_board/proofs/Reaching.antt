@@ -4,7 +4,7 @@ use Rattle.std.specs.Prelude.{◌↔◌, Option, slice_index}
 use Rattle.work_board.specs.declared.state.State.{State}
 use Rattle.work_board.specs.declared.state.State.TheVariants.{Waiting}
 use Rattle.std.specs.List.{flat_map}
-use Rattle.work_board.specs.Graphs.{row_at, IsChain, IsGraph, IsNameOrder, RowLeads, Modules, Reaches}
+use Rattle.work_board.specs.Graphs.{list_at, IsChain, IsGraph, IsNameOrder, RowLeads, Modules, Reaches}
 use Rattle.work_board.specs.Cores.{has_entry, is_claimed, share_at, AreShares}
 use Rattle.work_board.specs.Marks.{marked, IsReachedBy}
 use Rattle.work_board.specs.Keeping.{state_at, taken, IsValidBoard}
@@ -18,14 +18,14 @@ module _ {E : Type 0} (is_of : List ℕ → E → Type 0) (g : Modules) (waiting
       let waits : (state_at states n ≡ Waiting) → ⊥ = λ (e : state_at states n ≡ Waiting). let f : taken (state_at states n) ≡ false = ap taken e in cc in
       let within : n < length states = stated_within states n waits in
       let size = kept.states_size in
-      (omega arith, told_zero (state_at states n) (slice_index waiting n) (has_entry entries n) (kept.told n (omega arith)) waits)
+      (omega arith, told_zero (state_at states n) (slice_index waiting n) (has_entry entries n) (kept.fits_state n (omega arith)) waits)
 
   imports_of : (n : ℕ) → n < length g.names → slice_index waiting n ≡ 0 → (w : ℕ) → RowLeads g.imports n w → has_entry entries w ≡ true
-  imports_of n below zero w h = open_zero entries (row_at g.imports n) (sym (kept.count_open n below) ∙ zero) w h
+  imports_of n below zero w h = open_zero entries (list_at g.imports n) (sym (kept.count_open n below) ∙ zero) w h
 
   entry_taken : IsGraph g → (m w : ℕ) → RowLeads g.imports m w → has_entry entries w ≡ true → taken (state_at states w) ≡ true
   entry_taken graph m w leads there =
-      ap taken (told_delivered (state_at states w) (slice_index waiting w) (has_entry entries w) (kept.told w (member_below g graph m w leads)) there)
+      ap taken (told_delivered (state_at states w) (slice_index waiting w) (has_entry entries w) (kept.fits_state w (member_below g graph m w leads)) there)
 
   chain_there : IsGraph g → (n v : ℕ) (more : List ℕ) → taken (state_at states n) ≡ true → IsChain g.imports n more v → has_entry entries v ≡ true
   chain_there graph n v [] is_taken leads = let z = taken_zero n is_taken in imports_of n z.0 z.1 v leads
@@ -39,16 +39,16 @@ module _ {E : Type 0} (is_of : List ℕ → E → Type 0) (g : Modules) (waiting
 
   -- the row of an import that is delivered
   import_marks : IsGraph g → (n : ℕ) → n < length g.names → slice_index waiting n ≡ 0 → (w : ℕ) → RowLeads g.imports n w → (v : ℕ) → v < length g.names
-      → (marked (row_at reached w) v ≡ true) ↔ Reaches g.imports w v
+      → (marked (list_at reached w) v ≡ true) ↔ Reaches g.imports w v
   import_marks graph n below zero w leads v lt =
-      kept.marks w v (member_below g graph n w leads) lt (entry_taken graph n w leads (imports_of n below zero w leads))
+      kept.flags w v (member_below g graph n w leads) lt (entry_taken graph n w leads (imports_of n below zero w leads))
 
-  from_chain : IsGraph g → (n : ℕ) → n < length g.names → slice_index waiting n ≡ 0 → (v : ℕ) → v < length g.names → (more : List ℕ) → IsChain g.imports n more v → IsReachedBy reached (row_at g.imports n) v
+  from_chain : IsGraph g → (n : ℕ) → n < length g.names → slice_index waiting n ≡ 0 → (v : ℕ) → v < length g.names → (more : List ℕ) → IsChain g.imports n more v → IsReachedBy reached (list_at g.imports n) v
   from_chain graph n below zero v lt [] leads = (v, leads, inl refl)
   from_chain graph n below zero v lt (w ∷ more) chain = (w, chain.0, inr ((import_marks graph n below zero w chain.0 v lt).1 (more, chain.1)))
 
   -- of a module without open imports
-  pub meets : IsGraph g → (n : ℕ) → n < length g.names → slice_index waiting n ≡ 0 → (v : ℕ) → v < length g.names → IsReachedBy reached (row_at g.imports n) v ↔ Reaches g.imports n v
+  pub meets : IsGraph g → (n : ℕ) → n < length g.names → slice_index waiting n ≡ 0 → (v : ℕ) → v < length g.names → IsReachedBy reached (list_at g.imports n) v ↔ Reaches g.imports n v
   meets graph n below zero v lt = (
     (λ met. elim met.2 [
       | inl same ↦ let P : ℕ → Type 0 = RowLeads g.imports n in ([], subst P same met.1)
@@ -60,7 +60,7 @@ module _ {E : Type 0} (is_of : List ℕ → E → Type 0) (g : Modules) (waiting
   )
 
   -- the parts that the row of a claimed module tells
-  pub shares_told : {X : Type 0} (f : E → X) → IsGraph g → (abandoned : Bool) (n : ℕ) → taken (state_at states n) ≡ true → (order : List ℕ) → IsNameOrder g.names order → (parts : List X) → parts ≡ flat_map (share_at f (row_at reached n) entries) order
+  pub shares_told : {X : Type 0} (f : E → X) → IsGraph g → (abandoned : Bool) (n : ℕ) → taken (state_at states n) ≡ true → (order : List ℕ) → IsNameOrder g.names order → (parts : List X) → parts ≡ flat_map (share_at f (list_at reached n) entries) order
       → AreShares f g (core_of entries states abandoned) n parts
   shares_told f graph abandoned n is_taken order by_name parts are =
       let z = taken_zero n is_taken in
@@ -68,8 +68,8 @@ module _ {E : Type 0} (is_of : List ℕ → E → Type 0) (g : Modules) (waiting
       record {
         order = order;
         by_name = by_name;
-        marks = row_at reached n;
-        reached = λ v lt. kept.marks n v z.0 (omega arith) is_taken;
+        flags = list_at reached n;
+        reached = λ v lt. kept.flags n v z.0 (omega arith) is_taken;
         there = λ v r. chain_there graph n v r.0 is_taken r.1;
         parts_are = are;
       }

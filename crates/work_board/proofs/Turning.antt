@@ -5,7 +5,7 @@ use Rattle.std.proofs.lemmas.Bool.{cases_eq, cases_lt, eq-eqb}
 use Rattle.std.proofs.lemmas.List.{get_or-set_same, get_or-set_other, get_or_append_left, length-append}
 use Rattle.std.proofs.Math.Seq.{get_or-append_seam}
 use Rattle.std.proofs.lemmas.List.Sums.{sum_by-append}
-use Rattle.work_board.specs.Graphs.{row_at, times_in}
+use Rattle.work_board.specs.Graphs.{list_at, times_in}
 use Rattle.work_board.proofs.Counting.{differ}
 
 pub snoc_same : (m : ℕ) (r : List ℕ) → times_in m (r ++ m ∷ []) ≡ times_in m r + 1
@@ -33,29 +33,29 @@ snoc_within k m r lt all i d below =
           rw (at, e) lt
     ]
 
-module _ (rows new : List (List ℕ)) (at m : ℕ) (lt : at < length rows) (is : new ≡ set rows at (row_at rows at ++ m ∷ [])) where
-  here : row_at new at ≡ row_at rows at ++ m ∷ []
-  here = ap (λ rs. row_at rs at) is ∙ get_or-set_same rows at (row_at rows at ++ m ∷ []) [] lt
+module _ (rows new : List (List ℕ)) (at m : ℕ) (lt : at < length rows) (is : new ≡ set rows at (list_at rows at ++ m ∷ [])) where
+  here : list_at new at ≡ list_at rows at ++ m ∷ []
+  here = ap (λ rs. list_at rs at) is ∙ get_or-set_same rows at (list_at rows at ++ m ∷ []) [] lt
 
-  there : (n : ℕ) → (n ≡ at → ⊥) → row_at new n ≡ row_at rows n
-  there n other = ap (λ rs. row_at rs n) is ∙ get_or-set_other rows at n (row_at rows at ++ m ∷ []) [] other
+  there : (n : ℕ) → (n ≡ at → ⊥) → list_at new n ≡ list_at rows n
+  there n other = ap (λ rs. list_at rs n) is ∙ get_or-set_other rows at n (list_at rows at ++ m ∷ []) [] other
 
-  pub pushed_same : times_in m (row_at new at) ≡ times_in m (row_at rows at) + 1
-  pushed_same = ap (times_in m) here ∙ snoc_same m (row_at rows at)
+  pub pushed_same : times_in m (list_at new at) ≡ times_in m (list_at rows at) + 1
+  pushed_same = ap (times_in m) here ∙ snoc_same m (list_at rows at)
 
-  pub pushed_away : (n x : ℕ) → (n ≡ at → ⊥) → times_in x (row_at new n) ≡ times_in x (row_at rows n)
+  pub pushed_away : (n x : ℕ) → (n ≡ at → ⊥) → times_in x (list_at new n) ≡ times_in x (list_at rows n)
   pushed_away n x other = ap (times_in x) (there n other)
 
-  pub pushed_other : (n x : ℕ) → (x ≡ m → ⊥) → times_in x (row_at new n) ≡ times_in x (row_at rows n)
+  pub pushed_other : (n x : ℕ) → (x ≡ m → ⊥) → times_in x (list_at new n) ≡ times_in x (list_at rows n)
   pushed_other n x other =
       elim (cases_eq n at) [
-        | inl same ↦ ap (λ k. times_in x (row_at new k)) same ∙ ap (times_in x) here ∙ snoc_other m x (row_at rows at) (λ e. other (sym e)) ∙ sym (ap (λ k. times_in x (row_at rows k)) same)
+        | inl same ↦ ap (λ k. times_in x (list_at new k)) same ∙ ap (times_in x) here ∙ snoc_other m x (list_at rows at) (λ e. other (sym e)) ∙ sym (ap (λ k. times_in x (list_at rows k)) same)
         | inr away ↦ pushed_away n x away
       ]
 
-  pub pushed_within : (k : ℕ) → m < k → ((n : ℕ) → All (λ w. w < k) (row_at rows n)) → (n : ℕ) → All (λ w. w < k) (row_at new n)
+  pub pushed_within : (k : ℕ) → m < k → ((n : ℕ) → All (λ w. w < k) (list_at rows n)) → (n : ℕ) → All (λ w. w < k) (list_at new n)
   pushed_within k below all n =
       elim (cases_eq n at) [
-        | inl same ↦ subst (λ (r : List ℕ). All (λ w. w < k) r) (sym (ap (row_at new) same ∙ here)) (snoc_within k m (row_at rows at) below (all at))
+        | inl same ↦ subst (λ (r : List ℕ). All (λ w. w < k) r) (sym (ap (list_at new) same ∙ here)) (snoc_within k m (list_at rows at) below (all at))
         | inr away ↦ subst (λ (r : List ℕ). All (λ w. w < k) r) (sym (there n away)) (all n)
       ]

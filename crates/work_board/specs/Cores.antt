@@ -5,7 +5,7 @@ use Rattle.work_board.specs.declared.claim.Claim.TheVariants.{Finished, Module, 
 use Rattle.work_board.specs.declared.claim.BoardFault.{BoardFault}
 use Rattle.work_board.specs.declared.claim.BoardFault.TheVariants.{NotClaimed, Twice, WrongModule, Memory}
 use Rattle.std.specs.List.{flat_map}
-use Rattle.work_board.specs.Graphs.{row_at, IsNameOrder, Modules, RowLeads, Reaches}
+use Rattle.work_board.specs.Graphs.{list_at, IsNameOrder, Modules, RowLeads, Reaches}
 
 pub record Core (E : Type 0) : Type 0 where
   pub entries : List (Option E)
@@ -46,10 +46,10 @@ module _ {E : Type 0} where
 
   -- why a delivery fails, in the order of testing; none if it succeeds
   abbrev pub IsRefusal : List (List ℕ) → List ℕ → Core E → ℕ → Option BoardFault → Type 0
-  IsRefusal names name c n None = (is_claimed c n ≡ true) × (has_entry c.entries n ≡ false) × (name ≡ row_at names n)
+  IsRefusal names name c n None = (is_claimed c n ≡ true) × (has_entry c.entries n ≡ false) × (name ≡ list_at names n)
   IsRefusal names name c n (Some NotClaimed) = is_claimed c n ≡ false
   IsRefusal names name c n (Some Twice) = (is_claimed c n ≡ true) × (has_entry c.entries n ≡ true)
-  IsRefusal names name c n (Some WrongModule) = (is_claimed c n ≡ true) × (has_entry c.entries n ≡ false) × (name ≡ row_at names n → ⊥)
+  IsRefusal names name c n (Some WrongModule) = (is_claimed c n ≡ true) × (has_entry c.entries n ≡ false) × (name ≡ list_at names n → ⊥)
   IsRefusal names name c n (Some Memory) = ⊥
 
   -- the results of `deliver`: the entry is stored, or returned with an error
@@ -71,26 +71,26 @@ module _ {E : Type 0} where
 
   -- each entry is the entry of its module, by its name
   abbrev pub AreOf : (List ℕ → E → Type 0) → List (List ℕ) → List (Option E) → Type 0
-  AreOf is_of names entries = (n : ℕ) (e : E) → entry_at entries n ≡ Some e → is_of (row_at names n) e
+  AreOf is_of names entries = (n : ℕ) (e : E) → entry_at entries n ≡ Some e → is_of (list_at names n) e
 
 -- the shared part of an entry whose flag is set, if there is an entry
-abbrev pub share_of : {E X : Type 0} → (E → X) → Bool → Option E → List X
-share_of f true (Some e) = f e ∷ []
-share_of f true None = []
-share_of f false entry = []
+abbrev pub shared_part : {E X : Type 0} → (E → X) → Bool → Option E → List X
+shared_part f true (Some e) = f e ∷ []
+shared_part f true None = []
+shared_part f false entry = []
 
 -- the shared part of the entry of a module whose flag is set
 abbrev pub share_at : {E X : Type 0} → (E → X) → List Bool → List (Option E) → ℕ → List X
-share_at f marks entries v = share_of f (slice_index_or marks v false) (entry_at entries v)
+share_at f flags entries v = shared_part f (slice_index_or flags v false) (entry_at entries v)
 
 -- the parts are those of exactly the modules that n reaches, sorted by name, and all of these modules are delivered
 pub record AreShares {E X : Type 0} (f : E → X) (g : Modules) (c : Core E) (n : ℕ) (parts : List X) : Type 0 where
   pub order : List ℕ
   pub by_name : IsNameOrder g.names order
-  pub marks : List Bool
-  pub reached : (v : ℕ) → v < length c.entries → (slice_index_or marks v false ≡ true) ↔ Reaches g.imports n v
+  pub flags : List Bool
+  pub reached : (v : ℕ) → v < length c.entries → (slice_index_or flags v false ≡ true) ↔ Reaches g.imports n v
   pub there : (v : ℕ) → Reaches g.imports n v → has_entry c.entries v ≡ true
-  pub parts_are : parts ≡ flat_map (share_at f marks c.entries) order
+  pub parts_are : parts ≡ flat_map (share_at f flags c.entries) order
 
 -- the core of a new scheduler for this number of modules
 abbrev pub new_core : {E : Type 0} → ℕ → Core E

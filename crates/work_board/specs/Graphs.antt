@@ -15,8 +15,8 @@ pub record Modules : Type 0 where
 abbrev pub lists : {X : Type 0} → List (Vec X Global) → List (List X)
 lists rows = map (λ r. r.items) rows
 
-abbrev pub row_at : {X : Type 0} → List (List X) → ℕ → List X
-row_at rows n = slice_index_or rows n []
+abbrev pub list_at : {X : Type 0} → List (List X) → ℕ → List X
+list_at rows n = slice_index_or rows n []
 
 -- how often n occurs in the list
 abbrev pub times_in : ℕ → List ℕ → ℕ
@@ -26,25 +26,25 @@ times_in n row = count_by (λ x. x == n) row
 pub record IsGraph (g : Modules) : Type 0 where
   pub size : length g.imports ≡ length g.names
   pub few : length g.names ≤ 4096
-  pub short : (m : ℕ) → length (row_at g.imports m) ≤ 65536
-  pub within : (m : ℕ) → All (λ w. w < length g.names) (row_at g.imports m)
+  pub short : (m : ℕ) → length (list_at g.imports m) ≤ 65536
+  pub within : (m : ℕ) → All (λ w. w < length g.names) (list_at g.imports m)
 
 -- the numbers of all names, each once, sorted by name
 pub record IsNameOrder (names : List (List ℕ)) (order : List ℕ) : Type 0 where
   pub all : IsPermutation (range_with_len 0 (length names)) order
-  pub ascend : IsSortedBy (λ v w. is_lt (slice_cmp nat_cmp (row_at names v) (row_at names w))) order
+  pub ascend : IsSortedBy (λ v w. is_lt (slice_cmp nat_cmp (list_at names v) (list_at names w))) order
 
 -- each list has at most 65,536 numbers, all less than the count
 abbrev pub AreRows : List (List ℕ) → ℕ → Type 0
-AreRows rows count = (m : ℕ) → (length (row_at rows m) ≤ 65536) × All (λ w. w < count) (row_at rows m)
+AreRows rows count = (m : ℕ) → (length (list_at rows m) ≤ 65536) × All (λ w. w < count) (list_at rows m)
 
 -- the reversed graph: m occurs in the list of n as often as n in the list of m
-abbrev pub AreTurned : List (List ℕ) → List (List ℕ) → Type 0
-AreTurned imports importers = (m n : ℕ) → times_in m (row_at importers n) ≡ times_in n (row_at imports m)
+abbrev pub AreTransposed : List (List ℕ) → List (List ℕ) → Type 0
+AreTransposed imports importers = (m n : ℕ) → times_in m (list_at importers n) ≡ times_in n (list_at imports m)
 
 -- m imports n
 abbrev pub RowLeads : List (List ℕ) → ℕ → ℕ → Type 0
-RowLeads imports m n = Contains (row_at imports m) n
+RowLeads imports m n = Contains (list_at imports m) n
 
 -- a path from m to b: each module imports the next, from m over those of the list to b
 abbrev pub IsChain : List (List ℕ) → ℕ → List ℕ → ℕ → Type 0

@@ -4,7 +4,7 @@ use Rattle.work_board.specs.declared.state.State.{State}
 use Rattle.work_board.specs.declared.state.State.TheVariants.{Waiting, Free, Claimed, Delivered}
 use Rattle.work_board.specs.declared.claim.Claim.{Claim}
 use Rattle.work_board.specs.declared.claim.Claim.TheVariants.{Finished, Module, Later}
-use Rattle.work_board.specs.Graphs.{row_at, Modules, Reaches}
+use Rattle.work_board.specs.Graphs.{list_at, Modules, Reaches}
 use Rattle.work_board.specs.Cores.{has_entry, AreOf}
 use Rattle.work_board.specs.Marks.{marked}
 
@@ -19,11 +19,11 @@ taken Claimed = true
 taken Delivered = true
 
 -- the state after `take_back`
-abbrev pub let_go : State → State
-let_go Waiting = Waiting
-let_go Free = Free
-let_go Claimed = Free
-let_go Delivered = Delivered
+abbrev pub freed_claim : State → State
+freed_claim Waiting = Waiting
+freed_claim Free = Free
+freed_claim Claimed = Free
+freed_claim Delivered = Delivered
 
 -- what a state means: how many imports aren't delivered, and whether there is an entry
 abbrev pub IsStateOf : State → ℕ → Bool → Type 0
@@ -37,11 +37,11 @@ abbrev pub open_of : {E : Type 0} → List (Option E) → List ℕ → ℕ
 open_of entries [] = 0
 open_of entries (w ∷ row) = cond (has_entry entries w) 0 1 + open_of entries row
 
--- what `look` finds: the first free module, or none, and whether all modules are delivered
-abbrev pub IsLook : List State → Claim → Type 0
-IsLook states Finished = (k : ℕ) → k < length states → state_at states k ≡ Delivered
-IsLook states (Module n) = (n < length states) × (state_at states n ≡ Free) × ((k : ℕ) → k < n → state_at states k ≡ Free → ⊥)
-IsLook states Later = ((k : ℕ) → k < length states → state_at states k ≡ Free → ⊥) × ((k : ℕ) × (k < length states) × (state_at states k ≡ Delivered → ⊥))
+-- what `choose_claim` finds: the first free module, or none, and whether all modules are delivered
+abbrev pub IsChosenClaim : List State → Claim → Type 0
+IsChosenClaim states Finished = (k : ℕ) → k < length states → state_at states k ≡ Delivered
+IsChosenClaim states (Module n) = (n < length states) × (state_at states n ≡ Free) × ((k : ℕ) → k < n → state_at states k ≡ Free → ⊥)
+IsChosenClaim states Later = ((k : ℕ) → k < length states → state_at states k ≡ Free → ⊥) × ((k : ℕ) × (k < length states) × (state_at states k ≡ Delivered → ⊥))
 
 module _ {E : Type 0} (is_of : List ℕ → E → Type 0) (g : Modules) where
   pub record IsValidBoard (waiting : List ℕ) (states : List State) (reached : List (List Bool)) (spare : List Bool) (entries : List (Option E)) : Type 0 where
@@ -50,11 +50,11 @@ module _ {E : Type 0} (is_of : List ℕ → E → Type 0) (g : Modules) where
     pub states_size : length states ≡ length g.names
     pub reached_size : length reached ≡ length g.names
     pub spare_size : length spare ≡ length g.names
-    pub width : (n : ℕ) → n < length g.names → length (row_at reached n) ≡ length g.names
-    pub count_open : (m : ℕ) → m < length g.names → slice_index waiting m ≡ open_of entries (row_at g.imports m)
-    pub told : (m : ℕ) → m < length g.names → IsStateOf (state_at states m) (slice_index waiting m) (has_entry entries m)
+    pub width : (n : ℕ) → n < length g.names → length (list_at reached n) ≡ length g.names
+    pub count_open : (m : ℕ) → m < length g.names → slice_index waiting m ≡ open_of entries (list_at g.imports m)
+    pub fits_state : (m : ℕ) → m < length g.names → IsStateOf (state_at states m) (slice_index waiting m) (has_entry entries m)
     pub own : AreOf is_of g.names entries
-    pub marks : (m v : ℕ) → m < length g.names → v < length g.names → taken (state_at states m) ≡ true → (marked (row_at reached m) v ≡ true) ↔ Reaches g.imports m v
+    pub flags : (m v : ℕ) → m < length g.names → v < length g.names → taken (state_at states m) ≡ true → (marked (list_at reached m) v ≡ true) ↔ Reaches g.imports m v
 
 -- the state after an import was delivered, by the number of imports that are left
 abbrev pub freed : State → ℕ → State

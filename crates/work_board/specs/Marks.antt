@@ -1,10 +1,10 @@
 -- Flags of the modules that each module reaches.
 use Rattle.std.specs.Prelude.{◌≡◌, ℕ, ◌⊎◌, List, slice_index_or, Bool, true, false, Contains}
-use Rattle.work_board.specs.Graphs.{row_at}
+use Rattle.work_board.specs.Graphs.{list_at}
 
 abbrev pub marked : List Bool → ℕ → Bool
-marked marks v = slice_index_or marks v false
+marked flags v = slice_index_or flags v false
 
 -- v is a module of the list, or is reached by one of them
 abbrev pub IsReachedBy : List (List Bool) → List ℕ → ℕ → Type 0
-IsReachedBy reached row v = (w : ℕ) × Contains row w × ((w ≡ v) ⊎ (marked (row_at reached w) v ≡ true))
+IsReachedBy reached row v = (w : ℕ) × Contains row w × ((w ≡ v) ⊎ (marked (list_at reached w) v ≡ true))

@@ -2,12 +2,12 @@
 ghost use Rattle.std.specs.Prelude.{◌≡◌, ◌<◌, ◌≤◌, ◌+◌, ◌⊎◌, ℕ, true, false, length, map, replicate, All, IfOk, IfErr, OnOk, ◌++◌, slice_index, slice_set, None, Some};
 ghost use Rattle.std.specs.Arc.{arc_value};
 ghost use Rattle.std.specs.List.{flat_map};
-ghost use Rattle.work_board.specs.Graphs.{lists, row_at, times_in, IsAcyclic, Reaches};
-ghost use Rattle.work_board.specs.Cores.{abandoned_after, has_entry, is_claimed, new_core, share_at, share_of, taken_back, AreOf, AreShares, IsClaim, IsDelivery, IsIdle, IsOver, IsReady, IsRefusal};
-ghost use Rattle.work_board.specs.Keeping.{freed, let_go, state_at, taken, IsFit, IsLook};
+ghost use Rattle.work_board.specs.Graphs.{lists, list_at, times_in, IsAcyclic, Reaches};
+ghost use Rattle.work_board.specs.Cores.{abandoned_after, has_entry, is_claimed, new_core, share_at, shared_part, taken_back, AreOf, AreShares, IsClaim, IsDelivery, IsIdle, IsOver, IsReady, IsRefusal};
+ghost use Rattle.work_board.specs.Keeping.{freed, freed_claim, state_at, taken, IsFit, IsChosenClaim};
 
-use crate::marks::{clear_row, clear_rows, fill_row};
-use crate::passing::{any_marked, first_free};
+use crate::flags::{clear_row, clear_rows, fill_row};
+use crate::scans::{any_marked, first_free};
 use crate::state::State;
 use crate::{BoardFault, Claim, Graph, NamedTree, WorkEntry};
 use std::alloc::{AllocError, Global};
@@ -61,9 +61,9 @@ fn are_all_delivered(states: &[State]) -> bool
 }
 
 /// The free module with the smallest number. Without a free module, whether all are delivered.
-fn look(states: &[State]) -> Claim
+fn choose_claim(states: &[State]) -> Claim
     requires { length states.now ≤ 4096 }
-    ensures { IsLook states.now result }
+    ensures { IsChosenClaim states.now result }
 {
     let place = first_free(states);
     if place < states.len() {
@@ -90,11 +90,11 @@ fn state_of(states: &[State], place: usize) -> State
 }
 
 /// Counts one import less for each of these modules, one of whose imports was delivered. A module without open imports becomes free.
-fn release(waiting: &mut [u32], states: &mut [State], importers: &[u32])
+fn count_delivered(waiting: &mut [u32], states: &mut [State], importers: &[u32])
     requires size { length states.old ≡ length waiting.old }
     requires within { All (λ m. m < length waiting.old) importers.now }
     requires counted { (m : ℕ) → m < length waiting.old → times_in m importers.now ≤ slice_index waiting.old m }
-    requires told { (m : ℕ) → m < length waiting.old → IsFit (state_at states.old m) (slice_index waiting.old m) }
+    requires fits_state { (m : ℕ) → m < length waiting.old → IsFit (state_at states.old m) (slice_index waiting.old m) }
     ensures waiting { (m : ℕ) → m < length waiting.old → slice_index waiting.new m + times_in m importers.now ≡ slice_index waiting.old m }
     ensures states { (m : ℕ) → m < length waiting.old → state_at states.new m ≡ freed (state_at states.old m) (slice_index waiting.new m) }
 {
@@ -120,9 +120,9 @@ fn no_entries<E: WorkEntry>(alloc: Global, count: usize) -> Result<Vec<Option<E>
 /// For each module how many imports it has.
 fn counts_of(alloc: Global, graph: &Graph) -> Result<Vec<u32>, AllocError>
     ensures size { IfOk result (λ counts. length counts.items ≡ length graph.now.names) }
-    ensures counts { IfOk result (λ counts. (m : ℕ) → m < length graph.now.names → slice_index counts.items m ≡ length (row_at graph.now.imports m)) }
+    ensures counts { IfOk result (λ counts. (m : ℕ) → m < length graph.now.names → slice_index counts.items m ≡ length (list_at graph.now.imports m)) }
 {
-    graph.keeps();
+    graph.invariants();
     let count = graph.modules();
     let mut counts = Vec::with_capacity(alloc, count as usize)?;
     for module in 0..count {
@@ -154,8 +154,8 @@ fn states_of(alloc: Global, counts: &[u32]) -> Result<Vec<State>, AllocError>
 }
 
 /// Frees each module that is claimed and not delivered.
-fn let_all_go(states: &mut [State])
-    ensures { states.new ≡ map let_go states.old }
+fn free_all_claimed(states: &mut [State])
+    ensures { states.new ≡ map freed_claim states.old }
 {
     for place in 0..states.len() {
         if let State::Claimed = states[place] {
@@ -165,11 +165,11 @@ fn let_all_go(states: &mut [State])
 }
 
 /// Appends the shared part of the entry, if there is one.
-fn add_share<E: WorkEntry>(
+fn push_shared_part<E: WorkEntry>(
     parts: &mut Vec<Arc<E::Shared>>,
     entry: &Option<E>,
 ) -> Result<(), AllocError>
-    ensures { OnOk result (map arc_value parts.new.items ≡ map arc_value parts.old.items ++ share_of E.shared_of true entry.now) }
+    ensures { OnOk result (map arc_value parts.new.items ≡ map arc_value parts.old.items ++ shared_part E.shared_of true entry.now) }
 {
     match entry {
         Some(entry) => {
@@ -181,21 +181,21 @@ fn add_share<E: WorkEntry>(
 }
 
 /// The shared parts of those modules of `order` whose flag is set.
-fn marked_shares<E: WorkEntry>(
+fn marked_shared_parts<E: WorkEntry>(
     alloc: Global,
-    marks: &[bool],
+    flags: &[bool],
     entries: &[Option<E>],
     order: &[u32],
 ) -> Result<Vec<Arc<E::Shared>>, AllocError>
-    requires size { length marks.now ≡ length entries.now }
+    requires size { length flags.now ≡ length entries.now }
     requires within { All (λ v. v < length entries.now) order.now }
-    ensures { IfOk result (λ parts. map arc_value parts.items ≡ flat_map (share_at E.shared_of marks.now entries.now) order.now) }
+    ensures { IfOk result (λ parts. map arc_value parts.items ≡ flat_map (share_at E.shared_of flags.now entries.now) order.now) }
 {
     let mut parts = Vec::new(alloc);
     for number in order {
         let place = *number as usize;
-        if marks[place] {
-            add_share(&mut parts, &entries[place])?;
+        if flags[place] {
+            push_shared_part(&mut parts, &entries[place])?;
         }
     }
     Ok(parts)
@@ -204,24 +204,24 @@ fn marked_shares<E: WorkEntry>(
 /// The shared parts of those modules of `order` whose flag is set. If no flag is set, it doesn't visit the modules one by one.
 fn shares<E: WorkEntry>(
     alloc: Global,
-    marks: &[bool],
+    flags: &[bool],
     entries: &[Option<E>],
     order: &[u32],
 ) -> Result<Vec<Arc<E::Shared>>, AllocError>
-    requires size { length marks.now ≡ length entries.now }
+    requires size { length flags.now ≡ length entries.now }
     requires within { All (λ v. v < length entries.now) order.now }
-    ensures { IfOk result (λ parts. map arc_value parts.items ≡ flat_map (share_at E.shared_of marks.now entries.now) order.now) }
+    ensures { IfOk result (λ parts. map arc_value parts.items ≡ flat_map (share_at E.shared_of flags.now entries.now) order.now) }
 {
-    if !any_marked(marks, 0, marks.len()) {
+    if !any_marked(flags, 0, flags.len()) {
         return Ok(Vec::new(alloc));
     }
-    marked_shares(alloc, marks, entries, order)
+    marked_shared_parts(alloc, flags, entries, order)
 }
 
 /// The flags of the module with this number.
-fn marks_at(rows: &[Vec<bool>], place: usize) -> &[bool]
+fn flags_at(rows: &[Vec<bool>], place: usize) -> &[bool]
     requires { place < length rows.now }
-    ensures { result.now ≡ row_at (lists rows.now) place }
+    ensures { result.now ≡ list_at (lists rows.now) place }
 {
     rows[place].as_slice()
 }
@@ -246,7 +246,7 @@ impl<'g, T: NamedTree, E: WorkEntry> Board<'g, T, E> {
         // No module is claimed, delivered or abandoned.
         ensures { IfOk result (λ board. board ≡ new_core (length T.graph.names)) }
     {
-        graph.keeps();
+        graph.invariants();
         let count = graph.modules() as usize;
         let waiting = counts_of(alloc, graph)?;
         let states = states_of(alloc, waiting.as_slice())?;
@@ -266,7 +266,7 @@ impl<'g, T: NamedTree, E: WorkEntry> Board<'g, T, E> {
     }
 
     /// The invariant of a scheduler.
-    pub fn keeps(&self)
+    pub fn invariants(&self)
         // There is an entry, or its place, for each module of the graph.
         ensures size { length self.now.entries ≡ length T.graph.names }
         // Each entry is the entry of its module, by name.
@@ -276,11 +276,11 @@ impl<'g, T: NamedTree, E: WorkEntry> Board<'g, T, E> {
         // All modules that a claimed module reaches are delivered.
         ensures reached { (n v : ℕ) → is_claimed self.now n ≡ true → Reaches T.graph.imports n v → has_entry self.now.entries v ≡ true }
         // There is a flag for each module of the graph, whether it is claimed.
-        ensures marks { length self.now.claimed ≡ length T.graph.names }
+        ensures flags { length self.now.claimed ≡ length T.graph.names }
         // If the graph is acyclic, no worker holds a module and no module is ready, then the work is over.
         ensures goes_on { IsAcyclic T.graph.imports → IsIdle self.now → ((n : ℕ) → IsReady T.graph.imports self.now n → ⊥) → IsOver self.now }
     {
-        self.graph.keeps();
+        self.graph.invariants();
     }
 
     /// Whether a claimed module was abandoned, since an allocation failed.
@@ -304,11 +304,11 @@ impl<'g, T: NamedTree, E: WorkEntry> Board<'g, T, E> {
         if !is_taken(self.states.as_slice(), number as usize) {
             return Err(BoardFault::NotClaimed);
         }
-        self.graph.keeps();
-        let marks = marks_at(self.reached.as_slice(), number as usize);
+        self.graph.invariants();
+        let flags = flags_at(self.reached.as_slice(), number as usize);
         Ok(shares(
             *self.entries.allocator(),
-            marks,
+            flags,
             self.entries.as_slice(),
             self.graph.by_name(),
         )?)
@@ -322,8 +322,8 @@ impl<'g, T: NamedTree, E: WorkEntry> Board<'g, T, E> {
         if self.abandoned {
             return Claim::Finished;
         }
-        self.graph.keeps();
-        let claim = look(self.states.as_slice());
+        self.graph.invariants();
+        let claim = choose_claim(self.states.as_slice());
         if let Claim::Module { number } = claim {
             self.hold(number);
         }
@@ -335,7 +335,7 @@ impl<'g, T: NamedTree, E: WorkEntry> Board<'g, T, E> {
         requires { IsReady T.graph.imports self.old number }
         ensures { self.new ≡ record self.old { claimed = slice_set self.old.claimed number true } }
     {
-        self.graph.keeps();
+        self.graph.invariants();
         let place = number as usize;
         fill_row(
             &mut self.reached,
@@ -348,7 +348,7 @@ impl<'g, T: NamedTree, E: WorkEntry> Board<'g, T, E> {
 
     /// Why this entry can't be delivered; none if it can.
     fn refusal(&self, number: u32, entry: &E) -> Option<BoardFault>
-        ensures told { IsRefusal T.graph.names (E.name_of entry.now) self.now number result }
+        ensures fits_state { IsRefusal T.graph.names (E.name_of entry.now) self.now number result }
         ensures kept { E.is_of (E.name_of entry.now) entry.now }
         ensures within { result ≡ None → number < length T.graph.names }
     {
@@ -368,18 +368,18 @@ impl<'g, T: NamedTree, E: WorkEntry> Board<'g, T, E> {
     }
 
     /// Stores the entry of a claimed module, and counts it as delivered for the modules that import it.
-    fn put(&mut self, number: u32, entry: E)
+    fn store(&mut self, number: u32, entry: E)
         requires within { number < length T.graph.names }
         requires claimed { is_claimed self.old number ≡ true }
         requires none { has_entry self.old.entries number ≡ false }
-        requires own { E.is_of (row_at T.graph.names number) entry }
+        requires own { E.is_of (list_at T.graph.names number) entry }
         ensures { self.new ≡ record self.old { entries = slice_set self.old.entries number (Some entry) } }
     {
-        self.graph.keeps();
+        self.graph.invariants();
         let place = number as usize;
         self.entries[place] = Some(entry);
         self.states[place] = State::Delivered;
-        release(
+        count_delivered(
             self.waiting.as_mut_slice(),
             self.states.as_mut_slice(),
             self.graph.importers_of(number),
@@ -395,14 +395,14 @@ impl<'g, T: NamedTree, E: WorkEntry> Board<'g, T, E> {
         match self.refusal(number, &entry) {
             Some(fault) => Err((fault, entry)),
             None => {
-                self.put(number, entry);
+                self.store(number, entry);
                 Ok(())
             }
         }
     }
 
-    /// Records that an allocation failed for a claimed module, which stays claimed. Changes nothing for a module that isn't claimed or that is
-    /// delivered.
+    /// Records that an allocation failed for a claimed module, which stays claimed. Changes nothing for a module that isn't claimed or
+    /// that is delivered.
     pub fn abandon(&mut self, number: u32)
         // The work counts as abandoned if the module was claimed and not delivered, or if it counted so before.
         ensures { self.new ≡ record self.old { abandoned = abandoned_after self.old number } }
@@ -419,7 +419,7 @@ impl<'g, T: NamedTree, E: WorkEntry> Board<'g, T, E> {
         // A module is claimed exactly if it is delivered, and nothing else changes.
         ensures back { self.new ≡ taken_back self.old }
     {
-        let_all_go(self.states.as_mut_slice());
+        free_all_claimed(self.states.as_mut_slice());
     }
 
     /// The entries by module number, none for a module that isn't delivered.

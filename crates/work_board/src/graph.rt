@@ -2,7 +2,7 @@
 ghost use Rattle.std.specs.Prelude.{◌≡◌, ◌↔◌, ◌<◌, ◌≤◌, ◌+◌, ◌==◌, ℕ, cond, IsTrue, length, map, take, All, IfOk, OnOk, OnErr, slice_set, vec_len, [], ◌∷◌, ◌++◌, Vec};
 ghost use Rattle.std.specs.List.{range_with_len};
 ghost use Rattle.std.specs.String.{string_bytes};
-ghost use Rattle.work_board.specs.Graphs.{lists, row_at, times_in, AreRows, AreTurned, IsGraph, IsNameOrder};
+ghost use Rattle.work_board.specs.Graphs.{lists, list_at, times_in, AreRows, AreTransposed, IsGraph, IsNameOrder};
 
 use std::alloc::{AllocError, Global};
 use std::marker::Model;
@@ -27,7 +27,7 @@ pub struct Graph {
 impl Model for Graph {
     ghost use Rattle.std.specs.Prelude.{◌≡◌, ◌<◌, ℕ, length, map, All};
     ghost use Rattle.std.specs.String.{string_bytes};
-    ghost use Rattle.work_board.specs.Graphs.{lists, row_at, AreTurned, IsGraph, IsNameOrder, Modules};
+    ghost use Rattle.work_board.specs.Graphs.{lists, list_at, AreTransposed, IsGraph, IsNameOrder, Modules};
 
     ghost Value = { Modules };
 
@@ -35,14 +35,14 @@ impl Model for Graph {
 
     ghost invariant = { λ g. IsGraph (record { names = map string_bytes g.names.items; imports = lists g.imports.items })
         × (length (lists g.importers.items) ≡ length (lists g.imports.items))
-        × AreTurned (lists g.imports.items) (lists g.importers.items)
-        × ((n : ℕ) → All (λ m. m < length (lists g.imports.items)) (row_at (lists g.importers.items) n))
+        × AreTransposed (lists g.imports.items) (lists g.importers.items)
+        × ((n : ℕ) → All (λ m. m < length (lists g.imports.items)) (list_at (lists g.importers.items) n))
         × IsNameOrder (map string_bytes g.names.items) g.order.items };
 }
 
-fn empty_rows(alloc: Global, count: usize) -> Result<Vec<Vec<u32>>, AllocError>
+fn empty_lists(alloc: Global, count: usize) -> Result<Vec<Vec<u32>>, AllocError>
     ensures size { IfOk result (λ rows. length (lists rows.items) ≡ count) }
-    ensures none { IfOk result (λ rows. (n : ℕ) → row_at (lists rows.items) n ≡ []) }
+    ensures none { IfOk result (λ rows. (n : ℕ) → list_at (lists rows.items) n ≡ []) }
 {
     let mut rows = Vec::with_capacity(alloc, count)?;
     for _ in 0..count {
@@ -56,7 +56,7 @@ fn empty_rows(alloc: Global, count: usize) -> Result<Vec<Vec<u32>>, AllocError>
 fn push_at(rows: &mut Vec<Vec<u32>>, place: usize, by: u32) -> Result<(), AllocError>
     requires { place < vec_len rows.old }
     ensures size { OnOk result (length (lists rows.new.items) ≡ length (lists rows.old.items)) }
-    ensures rows { OnOk result (lists rows.new.items ≡ slice_set (lists rows.old.items) place (row_at (lists rows.old.items) place ++ by ∷ [])) }
+    ensures rows { OnOk result (lists rows.new.items ≡ slice_set (lists rows.old.items) place (list_at (lists rows.old.items) place ++ by ∷ [])) }
 {
     rows[place].push(by)?;
     Ok(())
@@ -66,9 +66,9 @@ fn push_at(rows: &mut Vec<Vec<u32>>, place: usize, by: u32) -> Result<(), AllocE
 fn add_importer(rows: &mut Vec<Vec<u32>>, row: &[u32], by: u32) -> Result<(), AllocError>
     requires { All (λ w. w < length (lists rows.old.items)) row.now }
     ensures size { OnOk result (length (lists rows.new.items) ≡ length (lists rows.old.items)) }
-    ensures more { OnOk result ((n : ℕ) → times_in by (row_at (lists rows.new.items) n) ≡ times_in by (row_at (lists rows.old.items) n) + times_in n row.now) }
-    ensures others { OnOk result ((n x : ℕ) → (x ≡ by → ⊥) → times_in x (row_at (lists rows.new.items) n) ≡ times_in x (row_at (lists rows.old.items) n)) }
-    ensures within { OnOk result ((k : ℕ) → by < k → ((n : ℕ) → All (λ w. w < k) (row_at (lists rows.old.items) n)) → (n : ℕ) → All (λ w. w < k) (row_at (lists rows.new.items) n)) }
+    ensures more { OnOk result ((n : ℕ) → times_in by (list_at (lists rows.new.items) n) ≡ times_in by (list_at (lists rows.old.items) n) + times_in n row.now) }
+    ensures others { OnOk result ((n x : ℕ) → (x ≡ by → ⊥) → times_in x (list_at (lists rows.new.items) n) ≡ times_in x (list_at (lists rows.old.items) n)) }
+    ensures within { OnOk result ((k : ℕ) → by < k → ((n : ℕ) → All (λ w. w < k) (list_at (lists rows.old.items) n)) → (n : ℕ) → All (λ w. w < k) (list_at (lists rows.new.items) n)) }
 {
     for imported in row {
         push_at(rows, *imported as usize, by)?;
@@ -77,14 +77,14 @@ fn add_importer(rows: &mut Vec<Vec<u32>>, row: &[u32], by: u32) -> Result<(), Al
 }
 
 /// For each module the modules that import it.
-fn turned(alloc: Global, imports: &[Vec<u32>]) -> Result<Vec<Vec<u32>>, AllocError>
+fn transposed(alloc: Global, imports: &[Vec<u32>]) -> Result<Vec<Vec<u32>>, AllocError>
     requires few { length imports.now ≤ 4096 }
-    requires within { (m : ℕ) → All (λ w. w < length imports.now) (row_at (lists imports.now) m) }
+    requires within { (m : ℕ) → All (λ w. w < length imports.now) (list_at (lists imports.now) m) }
     ensures size { IfOk result (λ rows. length (lists rows.items) ≡ length (lists imports.now)) }
-    ensures turned { IfOk result (λ rows. AreTurned (lists imports.now) (lists rows.items)) }
-    ensures within { IfOk result (λ rows. (n : ℕ) → All (λ m. m < length (lists imports.now)) (row_at (lists rows.items) n)) }
+    ensures transposed { IfOk result (λ rows. AreTransposed (lists imports.now) (lists rows.items)) }
+    ensures within { IfOk result (λ rows. (n : ℕ) → All (λ m. m < length (lists imports.now)) (list_at (lists rows.items) n)) }
 {
-    let mut rows = empty_rows(alloc, imports.len())?;
+    let mut rows = empty_lists(alloc, imports.len())?;
     for place in 0..imports.len() {
         add_importer(&mut rows, row(imports, place), place as u32)?;
     }
@@ -94,7 +94,7 @@ fn turned(alloc: Global, imports: &[Vec<u32>]) -> Result<Vec<Vec<u32>>, AllocErr
 /// The list at this index.
 fn row(rows: &[Vec<u32>], place: usize) -> &[u32]
     requires { place < length rows.now }
-    ensures { result.now ≡ row_at (lists rows.now) place }
+    ensures { result.now ≡ list_at (lists rows.now) place }
 {
     rows[place].as_slice()
 }
@@ -120,7 +120,7 @@ fn are_rows(rows: &[Vec<u32>], count: usize) -> bool
 
 /// The name of a module, empty if there is no such module.
 fn name_of(names: &[String], number: u32) -> &str
-    ensures { result.now ≡ row_at (map string_bytes names.now) number }
+    ensures { result.now ≡ list_at (map string_bytes names.now) number }
 {
     match names.get(number as usize) {
         None => "",
@@ -136,7 +136,7 @@ fn numbers(alloc: Global, count: u32) -> Result<Vec<u32>, AllocError>
 }
 
 /// The numbers of the names, sorted by name. Sorting takes one pass if the names are sorted.
-fn order_of(alloc: Global, names: &[String]) -> Result<Vec<u32>, AllocError>
+fn order_by_name(alloc: Global, names: &[String]) -> Result<Vec<u32>, AllocError>
     requires { length names.now ≤ 4096 }
     ensures { IfOk result (λ order. IsNameOrder (map string_bytes names.now) order.items) }
 {
@@ -166,8 +166,8 @@ impl Graph {
         // The graph has exactly these names and imports.
         ensures { IfOk result (λ graph. graph ≡ record { names = map string_bytes names.items; imports = lists imports.items }) }
     {
-        let importers = turned(alloc, imports.as_slice())?;
-        let order = order_of(alloc, names.as_slice())?;
+        let importers = transposed(alloc, imports.as_slice())?;
+        let order = order_by_name(alloc, names.as_slice())?;
         Ok(Graph {
             names,
             imports,
@@ -177,7 +177,7 @@ impl Graph {
     }
 
     /// The invariant of a graph.
-    pub fn keeps(&self)
+    pub fn invariants(&self)
         // `is_graph` is true of its names and imports.
         ensures { IsGraph self.now }
     {
@@ -197,7 +197,7 @@ impl Graph {
         // The graph has a module of this number.
         requires { number < length self.now.names }
         // It is the module's name.
-        ensures { result.now ≡ row_at self.now.names number }
+        ensures { result.now ≡ list_at self.now.names number }
     {
         self.names[number as usize].as_str()
     }
@@ -207,7 +207,7 @@ impl Graph {
         // The graph has a module of this number.
         requires { number < length self.now.names }
         // They are the module's imports, repeated ones included.
-        ensures { result.now ≡ row_at self.now.imports number }
+        ensures { result.now ≡ list_at self.now.imports number }
     {
         self.imports[number as usize].as_slice()
     }
@@ -217,7 +217,7 @@ impl Graph {
         // The graph has a module of this number.
         requires { number < length self.now.names }
         // A module occurs as often as it imports this one.
-        ensures turned { (m : ℕ) → times_in m result.now ≡ times_in number (row_at self.now.imports m) }
+        ensures transposed { (m : ℕ) → times_in m result.now ≡ times_in number (list_at self.now.imports m) }
         // All are modules of the graph.
         ensures within { All (λ m. m < length self.now.names) result.now }
     {

@@ -4,7 +4,7 @@ use Rattle.cut_net.specs.Pins.{IsFlowWithPins}
 use Rattle.cut_net.specs.Lines.{removed_by, flow_by}
 use Rattle.cut_check.specs.Matched.{AreMatched}
 use Rattle.cut_check.specs.Verdicts.{HasCut, IsCutVerdict}
-use Rattle.cut_check.proofs.Parts.{AllMatched, all_read, are_weights, are_weights_back, by_flow, flows, from_chain, if_ok, marks, stray_at, to_chain}
+use Rattle.cut_check.proofs.Parts.{AllMatched, read_modules, are_weights, are_weights_back, by_flow, flows, from_chain, if_ok, marks, stray_at, to_chain}
 use Rattle.cut_check.proofs.checking.check_cut.Goals as goal
 
 pub returns-in-Some-clause-exact : goal.returns-in-Some-clause-exact
@@ -26,7 +26,7 @@ returns-in-Some-get-clause-exact c =
     let printed_count = c.in_ok-printed.printed.count in
     let printed_amounts = c.in_ok-printed.printed.amounts.items in
     let printed_matched = subst (λ v. AreMatched net v printed_count printed_amounts) c.deref.ensures.value c.in_ok-printed.ensures in
-    let all = all_read net printed printed_count printed_amounts printed_matched (subst (λ v. length v ≤ printed_count) c.deref-2.ensures.value c.in_default.ensures.lookup.3) in
+    let all = read_modules net printed printed_count printed_amounts printed_matched (subst (λ v. length v ≤ printed_count) c.deref-2.ensures.value c.in_default.ensures.lookup.3) in
     let flow = c.args.cut.now.flow.items in
     let count = c.in_ok-flow.flow.count in
     let amounts = c.in_ok-flow.flow.amounts.items in
@@ -46,12 +46,12 @@ returns-then-branch-clause-exact c =
     let printed_count = c.in_ok-printed.printed.count in
     let printed_amounts = c.in_ok-printed.printed.amounts.items in
     let printed_matched = subst (λ v. AreMatched net v printed_count printed_amounts) c.deref.ensures.value c.in_ok-printed.ensures in
-    let all = all_read net printed printed_count printed_amounts printed_matched (subst (λ v. length v ≤ printed_count) c.deref-2.ensures.value c.in_default.ensures.lookup.3) in
+    let all = read_modules net printed printed_count printed_amounts printed_matched (subst (λ v. length v ≤ printed_count) c.deref-2.ensures.value c.in_default.ensures.lookup.3) in
     let flow = c.args.cut.now.flow.items in
     let count = c.in_ok-flow.flow.count in
     let amounts = c.in_ok-flow.flow.amounts.items in
     let matched = subst (λ v. AreMatched net v count amounts) c.deref-3.ensures.value c.in_ok-flow.ensures in
-    let all_flow = all_read net flow count amounts matched (subst (λ v. length v ≤ count) c.deref-4.ensures.value c.in_default-get.ensures.lookup.3) in
+    let all_flow = read_modules net flow count amounts matched (subst (λ v. length v ≤ count) c.deref-4.ensures.value c.in_default-get.ensures.lookup.3) in
     let p = subst (AllMatched net printed) (sym c.deref-5.ensures.value) all in (
       record { printed_in_order = all.in_order; flow_in_order = all_flow.in_order },
       to_chain net printed c.deref-5.result.now p c.deref-6.result.now (c.deref-6.ensures.value ∙ c.in_ok-allowed.ensures) c.args.from c.args.to (c.in_ok-has_chain.ensures.0 c.if-branch.true),
@@ -64,12 +64,12 @@ returns-then-not-has_weights-clause-exact c =
     let printed_count = c.in_ok-printed.printed.count in
     let printed_amounts = c.in_ok-printed.printed.amounts.items in
     let printed_matched = subst (λ v. AreMatched net v printed_count printed_amounts) c.deref.ensures.value c.in_ok-printed.ensures in
-    let all = all_read net printed printed_count printed_amounts printed_matched (subst (λ v. length v ≤ printed_count) c.deref-2.ensures.value c.in_default.ensures.lookup.3) in
+    let all = read_modules net printed printed_count printed_amounts printed_matched (subst (λ v. length v ≤ printed_count) c.deref-2.ensures.value c.in_default.ensures.lookup.3) in
     let flow = c.args.cut.now.flow.items in
     let count = c.in_ok-flow.flow.count in
     let amounts = c.in_ok-flow.flow.amounts.items in
     let matched = subst (λ v. AreMatched net v count amounts) c.deref-3.ensures.value c.in_ok-flow.ensures in
-    let all_flow = all_read net flow count amounts matched (subst (λ v. length v ≤ count) c.deref-4.ensures.value c.in_default-get.ensures.lookup.3) in
+    let all_flow = read_modules net flow count amounts matched (subst (λ v. length v ≤ count) c.deref-4.ensures.value c.in_default-get.ensures.lookup.3) in
     let p = subst (AllMatched net printed) (sym c.deref-5.ensures.value) all in
     let w = subst (AllMatched net printed) (sym c.deref-7.ensures.value) all in
     let x = removed_by printed in
@@ -90,13 +90,13 @@ returns-clause-exact c =
     let printed_count = c.in_ok-printed.printed.count in
     let printed_amounts = c.in_ok-printed.printed.amounts.items in
     let printed_matched = subst (λ v. AreMatched net v printed_count printed_amounts) c.deref.ensures.value c.in_ok-printed.ensures in
-    let all = all_read net printed printed_count printed_amounts printed_matched (subst (λ v. length v ≤ printed_count) c.deref-2.ensures.value c.in_default.ensures.lookup.3) in
+    let all = read_modules net printed printed_count printed_amounts printed_matched (subst (λ v. length v ≤ printed_count) c.deref-2.ensures.value c.in_default.ensures.lookup.3) in
     let flow = c.args.cut.now.flow.items in
     let total = c.args.cut.now.weight in
     let count = c.in_ok-flow.flow.count in
     let amounts = c.in_ok-flow.flow.amounts.items in
     let matched = subst (λ v. AreMatched net v count amounts) c.deref-3.ensures.value c.in_ok-flow.ensures in
-    let all_flow = all_read net flow count amounts matched (subst (λ v. length v ≤ count) c.deref-4.ensures.value c.in_default-get.ensures.lookup.3) in
+    let all_flow = read_modules net flow count amounts matched (subst (λ v. length v ≤ count) c.deref-4.ensures.value c.in_default-get.ensures.lookup.3) in
     let p = subst (AllMatched net printed) (sym c.deref-5.ensures.value) all in
     let w = subst (AllMatched net printed) (sym c.deref-7.ensures.value) all in
     let f = subst (AllMatched net flow) (sym c.deref-8.ensures.value) all_flow in
@@ -120,7 +120,7 @@ returns-clause-cheapest c =
     if_ok (IsCutVerdict net c.args.from c.args.to printed total flow) _ c.check_flow.result
     (λ v h yes.
     let right = subst (IsCutVerdict net c.args.from c.args.to printed total flow) yes h in
-    c.certificate_with_pins.ensures net c.args.from c.args.to (removed_by printed) (flow_by flow) c.keeps.ensures.network.between c.requires.from
+    c.certificate_with_pins.ensures net c.args.from c.args.to (removed_by printed) (flow_by flow) c.invariants.ensures.network.between c.requires.from
     (record { removable = right.weights.removable; cut = right.cut })
     (subst (IsFlowWithPins net c.args.from c.args.to (flow_by flow)) right.weights.sum right.is_flow))
     (returns-clause-exact c)

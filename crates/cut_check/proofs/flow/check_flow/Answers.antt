@@ -6,7 +6,7 @@ use Rattle.cut_check.proofs.Flows.{are_under, within, first_over, first_off, are
 use Rattle.cut_check.proofs.flow.check_flow.Goals as goal
 
 pub sums_of-requires-clause-between : goal.sums_of-requires-clause-between
-sums_of-requires-clause-between c = rw (c.imports-imports.ensures, c.nodes.ensures) c.keeps.ensures.network.between
+sums_of-requires-clause-between c = rw (c.imports-imports.ensures, c.nodes.ensures) c.invariants.ensures.network.between
 
 pub returns-in-Some : goal.returns-in-Some
 returns-in-Some c flow are =
@@ -19,7 +19,7 @@ returns-in-Some-first_off c flow are =
     let into = c.in_ok-sums.sums.into.items in
     let out = c.in_ok-sums.sums.out.items in
     let sums = subst (λ v. AreSums v flow c.nodes.result into out) is (c.in_ok-sums.ensures.sums flow (subst (λ v. AreAmounts v flow c.args.amounts.now) (sym is) are)) in
-    let between : AreBetween net.imports c.nodes.result = rw c.nodes.ensures c.keeps.ensures.network.between in
+    let between : AreBetween net.imports c.nodes.result = rw c.nodes.ensures c.invariants.ensures.network.between in
     let count = c.nodes.ensures in
     let count_too = c.nodes-2.ensures in
     let from = c.requires.from in
@@ -36,7 +36,7 @@ returns-then-not-has_value c flow are =
     let into = c.in_ok-sums.sums.into.items in
     let out = c.in_ok-sums.sums.out.items in
     let sums = subst (λ v. AreSums v flow c.nodes.result into out) is (c.in_ok-sums.ensures.sums flow (subst (λ v. AreAmounts v flow c.args.amounts.now) (sym is) are)) in
-    let between : AreBetween net.imports c.nodes.result = rw c.nodes.ensures c.keeps.ensures.network.between in
+    let between : AreBetween net.imports c.nodes.result = rw c.nodes.ensures c.invariants.ensures.network.between in
     let count = c.nodes.ensures in
     let count_too = c.nodes-2.ensures in
     let from = c.requires.from in
@@ -53,7 +53,7 @@ returns c flow are =
     let into = c.in_ok-sums.sums.into.items in
     let out = c.in_ok-sums.sums.out.items in
     let sums = subst (λ v. AreSums v flow c.nodes.result into out) is (c.in_ok-sums.ensures.sums flow (subst (λ v. AreAmounts v flow c.args.amounts.now) (sym is) are)) in
-    let between : AreBetween net.imports c.nodes.result = rw c.nodes.ensures c.keeps.ensures.network.between in
+    let between : AreBetween net.imports c.nodes.result = rw c.nodes.ensures c.invariants.ensures.network.between in
     let count = c.nodes.ensures in
     let count_too = c.nodes-2.ensures in
     let from = c.requires.from in

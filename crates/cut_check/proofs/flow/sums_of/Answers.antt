@@ -6,8 +6,8 @@ use Rattle.cut_check.specs.Reaching.{any}
 use Rattle.cut_check.proofs.Adding.{adding_fits, adding_most, adding_more, from_in, to_in}
 use Rattle.cut_check.proofs.flow.sums_of.Goals as goal
 
-pub add_at-requires-clause-place : goal.add_at-requires-clause-place
-add_at-requires-clause-place c =
+pub add_at-requires-clause-index : goal.add_at-requires-clause-index
+add_at-requires-clause-index c =
     let h = to_in c.args.imports.now c.args.modules c.loop-k.k c.requires.between c.loop-k-test.true in
     omega arith
 
@@ -16,8 +16,8 @@ add_at-requires-clause-fits c =
     let few = c.requires.few in
     adding_fits c.loop-k.into.items c.loop-k.k c.unwrap_or-amount.result (omega (arith, c.loop-k-test.true)) c.unwrap_or-amount.type_inv c.loop-k.invariant.into_most _
 
-pub add_at-requires-in-loop-k-clause-place : goal.add_at-requires-in-loop-k-clause-place
-add_at-requires-in-loop-k-clause-place c =
+pub add_at-requires-in-loop-k-clause-index : goal.add_at-requires-in-loop-k-clause-index
+add_at-requires-in-loop-k-clause-index c =
     let h = from_in c.args.imports.now c.args.modules c.loop-k.k c.requires.between c.loop-k-test.true in
     omega arith
 

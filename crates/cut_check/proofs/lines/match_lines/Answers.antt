@@ -15,7 +15,7 @@ loop-i-preserved c =
       | then-is_some w ↦ rw (← some, w.if-is_some.true) w.count-is
       | else-is_some w ↦ rw (← some, w.if-is_some.false) (omega arith)
     ] in
-    let ascending = subst IsAscending (sym c.imports-imports.ensures) c.keeps.ensures.network.imports_ascend in
+    let ascending = subst IsAscending (sym c.imports-imports.ensures) c.invariants.ensures.network.imports_ascend in
     matching_more c.imports-imports.result.now c.args.lines.now c.loop-i.i-index c.loop-i.count c.loop-i.amounts.items ascending c.loop-i.invariant c.loop-i-test.true
     any _ h _ e _ c.in_ok-push.ensures.items
 

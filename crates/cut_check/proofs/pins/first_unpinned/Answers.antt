@@ -9,5 +9,5 @@ loop-k-preserved c =
     let pair : Priced = record { from = get_or chain (c.loop-k.k - 1) 0; to = get_or chain c.loop-k.k 0; amount = 0 } in
     record {
       from_one = omega arith;
-      pinned = pinned_next c.args.net.now c.keeps.ensures.pins chain c.loop-k.k pair c.loop-k.invariant.from_one refl refl (sym c.is_pinned.ensures ∙ c.if-not-is_pinned.false) c.loop-k.invariant.pinned;
+      pinned = pinned_next c.args.net.now c.invariants.ensures.pins chain c.loop-k.k pair c.loop-k.invariant.from_one refl refl (sym c.is_pinned.ensures ∙ c.if-not-is_pinned.false) c.loop-k.invariant.pinned;
     }

@@ -7,7 +7,7 @@ pub draw_imports-requires-clause-imports : goal.draw_imports-requires-clause-imp
 draw_imports-requires-clause-imports g c =
     let net = c.args.net.now in
     rw (c.deref.ensures.value, c.in-Ok.ensures, c.imports.ensures)
-    (some_between (is_reported c.as_slice-removed.result.now c.as_slice.result.now) net.imports (length net.names) c.keeps.ensures.network.between)
+    (some_between (is_reported c.as_slice-removed.result.now c.as_slice.result.now) net.imports (length net.names) c.invariants.ensures.network.between)
 
 pub returns-clause-run : goal.returns-clause-run
 returns-clause-run g c =

@@ -7,7 +7,7 @@ use Rattle.cut_dot.proofs.drawing.draw_path.Goals as goal
 pub draw_imports-requires-clause-imports : goal.draw_imports-requires-clause-imports
 draw_imports-requires-clause-imports g c =
     let net = c.args.net.now in
-    rw (c.deref.ensures.value, c.in-Ok.ensures, c.imports.ensures) (some_between (is_step c.args.path.now) net.imports (length net.names) c.keeps.ensures.network.between)
+    rw (c.deref.ensures.value, c.in-Ok.ensures, c.imports.ensures) (some_between (is_step c.args.path.now) net.imports (length net.names) c.invariants.ensures.network.between)
 
 pub returns-clause-run : goal.returns-clause-run
 returns-clause-run g c =

@@ -1,7 +1,7 @@
 use Rattle.std.proofs.Common.{◌≡◌, ◌∙◌, ap, ap₂, subst, filter, map, length, List, ℕ}
 use Rattle.cut_net.specs.declared.priced.Priced.{Priced}
-use Rattle.cut_residual.specs.declared.arc.Arc.{Arc}
-use Rattle.cut_residual.specs.Graphs.{AreClosed, AreReached, Graph}
+use Rattle.residual_graph.specs.declared.arc.Arc.{Arc}
+use Rattle.residual_graph.specs.Graphs.{AreClosed, AreReached, Graph}
 use Rattle.cut_part.specs.Marks.{open_arc}
 use Rattle.cut_part.proofs.Marking.{are_chained, open_between, open_within}
 use Rattle.cut_dot.specs.Pictures.{stays}
@@ -15,14 +15,14 @@ pub new-requires-clause-between : goal.new-requires-clause-between
 new-requires-clause-between c =
     rw (c.in_ok-arcs.ensures, c.imports.ensures, c.nodes.ensures)
     (open_between (filter (stays c.args.removed.now) c.args.net.now.imports) (length c.args.net.now.names)
-    (some_between (stays c.args.removed.now) c.args.net.now.imports (length c.args.net.now.names) c.keeps.ensures.network.between))
+    (some_between (stays c.args.removed.now) c.args.net.now.imports (length c.args.net.now.names) c.invariants.ensures.network.between))
 
 pub returns-clause-reached : goal.returns-clause-reached
 returns-clause-reached c =
     let net = c.args.net.now in
     let removed = c.args.removed.now in
     let imports = filter (stays removed) net.imports in
-    let marks = c.in_ok-found.found.seen.items in
+    let marks = c.in_ok-found.found.reached_flags.items in
     let arcs_are : c.in_ok-arcs.arcs.items ≡ map open_arc imports = c.in_ok-arcs.ensures ∙ ap (λ (v : List Priced). map open_arc (filter (stays removed) v)) c.imports.ensures in
     let graph_is : c.in_ok-graph.graph ≡ record { nodes = length net.names; arcs = map open_arc imports } =
     c.in_ok-graph.ensures ∙ ap₂ (λ (n : ℕ) (arcs : List Arc). record { nodes = n; arcs = arcs }) c.nodes.ensures arcs_are in

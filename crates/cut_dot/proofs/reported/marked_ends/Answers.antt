@@ -1,10 +1,10 @@
 use Rattle.std.proofs.Common.{List, get_or, set, subst, true, ◌∙◌, arith}
 use Rattle.std.proofs.lemmas.List.{length-set, take_all}
 use Rattle.cut_net.specs.declared.priced.Priced.{Priced}
-use Rattle.cut_net.specs.Network.{none_there}
+use Rattle.cut_net.specs.Network.{missing_item}
 use Rattle.cut_net.specs.Cuts.{AreThose}
 use Rattle.cut_part.proofs.Adding.{from_in, to_in}
-use Rattle.cut_residual.specs.Graphs.{is_seen}
+use Rattle.residual_graph.specs.Graphs.{is_flagged}
 use Rattle.cut_dot.specs.Pictures.{IsAtEnd}
 use Rattle.cut_dot.proofs.Ends.{one_more_at_end}
 use Rattle.cut_dot.proofs.reported.marked_ends.Goals as goal
@@ -33,9 +33,9 @@ loop-import-preserved c =
     let from_low = from_in imports c.args.modules k c.requires in_k in
     let to_low = to_in imports c.args.modules k c.requires in_k in
     record {
-      size = length-set (set marks (get_or imports k none_there).from true) (get_or imports k none_there).to true ∙ length-set marks (get_or imports k none_there).from true ∙ size;
-      ends = one_more_at_end imports k none_there marks in_k (omega arith) (omega arith) c.loop-import.invariant.ends;
+      size = length-set (set marks (get_or imports k missing_item).from true) (get_or imports k missing_item).to true ∙ length-set marks (get_or imports k missing_item).from true ∙ size;
+      ends = one_more_at_end imports k missing_item marks in_k (omega arith) (omega arith) c.loop-import.invariant.ends;
     }
 
 pub returns-clause-ends : goal.returns-clause-ends
-returns-clause-ends c = subst (λ (v : List Priced). AreThose (is_seen c.loop-import.marks.items) (IsAtEnd v)) (take_all c.loop-import.import-index c.args.imports.now (let past = c.loop-import-test.false in omega arith)) c.loop-import.invariant.ends
+returns-clause-ends c = subst (λ (v : List Priced). AreThose (is_flagged c.loop-import.marks.items) (IsAtEnd v)) (take_all c.loop-import.import-index c.args.imports.now (let past = c.loop-import-test.false in omega arith)) c.loop-import.invariant.ends

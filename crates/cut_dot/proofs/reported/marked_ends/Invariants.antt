@@ -1,12 +1,12 @@
 -- The marks are at the ends of the imports so far.
 use Rattle.std.proofs.Common.{◌≡◌, length, take}
 use Rattle.cut_net.specs.Cuts.{AreThose}
-use Rattle.cut_residual.specs.Graphs.{is_seen}
+use Rattle.residual_graph.specs.Graphs.{is_flagged}
 use Rattle.cut_dot.specs.Pictures.{IsAtEnd}
 use Rattle.cut_dot.proofs.reported.marked_ends.Given as goal
 
 abbrev pub invariant-loop-import : goal.invariant-loop-import
 invariant-loop-import l = record {
   size : length l.marks.items ≡ l.modules;
-  ends : AreThose (is_seen l.marks.items) (IsAtEnd (take l.import-index l.imports));
+  ends : AreThose (is_flagged l.marks.items) (IsAtEnd (take l.import-index l.imports));
 }

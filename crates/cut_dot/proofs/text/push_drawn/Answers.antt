@@ -1,14 +1,14 @@
 use Rattle.std.proofs.Common.{◌≡◌, ◌++◌, if◌then◌else◌, [], rules}
 use Rattle.std.specs.String.{string_bytes}
-use Rattle.text_pieces.proofs.Joining.{broken_as}
-use Rattle.cut_residual.specs.Graphs.{is_seen}
+use Rattle.byte_sink.proofs.Joining.{broken_as}
+use Rattle.residual_graph.specs.Graphs.{is_flagged}
 use Rattle.cut_dot.specs.Pictures.{is_drawn}
 use Rattle.cut_dot.specs.Texts.{line_of_module}
 use Rattle.cut_dot.proofs.text.push_drawn.Goals as goal
 
-pub returns-then-marks-node-clause-broken : goal.returns-then-marks-node-clause-broken
-returns-then-marks-node-clause-broken g c =
-    let line = line_of_module c.args.net.now c.args.from c.args.to (is_seen c.args.reached.now) c.args.node in
-    let whole = string_bytes c.args.text.now ++ (if is_drawn c.args.from c.args.to (is_seen c.args.marks.now) c.args.node then line else []) in
+pub returns-then-marks-node-clause-error_prefix : goal.returns-then-marks-node-clause-error_prefix
+returns-then-marks-node-clause-error_prefix g c =
+    let line = line_of_module c.args.net.now c.args.from c.args.to (is_flagged c.args.reached.now) c.args.node in
+    let whole = string_bytes c.args.text.now ++ (if is_drawn c.args.from c.args.to (is_flagged c.args.marks.now) c.args.node then line else []) in
     let same : string_bytes c.push_module.new.text ≡ whole = search rules in
-    broken_as _ _ [] (string_bytes c.push_module.new.text) whole c.put_enough.result same c.put_enough.ensures.broken
+    broken_as _ _ [] (string_bytes c.push_module.new.text) whole c.flush_if_full.result same c.flush_if_full.ensures.error_prefix

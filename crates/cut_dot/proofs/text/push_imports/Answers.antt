@@ -1,32 +1,32 @@
 use Rattle.std.proofs.Common.{length, rules}
 use Rattle.std.proofs.lemmas.Result.{err_from_is_err_and}
 use Rattle.std.specs.String.{string_bytes}
-use Rattle.text_pieces.proofs.Joining.{front_joined, joined}
-use Rattle.cut_part.specs.Inside.{inside}
+use Rattle.byte_sink.proofs.Joining.{front_joined, joined}
+use Rattle.cut_part.specs.Subnetworks.{are_ends_in}
 use Rattle.cut_part.proofs.Adding.{from_in, to_in}
-use Rattle.cut_residual.specs.Graphs.{is_seen}
+use Rattle.residual_graph.specs.Graphs.{is_flagged}
 use Rattle.cut_dot.specs.Texts.{line_of_import}
 use Rattle.cut_dot.proofs.Passing.{one_around, one_taken}
 use Rattle.cut_dot.proofs.text.push_imports.Goals as goal
 
-pub push_inside-requires-clause-from : goal.push_inside-requires-clause-from
-push_inside-requires-clause-from g c = from_in c.args.imports.now (length c.args.net.now.names) c.loop-import.import-index c.requires.imports c.loop-import-test.true
+pub push_internal-requires-clause-from : goal.push_internal-requires-clause-from
+push_internal-requires-clause-from g c = from_in c.args.imports.now (length c.args.net.now.names) c.loop-import.import-index c.requires.imports c.loop-import-test.true
 
-pub push_inside-requires-clause-to : goal.push_inside-requires-clause-to
-push_inside-requires-clause-to g c = to_in c.args.imports.now (length c.args.net.now.names) c.loop-import.import-index c.requires.imports c.loop-import-test.true
+pub push_internal-requires-clause-to : goal.push_internal-requires-clause-to
+push_internal-requires-clause-to g c = to_in c.args.imports.now (length c.args.net.now.names) c.loop-import.import-index c.requires.imports c.loop-import-test.true
 
-pub returns-in_err-push_inside-clause-broken : goal.returns-in_err-push_inside-clause-broken
-returns-in_err-push_inside-clause-broken g c =
+pub returns-in_err-push_internal-clause-error_prefix : goal.returns-in_err-push_internal-clause-error_prefix
+returns-in_err-push_internal-clause-error_prefix g c =
     let p = err_from_is_err_and c.from_residual.result c.from_residual.ensures.1 in
     let line = line_of_import c.args.net.now c.args.removed.now c.args.flow.now in
-    let around = one_around line (inside (is_seen c.args.marks.now)) c.args.imports.now c.loop-import.import-index _ c.loop-import-test.true in
-    rw p.1 (front_joined _ _ _ (string_bytes c.args.text.now) _ _ (string_bytes c.loop-import.text) _ _ around c.loop-import.invariant.gathered c.in_err-push_inside.ensures.broken)
+    let around = one_around line (are_ends_in (is_flagged c.args.marks.now)) c.args.imports.now c.loop-import.import-index _ c.loop-import-test.true in
+    rw p.1 (front_joined _ _ _ (string_bytes c.args.text.now) _ _ (string_bytes c.loop-import.text) _ _ around c.loop-import.invariant.gathered c.in_err-push_internal.ensures.error_prefix)
 
 pub loop-import-preserved : goal.loop-import-preserved
 loop-import-preserved g c =
     let line = line_of_import c.args.net.now c.args.removed.now c.args.flow.now in
-    let more = one_taken line (inside (is_seen c.args.marks.now)) c.args.imports.now c.loop-import.import-index _ c.loop-import-test.true in
+    let more = one_taken line (are_ends_in (is_flagged c.args.marks.now)) c.args.imports.now c.loop-import.import-index _ c.loop-import-test.true in
     record {
-      gathered = joined _ _ _ (string_bytes c.args.text.now) _ _ (string_bytes c.loop-import.text) (string_bytes c.push_inside.new.text) _ more c.loop-import.invariant.gathered c.in_ok-push_inside.ensures.gathered;
+      gathered = joined _ _ _ (string_bytes c.args.text.now) _ _ (string_bytes c.loop-import.text) (string_bytes c.push_internal.new.text) _ more c.loop-import.invariant.gathered c.in_ok-push_internal.ensures.gathered;
       failures = search rules;
     }

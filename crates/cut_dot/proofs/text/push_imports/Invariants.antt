@@ -1,16 +1,16 @@
 -- What was put and what is in hand are what was there and the lines so far.
 use Rattle.std.proofs.Common.{◌≡◌, ◌++◌, take}
 use Rattle.std.specs.String.{string_bytes}
-use Rattle.text_pieces.specs.Pieces.{PutsAllBut}
-use Rattle.cut_part.specs.Inside.{inside}
-use Rattle.cut_residual.specs.Graphs.{is_seen}
+use Rattle.byte_sink.specs.Pieces.{WritesAllBut}
+use Rattle.cut_part.specs.Subnetworks.{are_ends_in}
+use Rattle.residual_graph.specs.Graphs.{is_flagged}
 use Rattle.cut_dot.specs.Texts.{line_of_import}
 use Rattle.cut_dot.proofs.Passing.{lines}
 use Rattle.cut_dot.proofs.text.push_imports.Given as goal
 
 abbrev pub invariant-loop-import : goal.invariant-loop-import
 invariant-loop-import g l = record {
-  gathered : PutsAllBut (g.S.Sink.taken l.initial.sink) (g.S.Sink.taken l.sink)
-      (string_bytes l.initial.text ++ lines (line_of_import l.net l.removed l.flow) (inside (is_seen l.marks)) (take l.import-index l.imports)) (string_bytes l.text);
+  gathered : WritesAllBut (g.S.Sink.taken l.initial.sink) (g.S.Sink.taken l.sink)
+      (string_bytes l.initial.text ++ lines (line_of_import l.net l.removed l.flow) (are_ends_in (is_flagged l.marks)) (take l.import-index l.imports)) (string_bytes l.text);
   failures : g.S.Sink.failures l.sink ≡ g.S.Sink.failures l.initial.sink;
 }

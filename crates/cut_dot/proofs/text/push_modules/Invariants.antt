@@ -2,8 +2,8 @@
 use Rattle.std.proofs.Common.{◌≡◌, ◌++◌}
 use Rattle.std.specs.List.{range_with_len}
 use Rattle.std.specs.String.{string_bytes}
-use Rattle.text_pieces.specs.Pieces.{PutsAllBut}
-use Rattle.cut_residual.specs.Graphs.{is_seen}
+use Rattle.byte_sink.specs.Pieces.{WritesAllBut}
+use Rattle.residual_graph.specs.Graphs.{is_flagged}
 use Rattle.cut_dot.specs.Pictures.{is_drawn}
 use Rattle.cut_dot.specs.Texts.{line_of_module}
 use Rattle.cut_dot.proofs.Passing.{lines}
@@ -11,7 +11,7 @@ use Rattle.cut_dot.proofs.text.push_modules.Given as goal
 
 abbrev pub invariant-loop-node : goal.invariant-loop-node
 invariant-loop-node g l = record {
-  gathered : PutsAllBut (g.S.Sink.taken l.initial.sink) (g.S.Sink.taken l.sink)
-      (string_bytes l.initial.text ++ lines (line_of_module l.net l.from l.to (is_seen l.reached)) (is_drawn l.from l.to (is_seen l.marks)) (range_with_len 0 l.node)) (string_bytes l.text);
+  gathered : WritesAllBut (g.S.Sink.taken l.initial.sink) (g.S.Sink.taken l.sink)
+      (string_bytes l.initial.text ++ lines (line_of_module l.net l.from l.to (is_flagged l.reached)) (is_drawn l.from l.to (is_flagged l.marks)) (range_with_len 0 l.node)) (string_bytes l.text);
   failures : g.S.Sink.failures l.sink ≡ g.S.Sink.failures l.initial.sink;
 }

@@ -10,7 +10,7 @@ use Rattle.cut_net.proofs.numbering.numbered.Goals as goal
 
 pub loop-ends-preserved : goal.loop-ends-preserved
 loop-ends-preserved c =
-    let old = texts c.args.draft.now.names.keys in
+    let old = texts c.args.builder.now.names.keys in
     let names = texts c.args.names.now in
     let are : AreNumbers old names c.deref.result.now = rw (c.deref.ensures.value, ← c.as_slice.ensures.keys) c.in_ok-numbers.ensures.numbers in
     let within = rw (length-map c.args.names.now string_bytes) at (c.renumbered.ensures.between old names are) in

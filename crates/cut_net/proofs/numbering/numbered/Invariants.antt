@@ -6,4 +6,4 @@ use Rattle.cut_net.specs.WellFormed.{AreBetween}
 use Rattle.cut_net.proofs.numbering.numbered.Given as goal
 
 abbrev pub invariant-loop-ends : goal.invariant-loop-ends
-invariant-loop-ends l = AreBetween l.imports.items (length l.names) × (map (import_line (texts l.names)) l.imports.items ≡ map (entry_line (texts l.draft.names.keys)) (map deref_pair l.yielded))
+invariant-loop-ends l = AreBetween l.imports.items (length l.names) × (map (import_line (texts l.names)) l.imports.items ≡ map (entry_line (texts l.builder.names.keys)) (map deref_pair l.yielded))

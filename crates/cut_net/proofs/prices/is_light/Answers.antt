@@ -5,8 +5,8 @@ use Rattle.cut_net.proofs.prices.is_light.Goals as goal
 pub returns-then-weight-total : goal.returns-then-weight-total
 returns-then-weight-total c = grind (arith, common_steps)
 
-pub loop-standing-preserved : goal.loop-standing-preserved
-loop-standing-preserved c = grind (arith, common_steps)
+pub loop-pin_state-preserved : goal.loop-pin_state-preserved
+loop-pin_state-preserved c = grind (arith, common_steps)
 
 pub returns : goal.returns
 returns c = grind (arith, common_steps)

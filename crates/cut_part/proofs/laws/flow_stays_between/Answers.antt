@@ -1,4 +1,4 @@
-use Rattle.cut_part.proofs.Inside.{flow_in_part, none_outside}
+use Rattle.cut_part.proofs.Subnetworks.{flow_in_part, none_outside}
 use Rattle.cut_part.proofs.laws.flow_stays_between.Goals as goal
 
 pub returns : goal.returns

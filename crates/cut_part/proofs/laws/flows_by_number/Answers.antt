@@ -4,8 +4,8 @@ use Rattle.cut_part.proofs.laws.flows_by_number.Goals as goal
 pub returns-clause-ascending : goal.returns-clause-ascending
 returns-clause-ascending c = ascending_apart
 
-pub returns-clause-turned : goal.returns-clause-turned
-returns-clause-turned c = turned_apart
+pub returns-clause-reversed : goal.returns-clause-reversed
+returns-clause-reversed c = turned_apart
 
 pub returns-clause-number : goal.returns-clause-number
 returns-clause-number c = flow_by_number

@@ -1,4 +1,4 @@
-use Rattle.cut_part.proofs.Narrowing.{lowered_all}
+use Rattle.cut_part.proofs.CapacityReduction.{lowered_all}
 use Rattle.cut_part.proofs.laws.steps_keep_flows.Goals as goal
 
 pub returns : goal.returns

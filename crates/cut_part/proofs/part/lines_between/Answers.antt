@@ -4,9 +4,9 @@ use Rattle.cut_part.proofs.part.lines_between.Goals as goal
 
 pub imports_between-requires-clause-between : goal.imports_between-requires-clause-between
 imports_between-requires-clause-between c =
-    rw (c.imports.ensures, c.requires.marks) c.keeps.ensures.network.between
+    rw (c.imports.ensures, c.requires.marks) c.invariants.ensures.network.between
 
 pub imports_between-requires-2-clause-between : goal.imports_between-requires-2-clause-between
 imports_between-requires-2-clause-between c =
     rw (c.pins.ensures, c.requires.marks)
-    (pins_between c.args.net.now (length c.args.net.now.names) c.keeps.ensures.network.between c.keeps.ensures.pins)
+    (pins_between c.args.net.now (length c.args.net.now.names) c.invariants.ensures.network.between c.invariants.ensures.pins)

@@ -1,6 +1,6 @@
 use Rattle.std.proofs.Common.{◌≡◌, ◌≤◌, ◌+◌, ◌++◌, ◌∷◌, [], ℕ, length, vec_len}
 use Rattle.digraph.specs.Spreading.{left_over}
-use Rattle.cut_part.specs.Narrowing.{import_in}
+use Rattle.cut_part.specs.CapacityReduction.{import_in}
 use Rattle.cut_part.specs.Reach.{IsFollowing, IsSpreading}
 use Rattle.cut_part.proofs.reach.follow.Given as goal
 

@@ -1,9 +1,9 @@
 use Rattle.std.proofs.Common.{◌≡◌, ◌≢◌, ◌∙◌, ◌++◌, [], ◌∷◌, length-set, get_or, sym, ap, subst}
 use Rattle.std.specs.Prelude.{All, AllPairs}
 use Rattle.std.proofs.lemmas.List.Elements.{All-push}
-use Rattle.cut_residual.specs.declared.arc.ResidualArc.{ResidualArc}
-use Rattle.cut_residual.specs.Graphs.{head, HasArc, IsResidualWalk}
-use Rattle.cut_residual.specs.OutArcs.{no_out_arc}
+use Rattle.residual_graph.specs.declared.arc.ResidualArc.{ResidualArc}
+use Rattle.residual_graph.specs.Graphs.{head, HasArc, IsResidualWalk}
+use Rattle.residual_graph.specs.OutArcs.{no_out_arc}
 use Rattle.cut_plain.specs.Levels.{Climbs, LeadsBack}
 use Rattle.cut_plain.proofs.Descending.{All-front, head_opposite, leads_forth, leads_off, leads_on, once_reversed}
 use Rattle.cut_plain.proofs.blocking.make_move.Goals as goal

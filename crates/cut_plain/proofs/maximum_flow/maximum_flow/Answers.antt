@@ -4,7 +4,7 @@ use Rattle.cut_plain.proofs.maximum_flow.maximum_flow.Goals as goal
 
 pub loop-alloc-smaller : goal.loop-alloc-smaller
 loop-alloc-smaller c =
-    measure_falls c.loop-alloc.graph.arcs c.raise.new.graph.arcs c.args.from c.args.to c.loop-alloc.invariant.balanced.0 c.in_ok-raise.ensures.same c.keeps.ensures.within
+    measure_falls c.loop-alloc.graph.arcs c.raise.new.graph.arcs c.args.from c.args.to c.loop-alloc.invariant.balanced.0 c.in_ok-raise.ensures.same c.invariants.ensures.within
     c.loop-alloc.invariant.balanced.1 c.in_ok-raise.ensures.raises
 
 pub loop-alloc-preserved : goal.loop-alloc-preserved

@@ -1,8 +1,8 @@
 use Rattle.std.proofs.Common.{◌≡◌, ◌≢◌, ◌+◌, sym, subst, arith}
 use Rattle.std.specs.Prelude.{All, AllPairs}
-use Rattle.cut_residual.specs.declared.arc.ResidualArc.{ResidualArc}
-use Rattle.cut_residual.specs.Flows.{IsBalanced}
-use Rattle.cut_residual.specs.Graphs.{HasResidual, HasArc, IsResidualWalk}
+use Rattle.residual_graph.specs.declared.arc.ResidualArc.{ResidualArc}
+use Rattle.residual_graph.specs.Flows.{IsBalanced}
+use Rattle.residual_graph.specs.Graphs.{HasResidual, HasArc, IsResidualWalk}
 use Rattle.cut_plain.proofs.maximum_flow.raise.Goals as goal
 
 pub augment-requires-clause-known : goal.augment-requires-clause-known

@@ -11,7 +11,7 @@ returns-clause-flow c = λ net a b events is ends quiet.
     let of = between_is net a b is ends in
     let kept = runs_keep flow_net events of in
     let s = run flow_net (opening flow_net) events in
-    c.near_with_pins.ensures.flow net a b (flow_on flow_net s) (value_of flow_net s) (has_flow net a b s of kept.flows kept quiet)
+    c.source_side_with_pins.ensures.flow net a b (flow_on flow_net s) (value_of flow_net s) (has_flow net a b s of kept.flows kept quiet)
 
 pub returns-clause-near : goal.returns-clause-near
 returns-clause-near c = λ net a b events modules is ends pins none quiet those.
@@ -19,4 +19,4 @@ returns-clause-near c = λ net a b events modules is ends pins none quiet those.
     let of = between_is net a b is ends in
     let kept = runs_keep flow_net events of in
     let are = near net a b (run flow_net (opening flow_net) events) of kept.flows kept quiet modules those in
-    λ m. (λ has. (c.near_with_pins.ensures.near net a b m pins none).1 ((are m).0 has), λ is_near. (are m).1 ((c.near_with_pins.ensures.near net a b m pins none).0 is_near))
+    λ m. (λ has. (c.source_side_with_pins.ensures.near net a b m pins none).1 ((are m).0 has), λ is_near. (are m).1 ((c.source_side_with_pins.ensures.near net a b m pins none).0 is_near))

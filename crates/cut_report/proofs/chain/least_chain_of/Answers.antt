@@ -9,10 +9,10 @@ use Rattle.cut_report.proofs.ChainImports.{least_as}
 use Rattle.cut_report.proofs.chain.least_chain_of.Goals as goal
 
 pub least_chain-requires-clause-between : goal.least_chain-requires-clause-between
-least_chain-requires-clause-between c = rw (c.as_slice.ensures.value, c.in_ok-edges.ensures, c.imports.ensures, c.nodes.ensures) (pairs_between c.args.net.now.imports _ c.keeps.ensures.network.between)
+least_chain-requires-clause-between c = rw (c.as_slice.ensures.value, c.in_ok-edges.ensures, c.imports.ensures, c.nodes.ensures) (pairs_between c.args.net.now.imports _ c.invariants.ensures.network.between)
 
 pub least_chain-requires-clause-ascending : goal.least_chain-requires-clause-ascending
-least_chain-requires-clause-ascending c = rw (c.as_slice.ensures.value, c.in_ok-edges.ensures, c.imports.ensures) (pairs_ascend c.args.net.now.imports c.keeps.ensures.network.imports_ascend)
+least_chain-requires-clause-ascending c = rw (c.as_slice.ensures.value, c.in_ok-edges.ensures, c.imports.ensures) (pairs_ascend c.args.net.now.imports c.invariants.ensures.network.imports_ascend)
 
 pub returns-clause-found : goal.returns-clause-found
 returns-clause-found c =

@@ -2,14 +2,14 @@ use Rattle.std.proofs.Common.{[], rules, arith}
 use Rattle.std.proofs.lemmas.Result.{err_from_is_err_and}
 use Rattle.cut_net.specs.NetText.{Module}
 use Rattle.cut_report.specs.NetLines.{ended_line}
-use Rattle.text_pieces.proofs.Joining.{front_joined, joined, lines_around, lines_more}
+use Rattle.byte_sink.proofs.Joining.{front_joined, joined, lines_around, lines_more}
 use Rattle.cut_report.proofs.net_writer.push_modules.Goals as goal
 
-pub returns-in_err-push_line-clause-broken : goal.returns-in_err-push_line-clause-broken
-returns-in_err-push_line-clause-broken g c =
+pub returns-in_err-push_line-clause-error_prefix : goal.returns-in_err-push_line-clause-error_prefix
+returns-in_err-push_line-clause-error_prefix g c =
     let p = err_from_is_err_and c.from_residual.result c.from_residual.ensures.1 in
     let around = lines_around Module ended_line c.args.net.now.names c.loop-node.node [] (omega arith) in
-    rw p.1 (front_joined _ _ _ _ _ _ _ _ _ around c.loop-node.invariant.gathered (rw c.name.ensures at c.in_err-push_line.ensures.broken))
+    rw p.1 (front_joined _ _ _ _ _ _ _ _ _ around c.loop-node.invariant.gathered (rw c.name.ensures at c.in_err-push_line.ensures.error_prefix))
 
 pub loop-node-preserved : goal.loop-node-preserved
 loop-node-preserved g c =

@@ -1,13 +1,13 @@
 -- What was put and what is in hand are what was there and the lines so far.
 use Rattle.std.proofs.Common.{◌≡◌, ◌++◌, take, map}
 use Rattle.std.specs.String.{string_bytes}
-use Rattle.text_pieces.specs.Pieces.{PutsAllBut}
+use Rattle.byte_sink.specs.Pieces.{WritesAllBut}
 use Rattle.cut_net.specs.NetText.{Module}
 use Rattle.cut_report.specs.NetLines.{ended_lines}
 use Rattle.cut_report.proofs.net_writer.push_modules.Given as goal
 
 abbrev pub invariant-loop-node : goal.invariant-loop-node
 invariant-loop-node g l = record {
-  gathered : PutsAllBut (g.S.Sink.taken l.initial.sink) (g.S.Sink.taken l.sink) (string_bytes l.initial.text ++ ended_lines (map Module (take l.node l.net.names))) (string_bytes l.text);
+  gathered : WritesAllBut (g.S.Sink.taken l.initial.sink) (g.S.Sink.taken l.sink) (string_bytes l.initial.text ++ ended_lines (map Module (take l.node l.net.names))) (string_bytes l.text);
   failures : g.S.Sink.failures l.sink ≡ g.S.Sink.failures l.initial.sink;
 }

@@ -11,16 +11,16 @@ use Rattle.cut_report.proofs.Reached.{reaches_as}
 use Rattle.cut_report.proofs.reach.reached_modules.Goals as goal
 
 pub nodes_after-requires-clause-between : goal.nodes_after-requires-clause-between
-nodes_after-requires-clause-between c = rw (c.as_slice.ensures.value, c.in_ok-edges.ensures, c.imports.ensures, c.nodes.ensures) (pairs_between c.args.net.now.imports _ c.keeps.ensures.network.between)
+nodes_after-requires-clause-between c = rw (c.as_slice.ensures.value, c.in_ok-edges.ensures, c.imports.ensures, c.nodes.ensures) (pairs_between c.args.net.now.imports _ c.invariants.ensures.network.between)
 
 pub nodes_after-requires-clause-ascending : goal.nodes_after-requires-clause-ascending
-nodes_after-requires-clause-ascending c = rw (c.as_slice.ensures.value, c.in_ok-edges.ensures, c.imports.ensures) (pairs_ascend c.args.net.now.imports c.keeps.ensures.network.imports_ascend)
+nodes_after-requires-clause-ascending c = rw (c.as_slice.ensures.value, c.in_ok-edges.ensures, c.imports.ensures) (pairs_ascend c.args.net.now.imports c.invariants.ensures.network.imports_ascend)
 
 pub nodes_after-requires-clause-acyclic : goal.nodes_after-requires-clause-acyclic
 nodes_after-requires-clause-acyclic c =
     let imports = c.args.net.now.imports in
     rw (c.as_slice.ensures.value, c.in_ok-edges.ensures, c.imports.ensures)
-    (acyclic_as (Imports imports Any) (edges.Leads (map edge_of imports)) (λ m n. ((same_graph imports m n).1, (same_graph imports m n).0)) c.keeps.ensures.network.acyclic)
+    (acyclic_as (Imports imports Any) (edges.Leads (map edge_of imports)) (λ m n. ((same_graph imports m n).1, (same_graph imports m n).0)) c.invariants.ensures.network.acyclic)
 
 pub returns-clause-exact : goal.returns-clause-exact
 returns-clause-exact c =

@@ -12,15 +12,15 @@ pub nodes_after-requires-clause-between : goal.nodes_after-requires-clause-betwe
 nodes_after-requires-clause-between c =
     let given = c.as_slice.ensures.value ∙ c.in_ok-edges.ensures ∙ ap (map edge_of) c.imports.ensures in
     rw (c.as_slice-2.ensures.value, c.nodes.ensures)
-    (imports_between c.args.net.now.imports _ _ c.put_in_order.new.edges.items c.in_ok-reversed.ensures given c.put_in_order.ensures.same _ c.keeps.ensures.network.between)
+    (imports_between c.args.net.now.imports _ _ c.sort_all.new.edges.items c.in_ok-reversed.ensures given c.sort_all.ensures.same _ c.invariants.ensures.network.between)
 
 pub nodes_after-requires-clause-acyclic : goal.nodes_after-requires-clause-acyclic
 nodes_after-requires-clause-acyclic c =
     let imports = c.args.net.now.imports in
     let given = c.as_slice.ensures.value ∙ c.in_ok-edges.ensures ∙ ap (map edge_of) c.imports.ensures in
     let reversed : AreReversed (edges.Leads c.as_slice-2.result.now) (Imports imports Any) =
-    rw c.as_slice-2.ensures.value (imports_reversed imports _ _ c.put_in_order.new.edges.items c.in_ok-reversed.ensures given c.put_in_order.ensures.same) in
-    acyclic_back (edges.Leads c.as_slice-2.result.now) (Imports imports Any) (λ m n. (reversed m n).0) c.keeps.ensures.network.acyclic
+    rw c.as_slice-2.ensures.value (imports_reversed imports _ _ c.sort_all.new.edges.items c.in_ok-reversed.ensures given c.sort_all.ensures.same) in
+    acyclic_back (edges.Leads c.as_slice-2.result.now) (Imports imports Any) (λ m n. (reversed m n).0) c.invariants.ensures.network.acyclic
 
 pub returns-clause-exact : goal.returns-clause-exact
 returns-clause-exact c =
@@ -28,7 +28,7 @@ returns-clause-exact c =
     let given = c.as_slice.ensures.value ∙ c.in_ok-edges.ensures ∙ ap (map edge_of) c.imports.ensures in
     let leads = edges.Leads c.as_slice-2.result.now in
     let reversed : AreReversed leads (Imports imports Any) =
-    rw c.as_slice-2.ensures.value (imports_reversed imports _ _ c.put_in_order.new.edges.items c.in_ok-reversed.ensures given c.put_in_order.ensures.same) in
+    rw c.as_slice-2.ensures.value (imports_reversed imports _ _ c.sort_all.new.edges.items c.in_ok-reversed.ensures given c.sort_all.ensures.same) in
     IfOk-weaker c.nodes_after.result _ _ (λ reaching exact n. (
       λ has. reaches_back leads (Imports imports Any) (λ i j. (reversed i j).0) c.args.to n ((exact n).0 has),
       λ reaches. (exact n).1 (reaches_back (Imports imports Any) leads (λ i j. (reversed j i).1) n c.args.to reaches),

@@ -1,13 +1,13 @@
 use Rattle.std.proofs.Common.{◌≡◌, ◌+◌, ◌≤◌, length}
-use Rattle.cut_report.specs.ReportLines.{IsFront}
-use Rattle.cut_report.specs.Drafts.{read_so_far_of}
+use Rattle.cut_report.specs.ReportLines.{IsPrefix}
+use Rattle.cut_report.specs.Builders.{builder_state_of}
 use Rattle.cut_report.proofs.Standings.{standing_lines}
 use Rattle.cut_report.proofs.reader.read_lines.Given as goal
 
 abbrev pub invariant-loop-line : goal.invariant-loop-line
 invariant-loop-line l = record {
-  front : IsFront l.net l.bytes (standing_lines l.net (read_so_far_of l.draft)) l.rest;
-  count : l.before ≡ length (standing_lines l.net (read_so_far_of l.draft));
+  prefix : IsPrefix l.net l.bytes (standing_lines l.net (builder_state_of l.builder)) l.rest;
+  count : l.before ≡ length (standing_lines l.net (builder_state_of l.builder));
   room : l.before + length l.rest ≤ length l.bytes;
 }
 

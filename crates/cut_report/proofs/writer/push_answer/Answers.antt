@@ -1,17 +1,17 @@
 use Rattle.std.proofs.Common.{ap, sym, ◌∙◌}
 use Rattle.std.specs.String.{string_bytes}
-use Rattle.cut_net.specs.Answers.{said_by}
-use Rattle.cut_net.specs.Said.{BlockedBy}
-use Rattle.cut_report.specs.ReportLine.{said_lines, written}
-use Rattle.text_pieces.proofs.Joining.{broken_as, gathered_as}
+use Rattle.cut_net.specs.Answers.{answer_claim}
+use Rattle.cut_net.specs.AnswerClaim.{BlockedBy}
+use Rattle.cut_report.specs.ReportLine.{answer_lines, written}
+use Rattle.byte_sink.proofs.Joining.{broken_as, gathered_as}
 use Rattle.cut_report.proofs.writer.push_answer.Goals as goal
 
 pub returns-in-Blocked-clause-gathered : goal.returns-in-Blocked-clause-gathered
 returns-in-Blocked-clause-gathered g c =
-    let lines = ap (λ chain. written (said_lines c.args.net.now (BlockedBy chain))) c.deref.ensures.value ∙ ap (λ answer. written (said_lines c.args.net.now (said_by answer))) (sym c.in-Blocked.is) in
+    let lines = ap (λ chain. written (answer_lines c.args.net.now (BlockedBy chain))) c.deref.ensures.value ∙ ap (λ answer. written (answer_lines c.args.net.now (answer_claim answer))) (sym c.in-Blocked.is) in
     gathered_as _ _ (string_bytes c.args.text.now) _ _ _ c.push_chain.result lines c.push_chain.ensures.gathered
 
-pub returns-in-Blocked-clause-broken : goal.returns-in-Blocked-clause-broken
-returns-in-Blocked-clause-broken g c =
-    let lines = ap (λ chain. written (said_lines c.args.net.now (BlockedBy chain))) c.deref.ensures.value ∙ ap (λ answer. written (said_lines c.args.net.now (said_by answer))) (sym c.in-Blocked.is) in
-    broken_as _ _ (string_bytes c.args.text.now) _ _ c.push_chain.result lines c.push_chain.ensures.broken
+pub returns-in-Blocked-clause-error_prefix : goal.returns-in-Blocked-clause-error_prefix
+returns-in-Blocked-clause-error_prefix g c =
+    let lines = ap (λ chain. written (answer_lines c.args.net.now (BlockedBy chain))) c.deref.ensures.value ∙ ap (λ answer. written (answer_lines c.args.net.now (answer_claim answer))) (sym c.in-Blocked.is) in
+    broken_as _ _ (string_bytes c.args.text.now) _ _ c.push_chain.result lines c.push_chain.ensures.error_prefix

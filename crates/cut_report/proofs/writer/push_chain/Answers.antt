@@ -3,7 +3,7 @@ use Rattle.std.specs.String.{string_bytes}
 use Rattle.std.proofs.lemmas.List.{append-nil, length-map}
 use Rattle.texts.specs.Fields.{ended, line_of}
 use Rattle.cut_net.specs.Network.{name_of}
-use Rattle.text_pieces.proofs.Joining.{broken_as, gathered_as}
+use Rattle.byte_sink.proofs.Joining.{broken_as, gathered_as}
 use Rattle.cut_report.proofs.Words.{chain_line}
 use Rattle.cut_report.proofs.writer.push_chain.Goals as goal
 
@@ -15,10 +15,10 @@ returns-clause-gathered g c =
     let line = chain_line names c.as_str.result.now (omega arith) (c.as_str.ensures.value ∙ c.in-Ok.ensures) in
     gathered_as _ _ (string_bytes c.args.text.now) _ _ _ c.push_line.result (ap ended line ∙ sym (append-nil (ended (line_of (codes "blocked" ∷ names))))) c.push_line.ensures.gathered
 
-pub returns-clause-broken : goal.returns-clause-broken
-returns-clause-broken g c =
+pub returns-clause-error_prefix : goal.returns-clause-error_prefix
+returns-clause-error_prefix g c =
     let names = map (name_of c.args.net.now) c.args.chain.now in
     let long = length-map c.args.chain.now (name_of c.args.net.now) in
     let some = c.requires.0 in
     let line = chain_line names c.as_str.result.now (omega arith) (c.as_str.ensures.value ∙ c.in-Ok.ensures) in
-    broken_as _ _ (string_bytes c.args.text.now) _ _ c.push_line.result (ap ended line ∙ sym (append-nil (ended (line_of (codes "blocked" ∷ names))))) c.push_line.ensures.broken
+    broken_as _ _ (string_bytes c.args.text.now) _ _ c.push_line.result (ap ended line ∙ sym (append-nil (ended (line_of (codes "blocked" ∷ names))))) c.push_line.ensures.error_prefix

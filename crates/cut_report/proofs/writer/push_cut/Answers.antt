@@ -1,7 +1,7 @@
 use Rattle.std.proofs.Common.{◌++◌, [], ◌∙◌, append-nil, map, sym, refl}
 use Rattle.std.specs.String.{string_bytes}
 use Rattle.std.proofs.lemmas.Result.{err_from_is_err_and, IfErr-weaker}
-use Rattle.text_pieces.proofs.Joining.{front_joined, front_more, joined}
+use Rattle.byte_sink.proofs.Joining.{front_joined, front_more, joined}
 use Rattle.cut_report.specs.ReportLine.{Weighs, flows, removes, written}
 use Rattle.cut_report.proofs.ReportPieces.{cut_lines, line}
 use Rattle.cut_report.proofs.Words.{on_ok}
@@ -13,21 +13,21 @@ push_removes-requires g c = rw c.as_slice.ensures.value c.requires.printed_betwe
 pub push_flows-requires : goal.push_flows-requires
 push_flows-requires g c = rw c.as_slice-2.ensures.value c.requires.flow_between
 
-pub returns-in_err-push_line-clause-broken : goal.returns-in_err-push_line-clause-broken
-returns-in_err-push_line-clause-broken g c =
+pub returns-in_err-push_line-clause-error_prefix : goal.returns-in_err-push_line-clause-error_prefix
+returns-in_err-push_line-clause-error_prefix g c =
     let p = err_from_is_err_and c.from_residual.result c.from_residual.ensures.1 in
     let net = c.args.net.now in
     let cut = c.args.cut.now in
-    rw p.1 (front_more _ _ (string_bytes c.args.text.now) (line (Weighs cut.weight)) (written (map (removes net) cut.imports.items ++ map (flows net) cut.flow.items)) _ refl c.in_err-push_line.ensures.broken)
+    rw p.1 (front_more _ _ (string_bytes c.args.text.now) (line (Weighs cut.weight)) (written (map (removes net) cut.imports.items ++ map (flows net) cut.flow.items)) _ refl c.in_err-push_line.ensures.error_prefix)
 
-pub returns-in_err-push_removes-clause-broken : goal.returns-in_err-push_removes-clause-broken
-returns-in_err-push_removes-clause-broken g c =
+pub returns-in_err-push_removes-clause-error_prefix : goal.returns-in_err-push_removes-clause-error_prefix
+returns-in_err-push_removes-clause-error_prefix g c =
     let p = err_from_is_err_and c.from_residual-in_err-push_removes.result c.from_residual-in_err-push_removes.ensures.1 in
     let net = c.args.net.now in
     let cut = c.args.cut.now in
     rw p.1 (front_joined _ _ _ (string_bytes c.args.text.now) (line (Weighs cut.weight)) (written (map (removes net) cut.imports.items)) (string_bytes c.push_line.new.text)
     (written (map (flows net) cut.flow.items)) _ (cut_lines net cut.weight cut.imports.items cut.flow.items) c.in_ok-push_line.ensures.gathered
-    (rw c.as_slice.ensures.value at c.in_err-push_removes.ensures.broken))
+    (rw c.as_slice.ensures.value at c.in_err-push_removes.ensures.error_prefix))
 
 pub returns-clause-gathered : goal.returns-clause-gathered
 returns-clause-gathered g c =
@@ -43,8 +43,8 @@ returns-clause-gathered g c =
     (cut_lines net cut.weight cut.imports.items cut.flow.items) first)
     (rw c.as_slice-2.ensures.value at c.push_flows.ensures.gathered)
 
-pub returns-clause-broken : goal.returns-clause-broken
-returns-clause-broken g c =
+pub returns-clause-error_prefix : goal.returns-clause-error_prefix
+returns-clause-error_prefix g c =
     let net = c.args.net.now in
     let cut = c.args.cut.now in
     let start = string_bytes c.args.text.now in
@@ -56,4 +56,4 @@ returns-clause-broken g c =
     IfErr-weaker c.push_flows.result _ _
     (λ fault. front_joined _ _ _ start (weight ++ removed) flown (string_bytes c.push_removes.new.text) [] _
     (cut_lines net cut.weight cut.imports.items cut.flow.items ∙ sym (append-nil ((weight ++ removed) ++ flown))) first)
-    (rw c.as_slice-2.ensures.value at c.push_flows.ensures.broken)
+    (rw c.as_slice-2.ensures.value at c.push_flows.ensures.error_prefix)

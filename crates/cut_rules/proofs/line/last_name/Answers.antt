@@ -17,4 +17,4 @@ pub returns : goal.returns
 returns c =
     let fields = c.args.fields.now in
     let end : c.unwrap_or-end.result ≡ position_or_len is_blank fields = c.unwrap_or-end.ensures ∙ ap (λ (o : Option ℕ). unwrap_or o (length fields)) c.blank_index.ensures ∙ index_or_len is_blank fields in
-    c.name_in.ensures ∙ ap named c.split_at.ensures.front ∙ sym (last_by fields c.unwrap_or-end.result end (ap is_idle (sym c.split_at.ensures.back) ∙ sym c.is_idle.ensures ∙ c.if-not-is_idle.false))
+    c.field_name.ensures ∙ ap named c.split_at.ensures.front ∙ sym (last_by fields c.unwrap_or-end.result end (ap is_idle (sym c.split_at.ensures.back) ∙ sym c.is_idle.ensures ∙ c.if-not-is_idle.false))

@@ -3,4 +3,4 @@ use Rattle.digraph.specs.Marks.{marked}
 use Rattle.cut_rules.proofs.names.are_all_marked.Given as goal
 
 abbrev pub invariant-loop-place : goal.invariant-loop-place
-invariant-loop-place l = (k : ℕ) → k < l.place → marked l.marks k ≡ true
+invariant-loop-place l = (k : ℕ) → k < l.place → marked l.flags k ≡ true

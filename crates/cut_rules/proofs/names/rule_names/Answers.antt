@@ -29,16 +29,16 @@ loop-piece-preserved-in-Some-rule_in c =
     let at = piece_here pieces count c.in-Some.piece.now (slice_get_read pieces _ count c.in-Some.piece.now refl turn.0 turn.1) in
     let rule = c.in-Some-rule_in.rule in
     let here = sym c.in-Some-rule_in.ensures in
-    let (lines, are, long) = c.loop-piece.invariant.counted in
+    let (lines, elements, long) = c.loop-piece.invariant.counted in
     let added = c.in_ok-add_names.ensures in
     let next = length_push c.loop-piece.yielded c.in-Some.piece in
     let more = length_push lines (count + 1) in
     let before = c.loop-piece.invariant.few in
     record {
       few = omega arith;
-      counted = (lines ++ (count + 1) ∷ [], subst (λ (n : ℕ). AreLinesOf (IsRule pieces) n (lines ++ (count + 1) ∷ [])) (sym next) (rule_counted pieces count c.in-Some.piece.now at rule.0.now rule.1.now lines here are), omega arith);
+      counted = (lines ++ (count + 1) ∷ [], subst (λ (n : ℕ). AreLinesOf (IsRule pieces) n (lines ++ (count + 1) ∷ [])) (sym next) (rule_counted pieces count c.in-Some.piece.now at rule.0.now rule.1.now lines here elements), omega arith);
       noted = subst (λ (n : ℕ). AreNotedWithin c.args.net.now pieces n c.add_names.new.names.keys) (sym next)
-          (rule_noted pieces count c.in-Some.piece.now at c.args.net.now rule.0.now rule.1.now lines c.loop-piece.names.keys c.add_names.new.names.keys here are added.kept (λ le. added.noted (omega arith)) added.apart c.loop-piece.invariant.noted);
+          (rule_noted pieces count c.in-Some.piece.now at c.args.net.now rule.0.now rule.1.now lines c.loop-piece.names.keys c.add_names.new.names.keys here elements added.retained (λ le. added.noted (omega arith)) added.apart c.loop-piece.invariant.noted);
     }
 
 pub loop-piece-preserved : goal.loop-piece-preserved
@@ -50,12 +50,12 @@ loop-piece-preserved c =
     let count = length c.loop-piece.yielded in
     let at = piece_here pieces count c.in-Some.piece.now (slice_get_read pieces _ count c.in-Some.piece.now refl turn.0 turn.1) in
     let none = sym c.in_default.ensures in
-    let (lines, are, long) = c.loop-piece.invariant.counted in
+    let (lines, elements, long) = c.loop-piece.invariant.counted in
     let next = length_push c.loop-piece.yielded c.in-Some.piece in
     let before = c.loop-piece.invariant.few in
     record {
       few = omega arith;
-      counted = (lines, subst (λ (n : ℕ). AreLinesOf (IsRule pieces) n lines) (sym next) (others_counted pieces count c.in-Some.piece.now at lines none are), long);
+      counted = (lines, subst (λ (n : ℕ). AreLinesOf (IsRule pieces) n lines) (sym next) (others_counted pieces count c.in-Some.piece.now at lines none elements), long);
       noted = subst (λ (n : ℕ). AreNotedWithin c.args.net.now pieces n c.loop-piece.names.keys) (sym next) (others_noted pieces count c.in-Some.piece.now at c.args.net.now c.loop-piece.names.keys none c.loop-piece.invariant.noted);
     }
 

@@ -1,4 +1,4 @@
-use Rattle.cut_rules.specs.Drafts.{AreEmptySets}
+use Rattle.cut_rules.specs.Builders.{AreEmptySets}
 use Rattle.cut_rules.proofs.table.empty_sets.Given as goal
 
 abbrev pub invariant-loop : goal.invariant-loop

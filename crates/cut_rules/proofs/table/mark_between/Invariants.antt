@@ -5,6 +5,6 @@ use Rattle.cut_rules.proofs.table.mark_between.Given as goal
 
 abbrev pub invariant-loop-place : goal.invariant-loop-place
 invariant-loop-place l = record {
-  marks : (k : ℕ) → (marked l.marks k ≡ true) ↔ ((marked l.initial.marks k ≡ true) ⊎ ((l.fn.from ≤ k) × (k < l.place)));
+  flags : (k : ℕ) → (marked l.flags k ≡ true) ↔ ((marked l.initial.flags k ≡ true) ⊎ ((l.fn.from ≤ k) × (k < l.place)));
   within : (l.place ≤ l.fn.to) ⊎ (l.place ≡ l.fn.from);
 }

@@ -4,43 +4,43 @@ use Rattle.cut_net.specs.declared.priced.Priced.{Priced}
 use Rattle.cut_net.specs.Lines.{removed_by, IsCutAnswer}
 use Rattle.cut_net.specs.Cuts.{leaves, Chain, IsCheapest, Outside}
 use Rattle.cut_net.specs.WellFormed.{AreBetween}
-use Rattle.cut_residual.specs.Graphs.{is_seen}
+use Rattle.residual_graph.specs.Graphs.{is_flagged}
 use Rattle.cut_solve.specs.Lines.{is_printed}
 use Rattle.cut_solve.proofs.Answering.{answered, cheapest}
 use Rattle.cut_solve.proofs.Listing.{kept_within}
 use Rattle.cut_solve.proofs.cutting.minimum_cut.Goals as goal
 
-pub far_from-requires-clause-between : goal.far_from-requires-clause-between
-far_from-requires-clause-between c =
-    let between = subst (λ v. AreBetween v (length c.args.net.now.names)) (sym c.imports-imports.ensures) c.keeps.ensures.network.between in
+pub sink_side_of-requires-clause-between : goal.sink_side_of-requires-clause-between
+sink_side_of-requires-clause-between c =
+    let between = subst (λ v. AreBetween v (length c.args.net.now.names)) (sym c.imports-imports.ensures) c.invariants.ensures.network.between in
     subst (AreBetween c.imports-imports.result.now) (sym c.nodes.ensures) between
 
-pub far_from-requires-clause-near : goal.far_from-requires-clause-near
-far_from-requires-clause-near c = c.requires.greatest.size ∙ sym c.nodes.ensures
+pub sink_side_of-requires-clause-source_side : goal.sink_side_of-requires-clause-source_side
+sink_side_of-requires-clause-source_side c = c.requires.greatest.size ∙ sym c.nodes.ensures
 
-pub printed_of-requires-clause-near : goal.printed_of-requires-clause-near
-printed_of-requires-clause-near c =
-    let between = subst (λ v. AreBetween v (length c.args.net.now.names)) (sym c.imports-imports.ensures) c.keeps.ensures.network.between in
+pub reported_imports-requires-clause-source_side : goal.reported_imports-requires-clause-source_side
+reported_imports-requires-clause-source_side c =
+    let between = subst (λ v. AreBetween v (length c.args.net.now.names)) (sym c.imports-imports.ensures) c.invariants.ensures.network.between in
     subst (AreBetween c.imports-imports.result.now) (sym c.requires.greatest.size) between
 
-pub printed_of-requires-clause-far : goal.printed_of-requires-clause-far
-printed_of-requires-clause-far c =
-    let between = subst (λ v. AreBetween v (length c.args.net.now.names)) (sym c.imports-imports.ensures) c.keeps.ensures.network.between in
-    subst (AreBetween c.imports-imports.result.now) (sym (ap length c.deref.ensures.value ∙ c.in_ok-far.ensures.size ∙ c.nodes.ensures)) between
+pub reported_imports-requires-clause-sink_side : goal.reported_imports-requires-clause-sink_side
+reported_imports-requires-clause-sink_side c =
+    let between = subst (λ v. AreBetween v (length c.args.net.now.names)) (sym c.imports-imports.ensures) c.invariants.ensures.network.between in
+    subst (AreBetween c.imports-imports.result.now) (sym (ap length c.deref.ensures.value ∙ c.in_ok-sink_side.ensures.size ∙ c.nodes.ensures)) between
 
 pub weight_of-weight-requires : goal.weight_of-weight-requires
 weight_of-weight-requires c =
     let imports = c.imports-imports.result.now in
-    let most = kept_within (is_printed c.args.near.now c.deref.result.now) imports in
-    let fits : sum_by (λ (i : Priced). i.amount) imports < 18446744073709551616 = subst (λ v. sum_by (λ (i : Priced). i.amount) v < 18446744073709551616) (sym c.imports-imports.ensures) c.keeps.ensures.network.fits in
+    let most = kept_within (is_printed c.args.source_side.now c.deref.result.now) imports in
+    let fits : sum_by (λ (i : Priced). i.amount) imports < 18446744073709551616 = subst (λ v. sum_by (λ (i : Priced). i.amount) v < 18446744073709551616) (sym c.imports-imports.ensures) c.invariants.ensures.network.fits in
     subst (λ v. sum_by (λ (i : Priced). i.amount) v < 18446744073709551616) (sym (c.deref-2.ensures.value ∙ c.in_ok-printed.ensures)) (omega arith)
 
-chains : (c : goal.After-drop-far-2) →
-    (m : ℕ) → (is_seen c.in_ok-far.far.items m ≡ true) ↔ Chain c.args.net.now.imports (Outside (leaves (is_seen c.args.near.now))) m c.args.to
-chains c = subst (λ v. (m : ℕ) → (is_seen c.in_ok-far.far.items m ≡ true) ↔ Chain v (Outside (leaves (is_seen c.args.near.now))) m c.args.to) c.imports-imports.ensures c.in_ok-far.ensures.far
+chains : (c : goal.After-drop-sink_side-2) →
+    (m : ℕ) → (is_flagged c.in_ok-sink_side.sink_side.items m ≡ true) ↔ Chain c.args.net.now.imports (Outside (leaves (is_flagged c.args.source_side.now))) m c.args.to
+chains c = subst (λ v. (m : ℕ) → (is_flagged c.in_ok-sink_side.sink_side.items m ≡ true) ↔ Chain v (Outside (leaves (is_flagged c.args.source_side.now))) m c.args.to) c.imports-imports.ensures c.in_ok-sink_side.ensures.sink_side
 
-printed_is : (c : goal.After-drop-far-2) → c.in_ok-printed.printed.items ≡ filter (is_printed c.args.near.now c.in_ok-far.far.items) c.args.net.now.imports
-printed_is c = c.in_ok-printed.ensures ∙ ap (λ (v : List Bool). filter (is_printed c.args.near.now v) c.imports-imports.result.now) c.deref.ensures.value ∙ ap (filter (is_printed c.args.near.now c.in_ok-far.far.items)) c.imports-imports.ensures
+printed_is : (c : goal.After-drop-sink_side-2) → c.in_ok-printed.printed.items ≡ filter (is_printed c.args.source_side.now c.in_ok-sink_side.sink_side.items) c.args.net.now.imports
+printed_is c = c.in_ok-printed.ensures ∙ ap (λ (v : List Bool). filter (is_printed c.args.source_side.now v) c.imports-imports.result.now) c.deref.ensures.value ∙ ap (filter (is_printed c.args.source_side.now c.in_ok-sink_side.sink_side.items)) c.imports-imports.ensures
 
 pub returns-clause-answer : goal.returns-clause-answer
 returns-clause-answer c =
@@ -48,7 +48,7 @@ returns-clause-answer c =
     let a = c.args.from in
     let b = c.args.to in
     let total_is : c.weight_of-weight.result ≡ sum_by (λ (i : Priced). i.amount) c.in_ok-printed.printed.items = c.weight_of-weight.ensures ∙ ap (sum_by (λ (i : Priced). i.amount)) c.deref-2.ensures.value in
-    let whole = answered net a b c.args.near.now c.in_ok-far.far.items c.args.flow.items c.keeps.ensures.network.imports_ascend c.keeps.ensures.network.between c.requires.from c.requires.greatest (chains c) in
+    let whole = answered net a b c.args.source_side.now c.in_ok-sink_side.sink_side.items c.args.flow.items c.invariants.ensures.network.imports_ascend c.invariants.ensures.network.between c.requires.from c.requires.greatest (chains c) in
     let at_printed = subst (λ v. IsCutAnswer net a b v (sum_by (λ (i : Priced). i.amount) v) c.args.flow.items) (sym (printed_is c)) whole in
     subst (λ n. IsCutAnswer net a b c.in_ok-printed.printed.items n c.args.flow.items) (sym total_is) at_printed
 
@@ -56,4 +56,4 @@ pub returns-clause-cheapest : goal.returns-clause-cheapest
 returns-clause-cheapest c =
     let net = c.args.net.now in
     subst (λ v. IsCheapest net c.args.from c.args.to (removed_by v)) (sym (printed_is c))
-    (cheapest net c.args.from c.args.to c.args.near.now c.in_ok-far.far.items c.args.flow.items c.keeps.ensures.network.imports_ascend c.keeps.ensures.network.between c.requires.from c.requires.greatest (chains c))
+    (cheapest net c.args.from c.args.to c.args.source_side.now c.in_ok-sink_side.sink_side.items c.args.flow.items c.invariants.ensures.network.imports_ascend c.invariants.ensures.network.between c.requires.from c.requires.greatest (chains c))

@@ -4,10 +4,10 @@ use Rattle.std.proofs.lemmas.Grind.{common_steps}
 use Rattle.cut_solve.proofs.printing.reversed_arcs.Goals as goal
 
 pub leaves-requires-clause-from : goal.leaves-requires-clause-from
-leaves-requires-clause-from c = (ends_in c.args.imports.now (length c.args.near.now) c.loop-i.i-index c.requires.between c.loop-i-test.true).0
+leaves-requires-clause-from c = (ends_in c.args.imports.now (length c.args.source_side.now) c.loop-i.i-index c.requires.between c.loop-i-test.true).0
 
 pub leaves-requires-clause-to : goal.leaves-requires-clause-to
-leaves-requires-clause-to c = (ends_in c.args.imports.now (length c.args.near.now) c.loop-i.i-index c.requires.between c.loop-i-test.true).1
+leaves-requires-clause-to c = (ends_in c.args.imports.now (length c.args.source_side.now) c.loop-i.i-index c.requires.between c.loop-i-test.true).1
 
 pub loop-i-preserved : goal.loop-i-preserved
 loop-i-preserved c = grind (arith, common_steps)

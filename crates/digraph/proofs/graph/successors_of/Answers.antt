@@ -5,11 +5,11 @@ use Rattle.digraph.specs.Edges.{predecessors, AreBetween}
 use Rattle.digraph.proofs.ByNode.{flipped_between, predecessors_flipped}
 use Rattle.digraph.proofs.graph.successors_of.Goals as goal
 
-pub rows_of-requires : goal.rows_of-requires
-rows_of-requires c = record {
-  between = subst (λ (es : List Edge). AreBetween es c.args.nodes) (sym (c.as_slice.ensures.value ∙ c.in_ok-turned.ensures)) (flipped_between c.args.edges.now c.args.nodes c.requires.between);
+pub predecessors_of-requires : goal.predecessors_of-requires
+predecessors_of-requires c = record {
+  between = subst (λ (es : List Edge). AreBetween es c.args.nodes) (sym (c.as_slice.ensures.value ∙ c.in_ok-rotated.ensures)) (flipped_between c.args.edges.now c.args.nodes c.requires.between);
 }
 
 pub returns-clause-rows : goal.returns-clause-rows
 returns-clause-rows c v =
-    c.in_ok-rows.ensures.rows v ∙ ap (λ (es : List Edge). predecessors es v) (c.as_slice.ensures.value ∙ c.in_ok-turned.ensures) ∙ predecessors_flipped c.args.edges.now v
+    c.in_ok-rows.ensures.rows v ∙ ap (λ (es : List Edge). predecessors es v) (c.as_slice.ensures.value ∙ c.in_ok-rotated.ensures) ∙ predecessors_flipped c.args.edges.now v

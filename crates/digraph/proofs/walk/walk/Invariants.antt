@@ -6,9 +6,9 @@ use Rattle.digraph.proofs.walk.walk.Given as goal
 
 abbrev pub invariant-steps : goal.invariant-steps
 invariant-steps l = record {
-  size : length l.place_of_node.items ≡ length l.endless.marks.items;
-  walking : Walking (Leads l.edges) (marked l.endless.marks.items) l.walk.items l.place_of_node.items l.at;
+  size : length l.place_of_node.items ≡ length l.core_nodes.marks.items;
+  walking : Walking (Leads l.edges) (marked l.core_nodes.marks.items) l.walk.items l.place_of_node.items l.at;
 }
 
 abbrev pub decreases-steps : goal.decreases-steps
-decreases-steps l = length l.endless.marks.items - vec_len l.walk
+decreases-steps l = length l.core_nodes.marks.items - vec_len l.walk

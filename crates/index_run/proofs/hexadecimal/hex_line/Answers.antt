@@ -5,7 +5,7 @@ use Rattle.std.proofs.lemmas.List.{nil_from_length}
 use Rattle.std.proofs.lemmas.Bool.Decides.{nat_tests}
 use Rattle.std.proofs.lemmas.Result.{err_from_is_err_and}
 use Rattle.hex.specs.Hex.{encode_lower, encode_with}
-use Rattle.text_pieces.proofs.Joining.{front_joined, joined, puts_then, some_front}
+use Rattle.byte_sink.proofs.Joining.{front_joined, joined, puts_then, some_front}
 use Rattle.index_run.proofs.Digits.{digits_of_both, line_around, line_so_far, part_more}
 use Rattle.index_run.proofs.hexadecimal.hex_line.Goals as goal
 
@@ -28,27 +28,27 @@ loop-rest-preserved g c =
       failures = search rules;
     }
 
-pub returns-in_err-push_digits-clause-puts : goal.returns-in_err-push_digits-clause-puts
-returns-in_err-push_digits-clause-puts g c =
+pub returns-in_err-push_digits-clause-writes : goal.returns-in_err-push_digits-clause-writes
+returns-in_err-push_digits-clause-writes g c =
     let p = err_from_is_err_and c.from_residual.result c.from_residual.ensures.1 in
     let so_far = c.loop-rest.invariant.gathered in
     let rest = c.loop-rest.rest.now in
     let k = c.min-end.result in
     rw p.1 (front_joined _ _ _ [] (encode_lower so_far.0) (encode_lower (take k rest)) (string_bytes c.loop-rest.text) (encode_lower (drop k rest) ++ 10 ∷ []) _
-    (line_around c.args.bytes.now so_far.0 rest (10 ∷ []) k so_far.1) so_far.2 c.in_err-push_digits.ensures.broken)
+    (line_around c.args.bytes.now so_far.0 rest (10 ∷ []) k so_far.1) so_far.2 c.in_err-push_digits.ensures.error_prefix)
 
-pub returns-in_default-clause-puts : goal.returns-in_default-clause-puts
-returns-in_default-clause-puts g c =
+pub returns-in_default-clause-writes : goal.returns-in_default-clause-writes
+returns-in_default-clause-writes g c =
     let so_far = c.loop-rest.invariant.gathered in
     let rest = c.loop-rest.rest.now in
     some_front _ _ [] (encode_lower so_far.0) (string_bytes c.loop-rest.text) (encode_lower rest ++ 10 ∷ []) _ (line_so_far c.args.bytes.now so_far.0 rest (10 ∷ []) so_far.1) so_far.2
 
-pub returns-clause-puts : goal.returns-clause-puts
-returns-clause-puts g c =
+pub returns-clause-writes : goal.returns-clause-writes
+returns-clause-writes g c =
     let so_far = c.loop-rest.invariant.gathered in
     let none : c.loop-rest.rest.now ≡ [] = nil_from_length c.loop-rest.rest.now (grind (arith, nat_tests, c.is_empty.ensures, c.loop-rest-test.false)) in
     let whole = so_far.1 ∙ ap (λ (t : List ℕ). so_far.0 ++ t) none ∙ append-nil so_far.0 in
     let text = string_bytes c.loop-rest.text in
     let all = joined _ _ _ [] (encode_lower so_far.0) (10 ∷ []) text (text ++ 10 ∷ []) (encode_lower c.args.bytes.now ++ 10 ∷ []) (ap (λ (t : List ℕ). encode_lower t ++ 10 ∷ []) whole) so_far.2
     ([], refl, Appends-nil (g.S.Sink.taken c.loop-rest.sink)) in
-    puts_then _ _ _ _ (text ++ 10 ∷ []) c.put_all.result all (rw (c.as_bytes.ensures.value, c.in-Ok.ensures.bytes) at c.put_all.ensures.puts)
+    puts_then _ _ _ _ (text ++ 10 ∷ []) c.write_fully.result all (rw (c.as_bytes.ensures.value, c.in-Ok.ensures.bytes) at c.write_fully.ensures.writes)

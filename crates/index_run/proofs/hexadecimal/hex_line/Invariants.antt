@@ -2,12 +2,12 @@
 use Rattle.std.proofs.Common.{◌≡◌, ℕ, List, ◌++◌, length}
 use Rattle.std.specs.String.{string_bytes}
 use Rattle.hex.specs.Hex.{encode_lower}
-use Rattle.text_pieces.specs.Pieces.{PutsAllBut}
+use Rattle.byte_sink.specs.Pieces.{WritesAllBut}
 use Rattle.index_run.proofs.hexadecimal.hex_line.Given as goal
 
 abbrev pub invariant-loop-rest : goal.invariant-loop-rest
 invariant-loop-rest g l = record {
-  gathered : (done : List ℕ) × (l.bytes ≡ done ++ l.rest) × PutsAllBut (g.S.Sink.taken l.initial.sink) (g.S.Sink.taken l.sink) (encode_lower done) (string_bytes l.text);
+  gathered : (done : List ℕ) × (l.bytes ≡ done ++ l.rest) × WritesAllBut (g.S.Sink.taken l.initial.sink) (g.S.Sink.taken l.sink) (encode_lower done) (string_bytes l.text);
   failures : g.S.Sink.failures l.sink ≡ g.S.Sink.failures l.initial.sink;
 }
 

@@ -1,5 +1,5 @@
 use Rattle.std.proofs.Common.{◌≡◌, ◌+◌, length}
-use Rattle.proto_wire.specs.Inside.{records_of}
+use Rattle.proto_wire.specs.MessageBytes.{records_of}
 use Rattle.proto_wire.specs.Messages.{bytes_in, each_of}
 use Rattle.index_store.proofs.direct.lacks_symbol.Given as goal
 

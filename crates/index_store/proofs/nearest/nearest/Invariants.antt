@@ -1,6 +1,6 @@
 use Rattle.std.proofs.Common.{◌≡◌, None, take}
 use Rattle.std.specs.Prelude.{fold}
-use Rattle.index_store.specs.Asked.{covering_span, nearer}
+use Rattle.index_store.specs.TableLookup.{covering_span, nearer}
 use Rattle.index_store.proofs.nearest.nearest.Given as goal
 
 abbrev pub invariant-loop-row : goal.invariant-loop-row

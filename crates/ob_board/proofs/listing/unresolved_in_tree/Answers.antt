@@ -1,7 +1,7 @@
 use Rattle.std.proofs.Common.{List, map, subst}
-use Rattle.ob_board.specs.Reached.{SeenFile}
+use Rattle.ob_board.specs.Reached.{FileModel}
 use Rattle.ob_board.proofs.SeenFiles.{parts_seen, seen_are}
-use Rattle.ob_board.specs.Unresolved.{plain_unresolved, IsUnresolvedOf}
+use Rattle.ob_board.specs.Unresolved.{unresolved_model, IsUnresolvedOf}
 use Rattle.ob_board.proofs.listing.unresolved_in_tree.Goals as goal
 
 pub listed-rows-requires-clause-seen : goal.listed-rows-requires-clause-seen
@@ -16,5 +16,5 @@ returns-clause-exact g c =
     record {
       files = files;
       is_tree = record { accepted = of.all.accepted; graph = tree.graph; kept = of.kept; acyclic = of.acyclic };
-      are_rows = subst (λ (fs : List SeenFile). IsUnresolvedOf fs (map plain_unresolved c.in_ok-rows.field-0.items)) (seen_are c.args.sources.now files tree.modules.items of.all) c.in_ok-rows.ensures;
+      are_rows = subst (λ (fs : List FileModel). IsUnresolvedOf fs (map unresolved_model c.in_ok-rows.field-0.items)) (seen_are c.args.sources.now files tree.modules.items of.all) c.in_ok-rows.ensures;
     }

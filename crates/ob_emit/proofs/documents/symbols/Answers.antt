@@ -1,6 +1,6 @@
 -- What stands for a name of an external module is a name, and a row more is the next reference's.
 use Rattle.std.proofs.Common.{ap, map}
-use Rattle.scip_index.specs.Plain.{plain_symbol}
+use Rattle.scip_index.specs.Plain.{symbol_model}
 use Rattle.ob_emit.specs.Documents.{symbol_row}
 use Rattle.ob_emit.proofs.Rows.{external_named, no_row, row_more, rows_done}
 use Rattle.ob_emit.proofs.documents.symbols.Goals as goal
@@ -16,16 +16,16 @@ loop-reference-preserved c = λ p made.
     elim c.match-branch-2.branch [
       | in-Some+in_ok-push w' ↦
           rw (w'.found-is, w'.in_ok-push.ensures.items)
-          (row_more plain_symbol (symbol_row w p) c.args.refs.now i _ c.loop-reference.found.items c.loop-reference-test.true (c.loop-reference.invariant p made) w'.in-Some.row c.in_ok-row.field-0
+          (row_more symbol_model (symbol_row w p) c.args.refs.now i _ c.loop-reference.found.items c.loop-reference-test.true (c.loop-reference.invariant p made) w'.in-Some.row c.in_ok-row.field-0
           (c.in_ok-row.ensures p made) w'.in-Some.is)
       | in_default w' ↦
           rw w'.found-is
-          (no_row plain_symbol (symbol_row w p) c.args.refs.now i _ c.loop-reference.found.items c.loop-reference-test.true (c.loop-reference.invariant p made) c.in_ok-row.field-0
+          (no_row symbol_model (symbol_row w p) c.args.refs.now i _ c.loop-reference.found.items c.loop-reference-test.true (c.loop-reference.invariant p made) c.in_ok-row.field-0
           (c.in_ok-row.ensures p made) w'.in_default.is)
     ]
 
 pub returns : goal.returns
-returns c = λ p made. rows_done plain_symbol (symbol_row c.args.types.now p) c.args.refs.now c.loop-reference.reference-index c.loop-reference.found.items c.loop-reference-test.false (c.loop-reference.invariant p made)
+returns c = λ p made. rows_done symbol_model (symbol_row c.args.types.now p) c.args.refs.now c.loop-reference.reference-index c.loop-reference.found.items c.loop-reference-test.false (c.loop-reference.invariant p made)
 
 pub loop-reference-init : goal.loop-reference-init
-loop-reference-init c = λ p made. ap (map plain_symbol) c.new-found.ensures.items
+loop-reference-init c = λ p made. ap (map symbol_model) c.new-found.ensures.items

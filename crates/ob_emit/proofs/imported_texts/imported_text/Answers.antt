@@ -29,7 +29,7 @@ returns-in_default c = λ p _.
     imported_none c.args.types.now p c.args.reached c.args.declaration (sym c.interface.ensures ∙ ap (option_map (λ (m : Bor Interface). m.now)) c.in_default.is)
 
 pub returns : goal.returns
-returns c = λ p front.
+returns c = λ p prefix.
     subst (λ (t : Option (List ℕ)). IfOk c.path_text.result (λ (text : Option (String Global)). option_map string_bytes text ≡ t))
-    (imported_text_is c.args.types.now p c.args.reached c.args.declaration c.in-Some.interface.now c.name.result.now c.args.front.now
-    (sym c.interface.ensures ∙ ap (option_map (λ (m : Bor Interface). m.now)) c.in-Some.is) c.name.ensures front) c.path_text.ensures
+    (imported_text_is c.args.types.now p c.args.reached c.args.declaration c.in-Some.interface.now c.name.result.now c.args.prefix.now
+    (sym c.interface.ensures ∙ ap (option_map (λ (m : Bor Interface). m.now)) c.in-Some.is) c.name.ensures prefix) c.path_text.ensures

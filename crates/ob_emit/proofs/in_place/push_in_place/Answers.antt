@@ -11,5 +11,5 @@ returns-then-size-lt-LONG g c =
     let field = c.args.field in
     let key = field * 8 + 2 in
     let is : c.push_into.new.out.items ≡ (old ++ key ∷ 0 ∷ []) ++ payload = c.in_ok-push_into.ensures.bytes ∙ ap (λ (bytes : List ℕ). bytes ++ payload) c.in_ok-extend_from_slice.ensures.items in
-    ok-then c.settle.result (c.settle.ensures old payload key is (omega (arith, c.args.out.now.ok.0)))
+    ok-then c.store_length.result (c.store_length.ensures old payload key is (omega (arith, c.args.out.now.ok.0)))
     (λ e. e ∙ headed old payload field key _ c.requires.few (omega arith) (omega (arith, c.args.out.now.ok.0, c.push_into.new.out.ok.0, ap length is, length-append (old ++ key ∷ 0 ∷ []) payload, length-append old (key ∷ 0 ∷ []))))

@@ -1,7 +1,7 @@
 use Rattle.std.proofs.Common.{subst}
 use Rattle.std.specs.Prelude.{Contains}
-use Rattle.ob_rows.specs.Parts.{Rows}
-use Rattle.ob_owners.proofs.OwnedModules.{owns_one}
+use Rattle.module_table.specs.Parts.{Rows}
+use Rattle.table_laws.proofs.OwnedModules.{owns_one}
 use Rattle.ob_emit.proofs.laws.trees_declare_once.Goals as goal
 
 pub returns : goal.returns

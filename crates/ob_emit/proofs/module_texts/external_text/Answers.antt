@@ -4,12 +4,12 @@ use Rattle.std.specs.Borrow.{Bor}
 use Rattle.std.specs.Prelude.{slice_get}
 use Rattle.std.specs.Option.{option_map}
 use Rattle.std.specs.String.{string_bytes}
-use Rattle.ob_rows.specs.declared.rows.Import.{Import}
+use Rattle.module_table.specs.declared.rows.Import.{Import}
 use Rattle.ob_emit.specs.Named.{IsName}
 use Rattle.ob_emit.proofs.Naming.{import_named}
 use Rattle.ob_emit.specs.Symbols.{descriptor, module_path}
-use Rattle.ob_emit.specs.Made.{path_text}
-use Rattle.scip_symbol.specs.SymbolTexts.{plain_descriptor_text}
+use Rattle.ob_emit.specs.StoredTexts.{path_text}
+use Rattle.scip_symbol.specs.SymbolTexts.{canonical_descriptor_text}
 use Rattle.scip_symbol.specs.declared.kind.DescriptorKind.TheVariants.{Term}
 use Rattle.ob_emit.proofs.Texting.{external_text_is}
 use Rattle.ob_emit.proofs.module_texts.external_text.Goals as goal
@@ -20,10 +20,10 @@ module_text-requires c =
     subst IsName (sym c.text.ensures) (import_named c.args.types.now c.requires.named c.in-Some.import.now c.args.item there)
 
 pub returns : goal.returns
-returns c = λ front.
+returns c = λ prefix.
     let w = c.args.types.now in
     let there : slice_get w.rows.imports c.args.item ≡ Some c.in-Some.import.now = sym c.import_at.ensures ∙ ap (option_map (λ (i : Bor Import). i.now)) c.in-Some.is in
     external_text_is w c.args.item c.args.name.now c.in-Some.import.now c.args.outside.now (string_bytes c.in_ok-out.out) (string_bytes c.push_step.new.out) there
-    front
+    prefix
     (c.in_ok-out.ensures ∙ ap (λ (x : List ℕ). c.args.outside.now ++ path_text (module_path x)) c.text.ensures)
-    (c.in_ok-push_step.ensures ∙ ap (λ (x : List ℕ). string_bytes c.in_ok-out.out ++ plain_descriptor_text (descriptor Term x)) c.name_of.ensures)
+    (c.in_ok-push_step.ensures ∙ ap (λ (x : List ℕ). string_bytes c.in_ok-out.out ++ canonical_descriptor_text (descriptor Term x)) c.name_of.ensures)

@@ -1,7 +1,7 @@
 -- What stands for a name of an external module is a name, and a row more is the next reference's.
 use Rattle.std.proofs.Common.{ap, map, ◌∙◌}
 use Rattle.ob_targets.specs.declared.target.Reference.{Reference}
-use Rattle.scip_index.specs.Plain.{plain_symbol}
+use Rattle.scip_index.specs.Plain.{symbol_model}
 use Rattle.ob_emit.specs.Externals.{external_row}
 use Rattle.ob_emit.proofs.Rows.{external_named, no_row, row_more, rows_done}
 use Rattle.ob_emit.proofs.outside.external_rows.Goals as goal
@@ -17,19 +17,19 @@ loop-reference-preserved c =
     elim c.match-branch-3.branch [
       | in-Some+in_ok-push w' ↦
           rw (w'.found-is, w'.in_ok-push.ensures.items)
-          (row_more plain_symbol (λ (r : Reference). external_row w r.target) c.args.refs.now i _ c.loop-reference.found.items c.loop-reference-test.true c.loop-reference.invariant w'.in-Some.row c.in_ok-row.field-0
+          (row_more symbol_model (λ (r : Reference). external_row w r.target) c.args.refs.now i _ c.loop-reference.found.items c.loop-reference-test.true c.loop-reference.invariant w'.in-Some.row c.in_ok-row.field-0
           c.in_ok-row.ensures w'.in-Some.is)
       | in_default w' ↦
           rw w'.found-is
-          (no_row plain_symbol (λ (r : Reference). external_row w r.target) c.args.refs.now i _ c.loop-reference.found.items c.loop-reference-test.true c.loop-reference.invariant c.in_ok-row.field-0
+          (no_row symbol_model (λ (r : Reference). external_row w r.target) c.args.refs.now i _ c.loop-reference.found.items c.loop-reference-test.true c.loop-reference.invariant c.in_ok-row.field-0
           c.in_ok-row.ensures w'.in_default.is)
     ]
 
 pub loop-reference-init : goal.loop-reference-init
-loop-reference-init c = ap (map plain_symbol) c.new-found.ensures.items
+loop-reference-init c = ap (map symbol_model) c.new-found.ensures.items
 
 pub returns : goal.returns
-returns c = rows_done plain_symbol (λ (r : Reference). external_row c.args.types.now r.target) c.args.refs.now c.loop-reference.reference-index c.loop-reference.found.items c.loop-reference-test.false c.loop-reference.invariant
+returns c = rows_done symbol_model (λ (r : Reference). external_row c.args.types.now r.target) c.args.refs.now c.loop-reference.reference-index c.loop-reference.found.items c.loop-reference-test.false c.loop-reference.invariant
 
-pub external_row-requires-clause-front : goal.external_row-requires-clause-front
-external_row-requires-clause-front c = c.as_str.ensures.value ∙ c.in_ok-outside.ensures
+pub external_row-requires-clause-prefix : goal.external_row-requires-clause-prefix
+external_row-requires-clause-prefix c = c.as_str.ensures.value ∙ c.in_ok-outside.ensures

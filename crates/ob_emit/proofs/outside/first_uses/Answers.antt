@@ -3,7 +3,7 @@ use Rattle.std.proofs.Common.{◌≡◌, false, not, sym, ap, ◌∙◌}
 use Rattle.std.specs.Option.{option_and_then}
 use Rattle.std.proofs.lemmas.Bool.{not-false}
 use Rattle.indexmap.specs.IndexSet.{contains}
-use Rattle.ob_emit.specs.Made.{outside_row, same_outside}
+use Rattle.ob_emit.specs.StoredTexts.{outside_row, is_same_outside_key}
 use Rattle.ob_emit.proofs.FirstUses.{all_firsts, first_more, none_yet, nothing_more, seen_more}
 use Rattle.ob_emit.proofs.outside.first_uses.Goals as goal
 use Rattle.ob_emit.proofs.outside.first_uses.Goals.{in-Some+in_ok-insert+then-branch+in_ok-push, in-Some+in_ok-insert+else-branch, in_default}
@@ -17,19 +17,19 @@ loop-reference-preserved c =
     let refs = c.args.refs.now in
     let i = c.loop-reference.reference-index in
     let old = c.loop-reference.seen in
-    let kept = c.loop-reference.found.items in
+    let stored_text = c.loop-reference.found.items in
     elim c.match-outside_key.branch [
       | in-Some+in_ok-insert+then-branch+in_ok-push x ↦
           rw (x.seen-is, x.found-is, x.in_ok-push.ensures.items)
-          (first_more w refs i _ c.loop-reference-test.true old kept c.loop-reference.invariant x.insert.new.self x.in-Some.key (sym (ap (option_and_then (outside_row w)) x.in-Some.is) ∙ c.outside_key.ensures) x.in_ok-insert.ensures.updates.0)
+          (first_more w refs i _ c.loop-reference-test.true old stored_text c.loop-reference.invariant x.insert.new.self x.in-Some.key (sym (ap (option_and_then (outside_row w)) x.in-Some.is) ∙ c.outside_key.ensures) x.in_ok-insert.ensures.updates.0)
       | in-Some+in_ok-insert+else-branch x ↦
-          let known : not (contains same_outside old x.in-Some.key) ≡ false = sym x.in_ok-insert.ensures.added ∙ x.if-branch.false in
+          let known : not (contains is_same_outside_key old x.in-Some.key) ≡ false = sym x.in_ok-insert.ensures.added ∙ x.if-branch.false in
           rw (x.seen-is, x.found-is)
-          (seen_more w refs i _ c.loop-reference-test.true old kept c.loop-reference.invariant x.insert.new.self x.in-Some.key (sym (ap (option_and_then (outside_row w)) x.in-Some.is) ∙ c.outside_key.ensures) x.in_ok-insert.ensures.updates.0
-          (not-false (contains same_outside old x.in-Some.key) known))
+          (seen_more w refs i _ c.loop-reference-test.true old stored_text c.loop-reference.invariant x.insert.new.self x.in-Some.key (sym (ap (option_and_then (outside_row w)) x.in-Some.is) ∙ c.outside_key.ensures) x.in_ok-insert.ensures.updates.0
+          (not-false (contains is_same_outside_key old x.in-Some.key) known))
       | in_default x ↦
           rw (x.seen-is, x.found-is)
-          (nothing_more w refs i _ c.loop-reference-test.true old kept c.loop-reference.invariant (sym (ap (option_and_then (outside_row w)) x.in_default.is) ∙ c.outside_key.ensures))
+          (nothing_more w refs i _ c.loop-reference-test.true old stored_text c.loop-reference.invariant (sym (ap (option_and_then (outside_row w)) x.in_default.is) ∙ c.outside_key.ensures))
     ]
 
 pub returns : goal.returns

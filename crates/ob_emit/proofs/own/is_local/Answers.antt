@@ -1,10 +1,10 @@
 -- The construct that was found.
-use Rattle.ob_rows.specs.Tables.{rows_in}
+use Rattle.module_table.specs.Tables.{rows_in}
 use Rattle.ob_emit.proofs.Declarers.{local_none, local_some}
 use Rattle.ob_emit.proofs.own.is_local.Goals as goal
 
 pub returns-in-Some : goal.returns-in-Some
-returns-in-Some c = local_some c.args.types.now (rows_in c.table.result.now) c.args.declared.now c.in-Some.by c.declarer_near.result c.table.ensures c.declarer_near.ensures c.in-Some.is
+returns-in-Some c = local_some c.args.types.now (rows_in c.table.result.now) c.args.declared.now c.in-Some.by c.declarer_by_hint.result c.table.ensures c.declarer_by_hint.ensures c.in-Some.is
 
 pub returns-in-None : goal.returns-in-None
-returns-in-None c = local_none c.args.types.now (rows_in c.table.result.now) c.args.declared.now c.declarer_near.result c.table.ensures c.declarer_near.ensures c.in-None.is
+returns-in-None c = local_none c.args.types.now (rows_in c.table.result.now) c.args.declared.now c.declarer_by_hint.result c.table.ensures c.declarer_by_hint.ensures c.in-None.is

@@ -7,5 +7,5 @@ use Rattle.ob_emit.proofs.records.push_document.Goals as goal
 pub returns : goal.returns
 unfolding written_document
 returns c = λ p made.
-    ok-then c.put_number.result c.put_number.ensures.bytes
-    (λ e. rw (e, c.in_ok-put_text-2.ensures, c.in_ok-push_symbols.ensures p (c.in_ok-push_occurrences.ensures.texts p made), c.room_for_symbols.ensures, c.in_ok-push_occurrences.ensures.bytes p made, c.in_ok-put_text.ensures) (simp (flat_map-append, append_assoc)))
+    ok-then c.write_number.result c.write_number.ensures.bytes
+    (λ e. rw (e, c.in_ok-write_text-2.ensures, c.in_ok-push_symbols.ensures p (c.in_ok-push_occurrences.ensures.texts p made), c.reserve_symbols.ensures, c.in_ok-push_occurrences.ensures.bytes p made, c.in_ok-write_text.ensures) (simp (flat_map-append, append_assoc)))

@@ -4,8 +4,8 @@ use Rattle.ob_emit.proofs.records.push_occurrence.Goals as goal
 
 pub returns-clause-texts : goal.returns-clause-texts
 returns-clause-texts c = λ p made.
-    let kept = c.in_ok-slot.ensures p made in
-    on_ok_weaker c.push_kept.result (λ _. kept) (c.push_kept.ensures p kept)
+    let stored_text = c.in_ok-slot.ensures p made in
+    on_ok_weaker c.push_stored.result (λ _. stored_text) (c.push_stored.ensures p stored_text)
 
 pub returns-clause-bytes : goal.returns-clause-bytes
-returns-clause-bytes c = λ p made. c.push_kept.ensures p (c.in_ok-slot.ensures p made)
+returns-clause-bytes c = λ p made. c.push_stored.ensures p (c.in_ok-slot.ensures p made)

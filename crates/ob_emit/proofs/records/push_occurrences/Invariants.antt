@@ -3,7 +3,7 @@ use Rattle.std.specs.List.{filter_map}
 use Rattle.proto_wire.specs.Writing.{payload_fields, spelled_fields}
 use Rattle.scip_index.specs.Written.{written_occurrence}
 use Rattle.ob_emit.specs.Documents.{occurrence}
-use Rattle.ob_emit.specs.Made.{AreSymbolTexts}
+use Rattle.ob_emit.specs.StoredTexts.{AreSymbolTexts}
 use Rattle.ob_emit.proofs.records.push_occurrences.Given as goal
 
 abbrev pub invariant-loop-reference : goal.invariant-loop-reference

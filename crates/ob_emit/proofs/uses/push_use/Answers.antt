@@ -8,6 +8,6 @@ returns c =
     let s = c.args.span.now in
     let text = c.args.symbol.now in
     ok-then c.push_role.result c.push_role.ensures
-    (λ e. rw (e, c.in_ok-extend_from_slice.ensures.items, c.in_ok-push_front.ensures, c.as_bytes.ensures.value)
+    (λ e. rw (e, c.in_ok-extend_from_slice.ensures.items, c.in_ok-push_prefix.ensures, c.as_bytes.ensures.value)
     (use_put c.args.out.now.items s.line s.column s.end (length text + 2 + c.role_size.result) text c.args.role c.requires.some c.requires.few c.requires.role_fits
     (ap (λ (n : ℕ). length text + 2 + n) c.role_size.ensures)))

@@ -5,7 +5,7 @@ use Rattle.std.specs.String.{string_bytes}
 use Rattle.std.proofs.lemmas.List.{length-map}
 use Rattle.digraph.specs.declared.edge.Edge.{Edge}
 use Rattle.digraph.specs.Chains.{IsAcyclic}
-use Rattle.digraph.specs.Cycle.{NamesCycle}
+use Rattle.digraph.specs.Cycle.{IsCanonicalCycle}
 use Rattle.digraph.specs.Edges.{AreBetween, Leads}
 use Rattle.digraph.specs.Ranks.{by_ranks}
 use Rattle.ob_imports.specs.Names.{texts}
@@ -56,8 +56,8 @@ returns-in-None-clause-none c =
     let none : IsAcyclic (Leads c.in_ok-others.others.items) = rw c.as_slice-2.ensures.value at (rw c.in-None.is at c.in_ok-cycle.ensures.none) in
     others_acyclic names c.args.order.now c.requires.order c.requires.once c.in_ok-ranks.ranks.items c.in_ok-ranks.ensures c.args.pairs.now c.in_ok-others.others.items between same none
 
-pub names_at-requires-clause-places : goal.names_at-requires-clause-places
-names_at-requires-clause-places c = rw c.as_slice-in-Some.ensures.value (rw c.in-Some.is at c.in_ok-cycle.ensures.within)
+pub names_in_order-requires-clause-places : goal.names_in_order-requires-clause-places
+names_in_order-requires-clause-places c = rw c.as_slice-in-Some.ensures.value (rw c.in-Some.is at c.in_ok-cycle.ensures.within)
 
 pub returns-clause-named : goal.returns-clause-named
 returns-clause-named c files led =
@@ -65,6 +65,6 @@ returns-clause-named c files led =
     let count = length-map c.args.names.now string_bytes in
     let between : AreBetween c.args.pairs.now (length names) = subst (AreBetween c.args.pairs.now) (sym count) c.requires.between in
     let same : (p : Edge) → Contains c.in_ok-others.others.items p ↔ Contains (map (by_ranks c.in_ok-ranks.ranks.items) c.args.pairs.now) p = rw c.as_slice.ensures.value at c.in_ok-others.ensures.same in
-    let named : NamesCycle (Leads c.in_ok-others.others.items) c.in-Some.cycle.items = rw c.as_slice-2.ensures.value at (rw c.in-Some.is at c.in_ok-cycle.ensures.named) in
+    let named : IsCanonicalCycle (Leads c.in_ok-others.others.items) c.in-Some.cycle.items = rw c.as_slice-2.ensures.value at (rw c.in-Some.is at c.in_ok-cycle.ensures.named) in
     others_cycle names c.args.order.now c.requires.order c.requires.once c.in_ok-ranks.ranks.items c.in_ok-ranks.ensures c.args.pairs.now c.in_ok-others.others.items between same files led c.in-Some.cycle.items _ named
-    (rw c.as_slice-in-Some.ensures.value at c.in_ok-names_at-in-Some.ensures)
+    (rw c.as_slice-in-Some.ensures.value at c.in_ok-names_in_order-in-Some.ensures)

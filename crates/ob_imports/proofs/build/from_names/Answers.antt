@@ -8,21 +8,21 @@ use Rattle.digraph.proofs.SameGraphs.{acyclic_as}
 use Rattle.ob_imports.specs.Files.{files_of, Imports}
 use Rattle.ob_imports.specs.Graphs.{graph_with}
 use Rattle.ob_imports.specs.Names.{texts, LeadsBy}
-use Rattle.ob_imports.specs.Numbering.{AreLed}
+use Rattle.ob_imports.specs.Numbering.{AreEdgesOf}
 use Rattle.ob_imports.specs.Outcomes.{IsCycleOf}
 use Rattle.ob_imports.proofs.ByName.{acyclic_names, between_names}
 use Rattle.ob_imports.proofs.KeptGraphs.{kept_graph}
 use Rattle.ob_imports.proofs.Nodes.{nodes_apart, nodes_known}
 use Rattle.ob_imports.proofs.build.from_names.Goals as goal
 
-pub order_of-requires-clause-few : goal.order_of-requires-clause-few
-order_of-requires-clause-few c =
+pub order_by_name-requires-clause-few : goal.order_by_name-requires-clause-few
+order_by_name-requires-clause-few c =
     let long = length-map c.args.names.keys string_bytes in
     let few = c.requires.few_names in
     rw c.as_slice.ensures.keys (omega arith)
 
-pub order_of-requires-clause-once : goal.order_of-requires-clause-once
-order_of-requires-clause-once c = rw c.as_slice.ensures.keys (nodes_apart (files_of c.args.parsed.now) (texts c.args.names.keys) c.requires.are_files.differ c.requires.is_graph.nodes)
+pub order_by_name-requires-clause-once : goal.order_by_name-requires-clause-once
+order_by_name-requires-clause-once c = rw c.as_slice.ensures.keys (nodes_apart (files_of c.args.parsed.now) (texts c.args.names.keys) c.requires.are_files.differ c.requires.is_graph.nodes)
 
 pub cycle_in-requires-clause-between : goal.cycle_in-requires-clause-between
 cycle_in-requires-clause-between c =
@@ -60,6 +60,6 @@ returns-in_ok-of-in-None c =
 pub returns-in-Some : goal.returns-in-Some
 returns-in-Some c =
     let files = files_of c.args.parsed.now in
-    let led : AreLed files (texts c.as_slice-3.result.now) c.as_slice-2.result.now = rw (c.as_slice-3.ensures.keys, c.as_slice-2.ensures.value) c.requires.is_graph.leads in
+    let led : AreEdgesOf files (texts c.as_slice-3.result.now) c.as_slice-2.result.now = rw (c.as_slice-3.ensures.keys, c.as_slice-2.ensures.value) c.requires.is_graph.leads in
     let cycle : IsCycleOf files (texts c.args.names.keys) (texts c.in-Some.names.items) = rw c.as_slice-3.ensures.keys at ((rw c.in-Some.is at c.in_ok-cycle_in.ensures.named) files led) in
     record { graph = graph_with c.args.names.keys (length c.args.parsed.now) c.args.pairs.items; kept = c.requires; is_cycle = cycle }

@@ -10,7 +10,7 @@ use Rattle.ob_imports.proofs.edges.pairs_of.Goals as goal
 pub returns-clause-leads : goal.returns-clause-leads
 returns-clause-leads c v w =
     let pair : Edge = record { from = v; to = w } in
-    let same = c.put_in_order.ensures.same pair in
+    let same = c.sort_all.ensures.same pair in
     let lead = pairs_lead (texts c.args.table.now.keys) (files_of c.args.parsed.now) c.requires.once c.requires.known v w in
     let are = c.in_ok-pairs.ensures in (
       λ h. lead.0 (subst (λ (ps : List Edge). Contains ps pair) are (same.0 h)),

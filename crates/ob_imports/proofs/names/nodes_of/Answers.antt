@@ -8,8 +8,8 @@ use Rattle.ob_imports.specs.Numbering.{all_lacked}
 use Rattle.ob_imports.proofs.Nodes.{are_nodes, together_apart}
 use Rattle.ob_imports.proofs.names.nodes_of.Goals as goal
 
-pub put_names-requires : goal.put_names-requires
-put_names-requires c =
+pub append_names-requires : goal.append_names-requires
+append_names-requires c =
     let files = files_of c.args.parsed.now in
     let keys = texts c.in_ok-table.table.keys in
     rw c.as_slice.ensures.value (together_apart files keys (all_lacked keys files) (texts c.in_ok-others.others.items) c.in_ok-table.ensures refl
@@ -33,14 +33,14 @@ pub returns-then-len-gt-MOST_NODES-2-clause-many : goal.returns-then-len-gt-MOST
 returns-then-len-gt-MOST_NODES-2-clause-many c =
     let files = files_of c.args.parsed.now in
     let keys = texts c.in_ok-table.table.keys in
-    let named = texts c.put_names.new.table.keys in
-    let long : length named ≡ length c.put_names.new.table.keys = length-map c.put_names.new.table.keys string_bytes in
+    let named = texts c.append_names.new.table.keys in
+    let long : length named ≡ length c.append_names.new.table.keys = length-map c.append_names.new.table.keys string_bytes in
     record {
       are_files = c.requires;
       names = named;
       nodes =
           are_nodes files keys (all_lacked keys files) (texts c.in_ok-others.others.items) c.in_ok-table.ensures refl
-          c.in_ok-others.ensures.ascending c.in_ok-others.ensures.same named (rw c.as_slice.ensures.value at c.in_ok-put_names.ensures);
+          c.in_ok-others.ensures.ascending c.in_ok-others.ensures.same named (rw c.as_slice.ensures.value at c.in_ok-append_names.ensures);
       many = (let l = c.len-2.ensures.len in let more = c.if-len-gt-MOST_NODES-2.true in omega arith);
     }
 
@@ -49,4 +49,4 @@ returns-clause-named c =
     let files = files_of c.args.parsed.now in
     let keys = texts c.in_ok-table.table.keys in
     are_nodes files keys (all_lacked keys files) (texts c.in_ok-others.others.items) c.in_ok-table.ensures refl
-    c.in_ok-others.ensures.ascending c.in_ok-others.ensures.same (texts c.put_names.new.table.keys) (rw c.as_slice.ensures.value at c.in_ok-put_names.ensures)
+    c.in_ok-others.ensures.ascending c.in_ok-others.ensures.same (texts c.append_names.new.table.keys) (rw c.as_slice.ensures.value at c.in_ok-append_names.ensures)

@@ -1,6 +1,6 @@
 use Rattle.std.proofs.Common.{◌≡◌, take}
 use Rattle.ob_interface.specs.Orders.{alias_entry}
-use Rattle.ob_interface.specs.Places.{entries_from}
+use Rattle.ob_interface.specs.IndexEntries.{entries_from}
 use Rattle.ob_interface.proofs.entries.alias_entries.Given as goal
 
 abbrev pub invariant-loop-i : goal.invariant-loop-i

@@ -1,6 +1,6 @@
 use Rattle.std.proofs.Common.{ap, ◌∙◌, take_all}
 use Rattle.ob_interface.specs.Orders.{member_entry}
-use Rattle.ob_interface.specs.Places.{entries_from}
+use Rattle.ob_interface.specs.IndexEntries.{entries_from}
 use Rattle.ob_interface.proofs.Ranks.{entries_step}
 use Rattle.ob_interface.proofs.entries.member_entries.Goals as goal
 

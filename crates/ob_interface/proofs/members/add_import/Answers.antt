@@ -5,5 +5,5 @@ use Rattle.ob_interface.proofs.members.add_import.Goals as goal
 pub returns-clause-grown : goal.returns-clause-grown
 returns-clause-grown c = grind (arith, common_steps)
 
-pub returns-clause-tells : goal.returns-clause-tells
-returns-clause-tells c = grind (arith, common_steps)
+pub returns-clause-decoded : goal.returns-clause-decoded
+returns-clause-decoded c = grind (arith, common_steps)

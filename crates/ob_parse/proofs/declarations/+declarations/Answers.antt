@@ -1,8 +1,8 @@
 use Rattle.std.proofs.Common.{sym, ◌∙◌, arith, refl}
 use Rattle.ob_scan.specs.declared.kind.Kind.TheVariants as kinds
-use Rattle.ob_tree.specs.Declaring.{procedure_outline, declarations_outline}
-use Rattle.ob_parse.specs.Front.{is_word}
-use Rattle.ob_parse.specs.Forms.{limit_at}
+use Rattle.ob_tree.specs.Declaring.{procedure_events, declarations_events}
+use Rattle.ob_parse.specs.Lookahead.{is_word}
+use Rattle.ob_parse.specs.Combinators.{limit_at}
 use Rattle.ob_parse.specs.ReadNames.{identdef_after}
 use Rattle.ob_parse.specs.ReadModules.{procedure_at, declarations_with, procedure_named, procedure_with, procedures_with}
 use Rattle.ob_parse.specs.ReadExpressions.{expr_at}
@@ -45,7 +45,7 @@ declarations-declaration_section-requires-3 t c = variable_shortens c.args.depth
 
 pub declarations-returns : goal.declarations-returns
 unfolding declarations_with procedures_with
-declarations-returns t c = gives_boxed c.args.tokens.now declarations_outline _ _ c.boxed.result _ c.boxed.ensures.of c.boxed.ensures.refused (rw (c.in_ok-constants.ensures, c.in_ok-types.ensures, c.in_ok-variables.ensures, c.in_ok-procedures.ensures, declarations_made (record { constants = c.in_ok-constants.constants; types = c.in_ok-types.types; variables = c.in_ok-variables.variables; procedures = c.in_ok-procedures.procedures })) refl)
+declarations-returns t c = gives_boxed c.args.tokens.now declarations_events _ _ c.boxed.result _ c.boxed.ensures.of c.boxed.ensures.refused (rw (c.in_ok-constants.ensures, c.in_ok-types.ensures, c.in_ok-variables.ensures, c.in_ok-procedures.ensures, declarations_made (record { constants = c.in_ok-constants.constants; types = c.in_ok-types.types; variables = c.in_ok-variables.variables; procedures = c.in_ok-procedures.procedures })) refl)
 
 pub procedure-returns : goal.procedure-returns
 unfolding procedure_at limit_at
@@ -57,4 +57,4 @@ procedure-returns-then-depth-eq0 t c = grind arith
 
 pub procedure_within-returns : goal.procedure_within-returns
 unfolding procedure_with procedure_named identdef_after
-procedure_within-returns t c = gives_boxed c.args.tokens.now procedure_outline _ _ c.boxed.result _ c.boxed.ensures.of c.boxed.ensures.refused (grind (arith, declaring_made, names_made, star_read))
+procedure_within-returns t c = gives_boxed c.args.tokens.now procedure_events _ _ c.boxed.result _ c.boxed.ensures.of c.boxed.ensures.refused (grind (arith, declaring_made, names_made, star_read))

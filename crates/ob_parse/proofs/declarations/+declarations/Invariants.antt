@@ -1,5 +1,5 @@
 use Rattle.std.proofs.Common.{◌+◌, ◌*◌, length}
-use Rattle.ob_parse.specs.Accords.{ahead}
+use Rattle.ob_parse.specs.AgreesWith.{remaining}
 use Rattle.ob_parse.proofs.Repetitions.{procedures}
 use Rattle.ob_parse.proofs.Turns.{AreTurnsRead}
 use Rattle.ob_parse.proofs.declarations.+declarations.Given as goal
@@ -16,8 +16,8 @@ decreases-procedures l = 16 * l.depth + 2
 abbrev pub decreases-declarations : goal.decreases-declarations
 decreases-declarations l = 16 * l.depth + 3
 
-abbrev pub decreases-inside : goal.decreases-inside
-decreases-inside l = 16 * l.depth + 4
+abbrev pub decreases-remainder : goal.decreases-remainder
+decreases-remainder l = 16 * l.depth + 4
 
 abbrev pub decreases-procedure_within : goal.decreases-procedure_within
 decreases-procedure_within l = 16 * l.depth + 5
@@ -26,4 +26,4 @@ abbrev pub invariant-procedures-more : goal.invariant-procedures-more
 invariant-procedures-more l = AreTurnsRead l.fn.tokens (procedures l.depth) l.declared.items l.fn.input l.here
 
 abbrev pub decreases-procedures-more : goal.decreases-procedures-more
-decreases-procedures-more l = length (ahead l.fn.tokens l.here)
+decreases-procedures-more l = length (remaining l.fn.tokens l.here)

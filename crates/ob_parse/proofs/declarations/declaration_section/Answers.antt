@@ -1,7 +1,7 @@
 use Rattle.std.proofs.Common.{sym, ◌++◌}
 use Rattle.ob_scan.specs.declared.kind.Kind.TheVariants as kinds
-use Rattle.ob_tree.specs.Marks.{each, word}
-use Rattle.ob_parse.specs.Forms.{accept_at}
+use Rattle.ob_tree.specs.TreeEvents.{each, word}
+use Rattle.ob_parse.specs.Combinators.{accept_at}
 use Rattle.ob_parse.specs.ReadModules.{part_with}
 use Rattle.ob_parse.proofs.Somes.{gives_some}
 use Rattle.ob_parse.proofs.declarations.declaration_section.Goals as goal

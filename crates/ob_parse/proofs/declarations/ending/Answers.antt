@@ -1,4 +1,4 @@
-use Rattle.ob_parse.specs.Forms.{name_at}
+use Rattle.ob_parse.specs.Combinators.{name_at}
 use Rattle.ob_parse.specs.ReadModules.{body_with}
 use Rattle.std.proofs.Common.{arith}
 use Rattle.ob_parse.proofs.declarations.ending.Goals as goal

@@ -7,4 +7,4 @@ use Rattle.ob_parse.proofs.ends.is_right.Goals as goal
 pub returns : goal.returns
 returns c =
     let same : c.eq.result ≡ bytes_eq (bytes_of c.args.bytes.now (get_or c.args.tokens.now c.args.name any_token)) (bytes_of c.args.bytes.now (get_or c.args.tokens.now c.args.end any_token)) = c.eq.ensures ∙ rw (c.text.ensures, c.text-2.ensures) refl in
-    end_is c.args.bytes.now c.args.tokens.now c.args.name c.args.end any_token c.eq.result c.requires.known.0 c.requires.known.1 same
+    end_is c.args.bytes.now c.args.tokens.now c.args.name c.args.end any_token c.eq.result c.requires.in_range.0 c.requires.in_range.1 same

@@ -6,8 +6,8 @@ ends-preserved c = right_more c.args.bytes.now c.args.tokens.now c.args.ends.now
 
 pub returns-then-not-is_right : goal.returns-then-not-is_right
 returns-then-not-is_right c =
-    let known = c.requires.known c.ends.name-index (0, 0) c.ends-test.true in
-    first_wrong c.args.bytes.now c.args.tokens.now c.args.ends.now c.ends.name-index (0, 0) any_token c.ends-test.true c.ends.invariant known.1 c.if-not-is_right.ensures
+    let in_range = c.requires.in_range c.ends.name-index (0, 0) c.ends-test.true in
+    first_wrong c.args.bytes.now c.args.tokens.now c.args.ends.now c.ends.name-index (0, 0) any_token c.ends-test.true c.ends.invariant in_range.1 c.if-not-is_right.ensures
 
 pub returns : goal.returns
 returns c = all_right c.args.bytes.now c.args.tokens.now c.args.ends.now c.ends.name-index c.ends-test.false c.ends.invariant

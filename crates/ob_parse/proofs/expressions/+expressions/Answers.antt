@@ -1,9 +1,9 @@
 use Rattle.std.proofs.Common.{refl, sym, ap, ◌∙◌, arith}
 use Rattle.ob_scan.specs.declared.kind.Kind.TheVariants as kinds
 use Rattle.ob_tree.specs.declared.token.Leaf.TheVariants as leafs
-use Rattle.ob_tree.specs.Expressions.{expr_outline, element_outline, element_list_outline, expr_list_outline, sum_outline}
-use Rattle.ob_parse.specs.Forms.{limit_at, name_at, several, unless}
-use Rattle.ob_parse.specs.Accords.{seen, skipped}
+use Rattle.ob_tree.specs.Expressions.{expr_events, element_events, element_list_events, expr_list_events, sum_events}
+use Rattle.ob_parse.specs.Combinators.{limit_at, name_at, several, unless}
+use Rattle.ob_parse.specs.AgreesWith.{with_remaining, skipped}
 use Rattle.ob_parse.specs.ReadExpressions.{selector_first, element_with, selector_with, expr_at, designator_with, expr_with, factor_with, negated_at, sum_with, term_with}
 use Rattle.ob_parse.proofs.Loops.{has_begun, has_not_begun}
 use Rattle.ob_tree.proofs.ExpressionLayers.{expressions_made, sum_made, term_out, element_made, element_list_made, expr_list_made, designator_out, value_made, nil_made, true_made, false_made, set_made, name_made, group_made, index_made, target_made, arguments_made}
@@ -12,7 +12,7 @@ use Rattle.ob_parse.proofs.Somes.{gives_some, not_closed}
 use Rattle.ob_parse.proofs.Repetitions.{expressions, elements, selectors, factor_operations, term_operations}
 use Rattle.ob_parse.proofs.LoopEnds.{stopped}
 use Rattle.ob_parse.proofs.Turns.{turn_shorter, turn_kept, turn_failed, turns_done, operation_shorter, operation_kept, operation_failed, operations_done}
-use Rattle.ob_parse.proofs.Fronts.{leaf_stands, word_stands, factor_seen, selector_seen}
+use Rattle.ob_parse.proofs.Lookaheads.{leaf_stands, word_stands, factor_seen, selector_seen}
 use Rattle.ob_parse.proofs.expressions.+expressions.Goals as goal
 
 pub more_factors-more-smaller : goal.more_factors-more-smaller
@@ -28,7 +28,7 @@ more_factors-returns-in_err-next t c =
 
 pub more_factors-returns : goal.more_factors-returns
 more_factors-returns t c =
-    operations_done c.args.tokens.now (factor_operations c.args.depth) c.more.rest.items c.more.here _ (sym (ap (seen c.args.tokens.now) c.in_default.is) ∙ c.mul_operator.ensures.read) c.more.invariant
+    operations_done c.args.tokens.now (factor_operations c.args.depth) c.more.rest.items c.more.here _ (sym (ap (with_remaining c.args.tokens.now) c.in_default.is) ∙ c.mul_operator.ensures.read) c.more.invariant
 
 pub more_terms-more-smaller : goal.more_terms-more-smaller
 more_terms-more-smaller t c = operation_shorter c.args.tokens.now (term_operations c.args.depth) c.in-Some.operator c.more.here c.in-Some.after _ _ c.in-Some.ensures.read c.in_ok-next.ensures
@@ -43,7 +43,7 @@ more_terms-returns-in_err-next t c =
 
 pub more_terms-returns : goal.more_terms-returns
 more_terms-returns t c =
-    operations_done c.args.tokens.now (term_operations c.args.depth) c.more.rest.items c.more.here _ (sym (ap (seen c.args.tokens.now) c.in_default.is) ∙ c.add_operator.ensures.read) c.more.invariant
+    operations_done c.args.tokens.now (term_operations c.args.depth) c.more.rest.items c.more.here _ (sym (ap (with_remaining c.args.tokens.now) c.in_default.is) ∙ c.add_operator.ensures.read) c.more.invariant
 
 pub more_expressions-more-smaller : goal.more_expressions-more-smaller
 more_expressions-more-smaller t c =
@@ -95,7 +95,7 @@ more_selectors-returns t c =
 
 pub arguments-returns : goal.arguments-returns
 arguments-returns t c =
-    gives_some c.args.tokens.now c.expression_list.result (λ l. expr_list_outline l.value) c.some.result (unless kinds.RightParen) _ _ _ c.some.ensures (not_closed kinds.RightParen _ (sym c.is_at.ensures ∙ c.if-is_at.false)) c.expression_list.ensures
+    gives_some c.args.tokens.now c.expression_list.result (λ l. expr_list_events l.value) c.some.result (unless kinds.RightParen) _ _ _ c.some.ensures (not_closed kinds.RightParen _ (sym c.is_at.ensures ∙ c.if-is_at.false)) c.expression_list.ensures
 
 pub arguments-returns-then-is_at : goal.arguments-returns-then-is_at
 unfolding unless
@@ -110,15 +110,15 @@ designator-returns t c = rw (c.in_ok-selectors.ensures, designator_out (record {
 
 pub element-returns : goal.element-returns
 unfolding element_with
-element-returns t c = gives_boxed c.args.tokens.now element_outline _ _ c.boxed.result _ c.boxed.ensures.of c.boxed.ensures.refused (rw (c.in_ok-low.ensures, c.in_ok-high.ensures, element_made (record { low = c.into_inner.result; high = c.in_ok-high.high }), c.into_inner.ensures) refl)
+element-returns t c = gives_boxed c.args.tokens.now element_events _ _ c.boxed.result _ c.boxed.ensures.of c.boxed.ensures.refused (rw (c.in_ok-low.ensures, c.in_ok-high.ensures, element_made (record { low = c.into_inner.result; high = c.in_ok-high.high }), c.into_inner.ensures) refl)
 
 pub element_list-returns : goal.element_list-returns
 unfolding several
-element_list-returns t c = gives_boxed c.args.tokens.now element_list_outline _ _ c.boxed.result _ c.boxed.ensures.of c.boxed.ensures.refused (rw (c.in_ok-first.ensures, c.in_ok-rest.ensures, element_list_made (record { first = c.into_inner.result; rest = c.in_ok-rest.rest }), c.into_inner.ensures) refl)
+element_list-returns t c = gives_boxed c.args.tokens.now element_list_events _ _ c.boxed.result _ c.boxed.ensures.of c.boxed.ensures.refused (rw (c.in_ok-first.ensures, c.in_ok-rest.ensures, element_list_made (record { first = c.into_inner.result; rest = c.in_ok-rest.rest }), c.into_inner.ensures) refl)
 
 pub elements-returns : goal.elements-returns
 elements-returns t c =
-    gives_some c.args.tokens.now c.element_list.result (λ l. element_list_outline l.value) c.some.result (unless kinds.RightBrace) _ _ _ c.some.ensures (not_closed kinds.RightBrace _ (sym c.is_at.ensures ∙ c.if-is_at.false)) c.element_list.ensures
+    gives_some c.args.tokens.now c.element_list.result (λ l. element_list_events l.value) c.some.result (unless kinds.RightBrace) _ _ _ c.some.ensures (not_closed kinds.RightBrace _ (sym c.is_at.ensures ∙ c.if-is_at.false)) c.element_list.ensures
 
 pub elements-returns-then-is_at : goal.elements-returns-then-is_at
 unfolding unless
@@ -126,7 +126,7 @@ elements-returns-then-is_at t c = grind arith
 
 pub expression-returns : goal.expression-returns
 unfolding expr_at expr_with limit_at
-expression-returns t c = gives_boxed c.args.tokens.now expr_outline _ _ c.boxed.result _ c.boxed.ensures.of c.boxed.ensures.refused (grind (arith, expressions_made))
+expression-returns t c = gives_boxed c.args.tokens.now expr_events _ _ c.boxed.result _ c.boxed.ensures.of c.boxed.ensures.refused (grind (arith, expressions_made))
 
 pub expression-returns-then-depth-eq0 : goal.expression-returns-then-depth-eq0
 unfolding expr_at expr_with limit_at
@@ -134,7 +134,7 @@ expression-returns-then-depth-eq0 t c = grind (arith, expressions_made)
 
 pub expression_list-returns : goal.expression_list-returns
 unfolding several
-expression_list-returns t c = gives_boxed c.args.tokens.now expr_list_outline _ _ c.boxed.result _ c.boxed.ensures.of c.boxed.ensures.refused (rw (c.in_ok-first.ensures, c.in_ok-rest.ensures, expr_list_made (record { first = c.into_inner.result; rest = c.in_ok-rest.rest }), c.into_inner.ensures) refl)
+expression_list-returns t c = gives_boxed c.args.tokens.now expr_list_events _ _ c.boxed.result _ c.boxed.ensures.of c.boxed.ensures.refused (rw (c.in_ok-first.ensures, c.in_ok-rest.ensures, expr_list_made (record { first = c.into_inner.result; rest = c.in_ok-rest.rest }), c.into_inner.ensures) refl)
 
 pub factor-returns-in-Some-Name-default : goal.factor-returns-in-Some-Name-default
 factor-returns-in-Some-Name-default t c = rw (factor_seen c.args.depth _ _ (leaf_stands c.args.tokens.now _ c.args.input c.in-Some-Name-default.rest _ (leafs.Name c.in-Some-Name-default.number) c.in-Some-Name-default.is c.in-Some-Name-default.field-0-0-is c.next.ensures.read)) c.named.ensures
@@ -202,7 +202,7 @@ set-returns t c = rw (c.in_ok-elements.ensures, c.in_ok-rest.ensures.read, set_m
 
 pub sum-returns : goal.sum-returns
 unfolding sum_with
-sum-returns t c = gives_boxed c.args.tokens.now sum_outline _ _ c.boxed.result _ c.boxed.ensures.of c.boxed.ensures.refused (rw (sym c.sign-sign.ensures.read, c.in_ok-first.ensures, c.in_ok-rest.ensures, sum_made (record { sign = c.sign-sign.result.0; first = c.in_ok-first.first; rest = c.in_ok-rest.rest })) refl)
+sum-returns t c = gives_boxed c.args.tokens.now sum_events _ _ c.boxed.result _ c.boxed.ensures.of c.boxed.ensures.refused (rw (sym c.sign-sign.ensures.read, c.in_ok-first.ensures, c.in_ok-rest.ensures, sum_made (record { sign = c.sign-sign.result.0; first = c.in_ok-first.first; rest = c.in_ok-rest.rest })) refl)
 
 pub term-returns : goal.term-returns
 unfolding term_with

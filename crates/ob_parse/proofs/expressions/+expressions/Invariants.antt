@@ -1,5 +1,5 @@
 use Rattle.std.proofs.Common.{◌+◌, ◌*◌, length}
-use Rattle.ob_parse.specs.Accords.{ahead}
+use Rattle.ob_parse.specs.AgreesWith.{remaining}
 use Rattle.ob_parse.proofs.Repetitions.{elements, expressions, factor_operations, selectors, term_operations}
 use Rattle.ob_parse.proofs.Turns.{AreOperationsRead, AreTurnsRead}
 use Rattle.ob_parse.proofs.expressions.+expressions.Given as goal
@@ -80,28 +80,28 @@ abbrev pub invariant-more_expressions-more : goal.invariant-more_expressions-mor
 invariant-more_expressions-more l = AreTurnsRead l.fn.tokens (expressions l.depth) l.rest.items l.fn.input l.here
 
 abbrev pub decreases-more_expressions-more : goal.decreases-more_expressions-more
-decreases-more_expressions-more l = length (ahead l.fn.tokens l.here)
+decreases-more_expressions-more l = length (remaining l.fn.tokens l.here)
 
 abbrev pub invariant-more_terms-more : goal.invariant-more_terms-more
 invariant-more_terms-more l = AreOperationsRead l.fn.tokens (term_operations l.depth) l.rest.items l.fn.input l.here
 
 abbrev pub decreases-more_terms-more : goal.decreases-more_terms-more
-decreases-more_terms-more l = length (ahead l.fn.tokens l.here)
+decreases-more_terms-more l = length (remaining l.fn.tokens l.here)
 
 abbrev pub invariant-more_factors-more : goal.invariant-more_factors-more
 invariant-more_factors-more l = AreOperationsRead l.fn.tokens (factor_operations l.depth) l.rest.items l.fn.input l.here
 
 abbrev pub decreases-more_factors-more : goal.decreases-more_factors-more
-decreases-more_factors-more l = length (ahead l.fn.tokens l.here)
+decreases-more_factors-more l = length (remaining l.fn.tokens l.here)
 
 abbrev pub invariant-more_elements-more : goal.invariant-more_elements-more
 invariant-more_elements-more l = AreTurnsRead l.fn.tokens (elements l.depth) l.rest.items l.fn.input l.here
 
 abbrev pub decreases-more_elements-more : goal.decreases-more_elements-more
-decreases-more_elements-more l = length (ahead l.fn.tokens l.here)
+decreases-more_elements-more l = length (remaining l.fn.tokens l.here)
 
 abbrev pub invariant-more_selectors-more : goal.invariant-more_selectors-more
 invariant-more_selectors-more l = AreTurnsRead l.fn.tokens (selectors l.depth) l.selectors.items l.fn.input l.here
 
 abbrev pub decreases-more_selectors-more : goal.decreases-more_selectors-more
-decreases-more_selectors-more l = length (ahead l.fn.tokens l.here)
+decreases-more_selectors-more l = length (remaining l.fn.tokens l.here)

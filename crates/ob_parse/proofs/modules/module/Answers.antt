@@ -1,10 +1,10 @@
 use Rattle.ob_tree.proofs.DeclarationLayers.{declaring_made}
-use Rattle.ob_parse.specs.ReadModules.{module_at, module_behind_name}
+use Rattle.ob_parse.specs.ReadModules.{module_at, module_after_name}
 use Rattle.std.proofs.Common.{arith}
-use Rattle.ob_tree.specs.Declaring.{module_outline}
+use Rattle.ob_tree.specs.Declaring.{module_events}
 use Rattle.ob_parse.proofs.Boxes.{gives_boxed}
 use Rattle.ob_parse.proofs.modules.module.Goals as goal
 
 pub returns : goal.returns
-unfolding module_at module_behind_name
-returns c = gives_boxed c.args.tokens.now module_outline _ _ c.boxed.result _ c.boxed.ensures.of c.boxed.ensures.refused (grind (arith, declaring_made))
+unfolding module_at module_after_name
+returns c = gives_boxed c.args.tokens.now module_events _ _ c.boxed.result _ c.boxed.ensures.of c.boxed.ensures.refused (grind (arith, declaring_made))

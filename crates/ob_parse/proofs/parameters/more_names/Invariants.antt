@@ -1,5 +1,5 @@
 use Rattle.std.proofs.Common.{length}
-use Rattle.ob_parse.specs.Accords.{ahead}
+use Rattle.ob_parse.specs.AgreesWith.{remaining}
 use Rattle.ob_parse.proofs.Repetitions.{parameter_names}
 use Rattle.ob_parse.proofs.Turns.{AreTurnsRead}
 use Rattle.ob_parse.proofs.parameters.more_names.Given as goal
@@ -8,4 +8,4 @@ abbrev pub invariant-more : goal.invariant-more
 invariant-more l = AreTurnsRead l.fn.tokens parameter_names l.rest.items l.fn.input l.here
 
 abbrev pub decreases-more : goal.decreases-more
-decreases-more l = length (ahead l.fn.tokens l.here)
+decreases-more l = length (remaining l.fn.tokens l.here)

@@ -1,9 +1,9 @@
 use Rattle.std.proofs.Common.{sym}
 use Rattle.ob_scan.specs.declared.kind.Kind.TheVariants as kinds
-use Rattle.ob_tree.specs.Names.{qualident_outline}
-use Rattle.ob_parse.specs.Forms.{accept_at}
+use Rattle.ob_tree.specs.Names.{qualident_events}
+use Rattle.ob_parse.specs.Combinators.{accept_at}
 use Rattle.ob_parse.proofs.Somes.{gives_some}
 use Rattle.ob_parse.proofs.parameters.result_type.Goals as goal
 
 pub returns-in-Some : goal.returns-in-Some
-returns-in-Some c = gives_some c.args.tokens.now c.qualident.result qualident_outline c.some.result (accept_at kinds.Colon) _ _ _ c.some.ensures (sym c.in-Some.ensures.read) c.qualident.ensures.read
+returns-in-Some c = gives_some c.args.tokens.now c.qualident.result qualident_events c.some.result (accept_at kinds.Colon) _ _ _ c.some.ensures (sym c.in-Some.ensures.read) c.qualident.ensures.read

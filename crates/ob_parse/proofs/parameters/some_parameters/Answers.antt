@@ -1,8 +1,8 @@
 use Rattle.std.proofs.Common.{sym, ◌∙◌}
 use Rattle.ob_scan.specs.declared.kind.Kind.TheVariants as kinds
-use Rattle.ob_tree.specs.Types.{parameters_outline}
-use Rattle.ob_parse.specs.Forms.{begins}
-use Rattle.ob_parse.specs.Front.{is_word}
+use Rattle.ob_tree.specs.Types.{parameters_events}
+use Rattle.ob_parse.specs.Combinators.{begins}
+use Rattle.ob_parse.specs.Lookahead.{is_word}
 use Rattle.ob_parse.specs.ReadTypes.{some_parameters_at}
 use Rattle.ob_parse.proofs.Loops.{has_begun}
 use Rattle.ob_parse.proofs.Somes.{gives_some}
@@ -11,5 +11,5 @@ use Rattle.ob_parse.proofs.parameters.some_parameters.Goals as goal
 pub returns-then-is_at : goal.returns-then-is_at
 unfolding some_parameters_at
 returns-then-is_at c =
-    gives_some c.args.tokens.now c.parameters.result parameters_outline c.some.result (begins (is_word kinds.LeftParen)) _ _ _ c.some.ensures
+    gives_some c.args.tokens.now c.parameters.result parameters_events c.some.result (begins (is_word kinds.LeftParen)) _ _ _ c.some.ensures
     (has_begun (is_word kinds.LeftParen) _ (sym c.is_at.ensures ∙ c.if-is_at.true)) c.parameters.ensures

@@ -1,9 +1,9 @@
 use Rattle.std.proofs.Common.{sym, ap, ◌∙◌, arith, refl}
 use Rattle.ob_scan.specs.declared.kind.Kind.TheVariants as kinds
 use Rattle.ob_tree.specs.declared.token.Leaf.TheVariants as leafs
-use Rattle.ob_tree.specs.Statements.{branch_outline, case_outline, stmt_outline, block_outline}
-use Rattle.ob_parse.specs.Forms.{accept_at, name_at, several}
-use Rattle.ob_parse.specs.Accords.{skipped, ahead}
+use Rattle.ob_tree.specs.Statements.{branch_events, case_events, stmt_events, block_events}
+use Rattle.ob_parse.specs.Combinators.{accept_at, name_at, several}
+use Rattle.ob_parse.specs.AgreesWith.{skipped, remaining}
 use Rattle.ob_parse.specs.ReadStatements.{branch_with, case_with, statement_at, block_with, cases_with, for_with, if_with, repeat_with, statement_with, while_with, block_at, label_first}
 use Rattle.ob_parse.proofs.StatementSteps.{made}
 use Rattle.ob_parse.proofs.Boxes.{gives_boxed}
@@ -14,7 +14,7 @@ use Rattle.ob_parse.proofs.Turns.{turn_shorter, turn_kept, turn_failed, turns_do
 use Rattle.ob_parse.specs.ReadExpressions.{expr_at}
 use Rattle.ob_parse.proofs.Loops.{has_begun, has_not_begun}
 use Rattle.ob_tree.proofs.StatementLayers.{if_made, while_made, repeat_made, case_made, block_made, branch_made, labelled_made, nothing_made}
-use Rattle.ob_parse.proofs.Fronts.{leaf_stands, word_stands, statement_seen}
+use Rattle.ob_parse.proofs.Lookaheads.{leaf_stands, word_stands, statement_seen}
 use Rattle.ob_parse.proofs.statements.+statements.Goals as goal
 
 pub more_statements-more-smaller : goal.more_statements-more-smaller
@@ -67,19 +67,19 @@ more_cases-returns t c =
 
 pub block-returns : goal.block-returns
 unfolding block_with several
-block-returns t c = gives_boxed c.args.tokens.now block_outline _ _ c.boxed.result _ c.boxed.ensures.of c.boxed.ensures.refused (rw (c.in_ok-first.ensures, c.in_ok-rest.ensures, block_made c.into_inner.result c.in_ok-rest.rest, c.into_inner.ensures) refl)
+block-returns t c = gives_boxed c.args.tokens.now block_events _ _ c.boxed.result _ c.boxed.ensures.of c.boxed.ensures.refused (rw (c.in_ok-first.ensures, c.in_ok-rest.ensures, block_made c.into_inner.result c.in_ok-rest.rest, c.into_inner.ensures) refl)
 
 pub branch-returns : goal.branch-returns
 unfolding branch_with
-branch-returns t c = gives_boxed c.args.tokens.now (λ b. branch_outline b c.args.keyword) _ _ c.boxed.result _ c.boxed.ensures.of c.boxed.ensures.refused (rw (c.in_ok-condition.ensures, c.in_ok-input.ensures.read, c.in_ok-body.ensures, branch_made c.into_inner.result c.into_inner-2.result c.args.keyword, c.into_inner.ensures, c.into_inner-2.ensures) refl)
+branch-returns t c = gives_boxed c.args.tokens.now (λ b. branch_events b c.args.keyword) _ _ c.boxed.result _ c.boxed.ensures.of c.boxed.ensures.refused (rw (c.in_ok-condition.ensures, c.in_ok-input.ensures.read, c.in_ok-body.ensures, branch_made c.into_inner.result c.into_inner-2.result c.args.keyword, c.into_inner.ensures, c.into_inner-2.ensures) refl)
 
 pub case-returns : goal.case-returns
 unfolding case_with
-case-returns t c = gives_boxed c.args.tokens.now case_outline _ _ c.boxed-2.result _ c.boxed-2.ensures.of c.boxed-2.ensures.refused (rw (has_begun label_first (ahead c.args.tokens.now c.args.input) (sym c.begins_label.ensures ∙ c.if-not-begins_label.false), c.in_ok-labels.ensures, c.in_ok-input.ensures.read, c.in_ok-body.ensures, labelled_made c.in_ok-labels.labels c.in_ok-body.body) refl)
+case-returns t c = gives_boxed c.args.tokens.now case_events _ _ c.boxed-2.result _ c.boxed-2.ensures.of c.boxed-2.ensures.refused (rw (has_begun label_first (remaining c.args.tokens.now c.args.input) (sym c.begins_label.ensures ∙ c.if-not-begins_label.false), c.in_ok-labels.ensures, c.in_ok-input.ensures.read, c.in_ok-body.ensures, labelled_made c.in_ok-labels.labels c.in_ok-body.body) refl)
 
 pub case-returns-then-not-begins_label : goal.case-returns-then-not-begins_label
 unfolding case_with
-case-returns-then-not-begins_label t c = gives_boxed c.args.tokens.now case_outline _ _ c.boxed.result _ c.boxed.ensures.of c.boxed.ensures.refused (rw (has_not_begun label_first (ahead c.args.tokens.now c.args.input) (sym c.begins_label.ensures ∙ c.if-not-begins_label.true), nothing_made) refl)
+case-returns-then-not-begins_label t c = gives_boxed c.args.tokens.now case_events _ _ c.boxed.result _ c.boxed.ensures.of c.boxed.ensures.refused (rw (has_not_begun label_first (remaining c.args.tokens.now c.args.input) (sym c.begins_label.ensures ∙ c.if-not-begins_label.true), nothing_made) refl)
 
 pub case_statement-returns : goal.case_statement-returns
 unfolding cases_with
@@ -99,7 +99,7 @@ repeat_statement-returns t c = rw (c.in_ok-body.ensures, c.in_ok-input.ensures.r
 
 pub statement-returns : goal.statement-returns
 unfolding statement_at
-statement-returns t c = gives_boxed c.args.tokens.now stmt_outline _ _ c.boxed.result _ c.boxed.ensures.of c.boxed.ensures.refused (grind arith)
+statement-returns t c = gives_boxed c.args.tokens.now stmt_events _ _ c.boxed.result _ c.boxed.ensures.of c.boxed.ensures.refused (grind arith)
 
 pub statement-returns-then-depth-eq0 : goal.statement-returns-then-depth-eq0
 unfolding statement_at
@@ -131,6 +131,6 @@ pub while_statement-returns : goal.while_statement-returns
 unfolding while_with
 while_statement-returns t c = rw (c.in_ok-first.ensures, c.in_ok-rest.ensures, c.in_ok-input.ensures.read, while_made c.in_ok-first.first c.in_ok-rest.rest) refl
 
-pub block_behind-returns-in-Some : goal.block_behind-returns-in-Some
-block_behind-returns-in-Some t c =
-    gives_some c.args.tokens.now c.block.result (λ b. block_outline b.value) c.some.result (accept_at c.args.word) _ _ _ c.some.ensures (sym c.in-Some.ensures.read) c.block.ensures
+pub optional_block-returns-in-Some : goal.optional_block-returns-in-Some
+optional_block-returns-in-Some t c =
+    gives_some c.args.tokens.now c.block.result (λ b. block_events b.value) c.some.result (accept_at c.args.word) _ _ _ c.some.ensures (sym c.in-Some.ensures.read) c.block.ensures

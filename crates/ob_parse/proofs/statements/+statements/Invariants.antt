@@ -1,5 +1,5 @@
 use Rattle.std.proofs.Common.{◌+◌, ◌*◌, length}
-use Rattle.ob_parse.specs.Accords.{ahead}
+use Rattle.ob_parse.specs.AgreesWith.{remaining}
 use Rattle.ob_parse.proofs.Repetitions.{branches, cases, statements}
 use Rattle.ob_parse.proofs.Turns.{AreTurnsRead}
 use Rattle.ob_parse.proofs.statements.+statements.Given as goal
@@ -19,8 +19,8 @@ decreases-branch l = 16 * l.depth + 3
 abbrev pub decreases-case : goal.decreases-case
 decreases-case l = 16 * l.depth + 4
 
-abbrev pub decreases-block_behind : goal.decreases-block_behind
-decreases-block_behind l = 16 * l.depth + 5
+abbrev pub decreases-optional_block : goal.decreases-optional_block
+decreases-optional_block l = 16 * l.depth + 5
 
 abbrev pub decreases-more_branches : goal.decreases-more_branches
 decreases-more_branches l = 16 * l.depth + 6
@@ -59,16 +59,16 @@ abbrev pub invariant-more_statements-more : goal.invariant-more_statements-more
 invariant-more_statements-more l = AreTurnsRead l.fn.tokens (statements l.depth) l.rest.items l.fn.input l.here
 
 abbrev pub decreases-more_statements-more : goal.decreases-more_statements-more
-decreases-more_statements-more l = length (ahead l.fn.tokens l.here)
+decreases-more_statements-more l = length (remaining l.fn.tokens l.here)
 
 abbrev pub invariant-more_branches-more : goal.invariant-more_branches-more
 invariant-more_branches-more l = AreTurnsRead l.fn.tokens (branches l.depth l.keyword) l.rest.items l.fn.input l.here
 
 abbrev pub decreases-more_branches-more : goal.decreases-more_branches-more
-decreases-more_branches-more l = length (ahead l.fn.tokens l.here)
+decreases-more_branches-more l = length (remaining l.fn.tokens l.here)
 
 abbrev pub invariant-more_cases-more : goal.invariant-more_cases-more
 invariant-more_cases-more l = AreTurnsRead l.fn.tokens (cases l.depth) l.rest.items l.fn.input l.here
 
 abbrev pub decreases-more_cases-more : goal.decreases-more_cases-more
-decreases-more_cases-more l = length (ahead l.fn.tokens l.here)
+decreases-more_cases-more l = length (remaining l.fn.tokens l.here)

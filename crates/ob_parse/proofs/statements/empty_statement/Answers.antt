@@ -1,5 +1,5 @@
 use Rattle.std.proofs.Common.{arith}
-use Rattle.ob_tree.specs.Statements.{stmt_outline}
+use Rattle.ob_tree.specs.Statements.{stmt_events}
 use Rattle.ob_parse.specs.ReadStatements.{statement_at, empty_at}
 use Rattle.ob_parse.proofs.Boxes.{gives_boxed}
 use Rattle.ob_parse.proofs.StatementSteps.{made}
@@ -7,4 +7,4 @@ use Rattle.ob_parse.proofs.statements.empty_statement.Goals as goal
 
 pub returns : goal.returns
 unfolding statement_at empty_at
-returns c = gives_boxed c.args.tokens.now stmt_outline _ _ c.boxed.result _ c.boxed.ensures.of c.boxed.ensures.refused (grind (arith, made))
+returns c = gives_boxed c.args.tokens.now stmt_events _ _ c.boxed.result _ c.boxed.ensures.of c.boxed.ensures.refused (grind (arith, made))

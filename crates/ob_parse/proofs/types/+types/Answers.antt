@@ -2,9 +2,9 @@ use Rattle.std.proofs.Common.{sym, ap, ◌∙◌, arith, refl}
 use Rattle.ob_scan.specs.declared.kind.Kind.TheVariants as kinds
 use Rattle.ob_tree.specs.declared.token.Leaf.TheVariants as leafs
 use Rattle.ob_tree.specs.declared.declaration.Record.{roll-Record}
-use Rattle.ob_tree.specs.Types.{var_outline, fields_outline, type_outline}
-use Rattle.ob_parse.specs.Forms.{limit_at, unless}
-use Rattle.ob_parse.specs.Accords.{skipped}
+use Rattle.ob_tree.specs.Types.{var_events, fields_events, type_events}
+use Rattle.ob_parse.specs.Combinators.{limit_at, unless}
+use Rattle.ob_parse.specs.AgreesWith.{skipped}
 use Rattle.ob_parse.specs.ReadTypes.{var_with, type_at, fields_with, record_with, type_with}
 use Rattle.ob_tree.proofs.TypeLayers.{types_made, array_made, pointer_made, record_of_made, record_made, fields_made, var_made}
 use Rattle.ob_parse.proofs.Boxes.{gives_boxed}
@@ -13,7 +13,7 @@ use Rattle.ob_parse.proofs.Repetitions.{field_lists}
 use Rattle.ob_parse.proofs.LoopEnds.{stopped}
 use Rattle.ob_parse.proofs.Turns.{turn_shorter, turn_kept, turn_failed, turns_done}
 use Rattle.ob_parse.specs.ReadExpressions.{expr_at}
-use Rattle.ob_parse.proofs.Fronts.{leaf_stands, word_stands, type_seen}
+use Rattle.ob_parse.proofs.Lookaheads.{leaf_stands, word_stands, type_seen}
 use Rattle.ob_parse.proofs.types.+types.Goals as goal
 
 pub more_fields-more-smaller : goal.more_fields-more-smaller
@@ -30,14 +30,14 @@ more_fields-returns-in_err-here t c =
 
 pub more_fields-returns : goal.more_fields-returns
 more_fields-returns t c =
-    turns_done c.args.tokens.now (field_lists c.args.depth) c.more.rest.items c.more.here _ (sym c.next_fields.ensures.read ∙ ap (skipped c.args.tokens.now kinds.Semicolon) c.in_default.is) c.more.invariant
+    turns_done c.args.tokens.now (field_lists c.args.depth) c.more.rest.items c.more.here _ (sym c.accept_fields.ensures.read ∙ ap (skipped c.args.tokens.now kinds.Semicolon) c.in_default.is) c.more.invariant
 
 pub array-returns : goal.array-returns
 array-returns t c = rw (c.in_ok-lengths.ensures, c.in_ok-rest.ensures.read, c.in_ok-of.ensures, array_made c.in_ok-lengths.lengths c.in_ok-of.of) refl
 
 pub fields-returns : goal.fields-returns
 unfolding fields_with
-fields-returns t c = gives_boxed c.args.tokens.now fields_outline _ _ c.boxed.result _ c.boxed.ensures.of c.boxed.ensures.refused (rw (c.in_ok-first.ensures, c.in_ok-rest.ensures, sym c.skip-closing_semicolon.ensures.read, fields_made c.into_inner.result c.in_ok-rest.rest c.skip-closing_semicolon.result.0, c.into_inner.ensures) refl)
+fields-returns t c = gives_boxed c.args.tokens.now fields_events _ _ c.boxed.result _ c.boxed.ensures.of c.boxed.ensures.refused (rw (c.in_ok-first.ensures, c.in_ok-rest.ensures, sym c.skip-closing_semicolon.ensures.read, fields_made c.into_inner.result c.in_ok-rest.rest c.skip-closing_semicolon.result.0, c.into_inner.ensures) refl)
 
 pub pointer-returns : goal.pointer-returns
 pointer-returns t c = rw (c.in_ok-rest.ensures.read, c.in_ok-to.ensures, pointer_made c.in_ok-to.to) refl
@@ -48,19 +48,19 @@ record-returns t c = rw (c.in_ok-base.ensures.read, c.in_ok-fields.ensures, c.in
 
 pub some_fields-returns : goal.some_fields-returns
 some_fields-returns t c =
-    gives_some c.args.tokens.now c.fields.result (λ l. fields_outline l.value) c.some.result (unless kinds.End) _ _ _ c.some.ensures (not_closed kinds.End _ (sym c.is_at.ensures ∙ c.if-is_at.false)) c.fields.ensures
+    gives_some c.args.tokens.now c.fields.result (λ l. fields_events l.value) c.some.result (unless kinds.End) _ _ _ c.some.ensures (not_closed kinds.End _ (sym c.is_at.ensures ∙ c.if-is_at.false)) c.fields.ensures
 
 pub some_fields-returns-then-is_at : goal.some_fields-returns-then-is_at
 unfolding unless
 some_fields-returns-then-is_at t c = grind arith
 
-pub type_form-returns : goal.type_form-returns
+pub type_expression-returns : goal.type_expression-returns
 unfolding type_at limit_at
-type_form-returns t c = gives_boxed c.args.tokens.now type_outline _ _ c.boxed.result _ c.boxed.ensures.of c.boxed.ensures.refused (grind arith)
+type_expression-returns t c = gives_boxed c.args.tokens.now type_events _ _ c.boxed.result _ c.boxed.ensures.of c.boxed.ensures.refused (grind arith)
 
-pub type_form-returns-then-depth-eq0 : goal.type_form-returns-then-depth-eq0
+pub type_expression-returns-then-depth-eq0 : goal.type_expression-returns-then-depth-eq0
 unfolding type_at limit_at
-type_form-returns-then-depth-eq0 t c = grind arith
+type_expression-returns-then-depth-eq0 t c = grind arith
 
 pub type_within-returns-in-Some-Name-default : goal.type_within-returns-in-Some-Name-default
 type_within-returns-in-Some-Name-default t c = rw (type_seen (expr_at c.args.depth) (type_at c.args.depth) _ _ (leaf_stands c.args.tokens.now _ c.args.input c.in-Some-Name-default.rest _ (leafs.Name c.in-Some-Name-default.head) c.in-Some-Name-default.is c.in-Some-Name-default.field-0-0-is c.next.ensures.read)) c.named.ensures
@@ -83,4 +83,4 @@ type_within-returns-in_default t c = grind (arith, types_made)
 
 pub var_declaration-returns : goal.var_declaration-returns
 unfolding var_with
-var_declaration-returns t c = gives_boxed c.args.tokens.now var_outline _ _ c.boxed.result _ c.boxed.ensures.of c.boxed.ensures.refused (rw (c.in_ok-names.ensures, c.in_ok-here.ensures.read, c.in_ok-form.ensures, var_made c.in_ok-names.names c.into_inner-form.result, c.into_inner-form.ensures) refl)
+var_declaration-returns t c = gives_boxed c.args.tokens.now var_events _ _ c.boxed.result _ c.boxed.ensures.of c.boxed.ensures.refused (rw (c.in_ok-names.ensures, c.in_ok-here.ensures.read, c.in_ok-type_expr.ensures, var_made c.in_ok-names.names c.into_inner-type_expr.result, c.into_inner-type_expr.ensures) refl)

@@ -1,11 +1,11 @@
 use Rattle.std.proofs.Common.{◌+◌, ◌*◌, length}
-use Rattle.ob_parse.specs.Accords.{ahead}
+use Rattle.ob_parse.specs.AgreesWith.{remaining}
 use Rattle.ob_parse.proofs.Repetitions.{field_lists}
 use Rattle.ob_parse.proofs.Turns.{AreTurnsRead}
 use Rattle.ob_parse.proofs.types.+types.Given as goal
 
-abbrev pub decreases-type_form : goal.decreases-type_form
-decreases-type_form l = 16 * l.depth + 0
+abbrev pub decreases-type_expression : goal.decreases-type_expression
+decreases-type_expression l = 16 * l.depth + 0
 
 abbrev pub decreases-var_declaration : goal.decreases-var_declaration
 decreases-var_declaration l = 16 * l.depth + 1
@@ -29,7 +29,7 @@ abbrev pub invariant-more_fields-more : goal.invariant-more_fields-more
 invariant-more_fields-more l = AreTurnsRead l.fn.tokens (field_lists l.depth) l.rest.items l.fn.input l.here
 
 abbrev pub decreases-more_fields-more : goal.decreases-more_fields-more
-decreases-more_fields-more l = length (ahead l.fn.tokens l.here)
+decreases-more_fields-more l = length (remaining l.fn.tokens l.here)
 
 abbrev pub decreases-type_within : goal.decreases-type_within
 decreases-type_within l = 16 * l.depth + 8

@@ -1,5 +1,5 @@
 use Rattle.std.proofs.Common.{sym, ap, ◌∙◌, ◌≤◌, subst, List, Vec, Global, length}
-use Rattle.ob_rows.specs.Order.{AscendBy}
+use Rattle.module_table.specs.Order.{IsIncreasingBy}
 use Rattle.ob_scan.specs.declared.token.Token.{Token}
 use Rattle.ob_targets.specs.declared.target.Reference.{Reference}
 use Rattle.ob_resolve.proofs.Referring.{all_gone, identifier_step, none_gone, other_step}
@@ -9,27 +9,27 @@ use Rattle.ob_resolve.proofs.refs.references.Goals.{then-is_identifier+in_ok-pus
 
 pub token_number-requires-clause-ascend : goal.token_number-requires-clause-ascend
 token_number-requires-clause-ascend c =
-    subst (λ (ts : List Token). AscendBy (λ (t : Token). t.start) ts) (sym c.tokens-tokens.ensures) (tokens_ascend c.args.types.now.bytes c.args.types.now.tokens c.keeps.ensures)
+    subst (λ (ts : List Token). IsIncreasingBy (λ (t : Token). t.start) ts) (sym c.tokens-tokens.ensures) (tokens_ascend c.args.types.now.bytes c.args.types.now.tokens c.invariants.ensures)
 
-pub loop-place-preserved : goal.loop-place-preserved
-loop-place-preserved c =
+pub loop-position-preserved : goal.loop-position-preserved
+loop-position-preserved c =
     let w = c.args.types.now in
     let ts = c.tokens-tokens.result.now in
-    let i = c.loop-place.place in
-    let rs = c.loop-place.rows.items in
+    let i = c.loop-position.position in
+    let rs = c.loop-position.rows.items in
     elim c.if-is_identifier.branch [
-      | then-is_identifier+in_ok-push t ↦ identifier_step w ts i t.token_number.result _ c.is_identifier.result rs c.if-is_identifier.rows.items t.referred.result c.tokens-tokens.ensures
-          c.loop-place-test.true t.token_number.ensures c.is_identifier.ensures t.if-is_identifier.true t.referred.ensures (ap (λ (v : Vec Reference Global). v.items) t.rows-is ∙ t.in_ok-push.ensures.items)
-          c.loop-place.invariant
-      | else-is_identifier t ↦ other_step w ts i _ c.is_identifier.result rs c.if-is_identifier.rows.items c.tokens-tokens.ensures c.loop-place-test.true c.is_identifier.ensures
-          t.if-is_identifier.false (ap (λ (v : Vec Reference Global). v.items) t.rows-is) c.loop-place.invariant
+      | then-is_identifier+in_ok-push t ↦ identifier_step w ts i t.token_number.result _ c.is_identifier.result rs c.if-is_identifier.rows.items t.reference_of.result c.tokens-tokens.ensures
+          c.loop-position-test.true t.token_number.ensures c.is_identifier.ensures t.if-is_identifier.true t.reference_of.ensures (ap (λ (v : Vec Reference Global). v.items) t.rows-is ∙ t.in_ok-push.ensures.items)
+          c.loop-position.invariant
+      | else-is_identifier t ↦ other_step w ts i _ c.is_identifier.result rs c.if-is_identifier.rows.items c.tokens-tokens.ensures c.loop-position-test.true c.is_identifier.ensures
+          t.if-is_identifier.false (ap (λ (v : Vec Reference Global). v.items) t.rows-is) c.loop-position.invariant
     ]
 
-pub loop-place-init : goal.loop-place-init
-loop-place-init c = none_gone c.args.types.now c.new-rows.result.items c.new-rows.ensures.items
+pub loop-position-init : goal.loop-position-init
+loop-position-init c = none_gone c.args.types.now c.new-rows.result.items c.new-rows.ensures.items
 
 pub returns : goal.returns
 returns c = record {
-  exact = all_gone c.args.types.now c.loop-place.place c.loop-place.rows.items (subst (λ (ts : List Token). length ts ≤ c.loop-place.place) c.tokens-tokens.ensures c.loop-place-test.false)
-      c.loop-place.invariant;
+  exact = all_gone c.args.types.now c.loop-position.position c.loop-position.rows.items (subst (λ (ts : List Token). length ts ≤ c.loop-position.position) c.tokens-tokens.ensures c.loop-position-test.false)
+      c.loop-position.invariant;
 }

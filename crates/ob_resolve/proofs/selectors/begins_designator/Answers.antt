@@ -2,7 +2,7 @@
 use Rattle.std.proofs.Common.{◌≡◌, ℕ, zero, suc, ◌-◌, ◌≤◌, List, Option, Some, None, true, not, refl, sym, ap, ◌∙◌, arith}
 use Rattle.std.specs.Prelude.{◌==◌, slice_get}
 use Rattle.std.proofs.lemmas.Option.{slice_get_past, slice_get_read}
-use Rattle.ob_rows.specs.declared.rows.Selector.{Selector}
+use Rattle.module_table.specs.declared.rows.Selector.{Selector}
 use Rattle.ob_targets.specs.Steps.{begins_designator}
 use Rattle.ob_resolve.proofs.selectors.begins_designator.Goals as goal
 
@@ -23,14 +23,14 @@ behind_another ss (suc p) e s before l is there =
     sym (ap (λ (o : Option Selector). elim o [ None ↦ true | Some earlier ↦ not (earlier.of == s.of) ]) (ap (slice_get ss) same ∙ there))
 
 pub returns-in-None : goal.returns-in-None
-returns-in-None c = first_of_all c.args.selectors.now c.args.place c.args.selector c.in-None.ensures
+returns-in-None c = first_of_all c.args.selectors.now c.args.position c.args.selector c.in-None.ensures
 
 pub returns-in-None-get : goal.returns-in-None-get
 returns-in-None-get c =
-    behind_none c.args.selectors.now c.args.place c.in-Some.earlier c.args.selector c.in-Some.ensures.0 c.in-Some.ensures.1
+    behind_none c.args.selectors.now c.args.position c.in-Some.earlier c.args.selector c.in-Some.ensures.0 c.in-Some.ensures.1
     (slice_get_past c.args.selectors.now c.in-Some.earlier c.in-None-get.ensures.lookup.3)
 
 pub returns-in-Some-get : goal.returns-in-Some-get
 returns-in-Some-get c =
-    behind_another c.args.selectors.now c.args.place c.in-Some.earlier c.args.selector c.in-Some-get.before.now c.in-Some.ensures.0 c.in-Some.ensures.1
+    behind_another c.args.selectors.now c.args.position c.in-Some.earlier c.args.selector c.in-Some-get.before.now c.in-Some.ensures.0 c.in-Some.ensures.1
     (slice_get_read c.args.selectors.now _ c.in-Some.earlier c.in-Some-get.before.now refl c.in-Some-get.ensures.lookup.3.0 c.in-Some-get.ensures.lookup.1)

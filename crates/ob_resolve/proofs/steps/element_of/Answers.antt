@@ -1,4 +1,4 @@
-use Rattle.type_search.specs.Searches.{HasElement}
+use Rattle.type_graph.specs.Searches.{HasElement}
 use Rattle.ob_types.specs.Shapes.{shape}
 use Rattle.ob_resolve.proofs.Stepping.{follows_nothing, follows_module, follows_there, follows_nowhere}
 use Rattle.ob_resolve.proofs.steps.element_of.Goals as goal

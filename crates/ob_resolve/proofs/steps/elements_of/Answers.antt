@@ -1,5 +1,5 @@
 use Rattle.std.proofs.Common.{add-one, refl, subst, ◌∙◌}
-use Rattle.type_search.specs.Searches.{HasElement}
+use Rattle.type_graph.specs.Searches.{HasElement}
 use Rattle.ob_types.specs.Same.{same}
 use Rattle.ob_types.specs.Shapes.{shape}
 use Rattle.ob_types.specs.World.{World}

@@ -1,8 +1,8 @@
 -- One more use.
 use Rattle.std.proofs.Common.{ap, ◌∙◌, map}
 use Rattle.std.proofs.lemmas.List.{take_all}
-use Rattle.ob_rows.specs.Parts.{Rows}
-use Rattle.ob_rows.specs.declared.rows.Used.{Used}
+use Rattle.module_table.specs.Parts.{Rows}
+use Rattle.module_table.specs.declared.rows.Used.{Used}
 use Rattle.ob_types.proofs.Ascending.{mapped_more}
 use Rattle.ob_targets.specs.Targets.{used_target}
 use Rattle.ob_resolve.proofs.used.used_targets.Goals as goal
@@ -14,7 +14,7 @@ pub loop-row-preserved : goal.loop-row-preserved
 loop-row-preserved c =
     rw c.in_ok-push.ensures.items
     (mapped_more (λ (u : Used). used_target c.args.types.now u.number) c.uses-uses.result.now c.loop-row.row-index _ _ _ c.loop-row-test.true c.loop-row.invariant
-    c.used_near.ensures)
+    c.used_by_hint.ensures)
 
 pub returns : goal.returns
 returns c =

@@ -1,5 +1,5 @@
 use Rattle.std.proofs.Common.{◌≡◌, map, take}
-use Rattle.ob_rows.specs.declared.rows.Used.{Used}
+use Rattle.module_table.specs.declared.rows.Used.{Used}
 use Rattle.ob_targets.specs.Targets.{used_target}
 use Rattle.ob_resolve.proofs.used.used_targets.Given as goal
 

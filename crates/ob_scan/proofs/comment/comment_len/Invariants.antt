@@ -1,5 +1,5 @@
 use Rattle.std.proofs.Common.{◌≡◌, ◌≤◌, ◌-◌, length, drop}
-use Rattle.ob_scan.specs.Pieces.{after_comment}
+use Rattle.ob_scan.specs.Lexemes.{after_comment}
 use Rattle.ob_scan.proofs.comment.comment_len.Given as goal
 
 abbrev pub invariant-inside : goal.invariant-inside

@@ -4,13 +4,13 @@ use Rattle.ob_scan.proofs.line_ends.lines.Goals as goal
 use Rattle.ob_scan.proofs.line_ends.lines.Goals.{then-ends_line+in_ok-push, else-ends_line}
 
 pub ends-init : goal.ends-init
-ends-init c = (c.next_end-last.ensures.before, c.in_ok-starts.ensures.items ∙ sym (start_passed c.args.bytes.now 0 _ (omega arith) c.next_end-last.ensures.passed))
+ends-init c = (c.find_line_end-last.ensures.before, c.in_ok-starts.ensures.items ∙ sym (start_passed c.args.bytes.now 0 _ (omega arith) c.find_line_end-last.ensures.passed))
 
 pub ends-preserved : goal.ends-preserved
 ends-preserved c =
     let bytes = c.args.bytes.now in
-    let next = c.next_end-last-in-ends.ensures in
-    let more = sym (start_passed bytes (c.ends.last + 1) _ next.behind next.passed) in (
+    let next = c.find_line_end-last-in-ends.ensures in
+    let more = sym (start_passed bytes (c.ends.last + 1) _ next.lower next.passed) in (
       next.before,
       elim c.if-ends_line.branch [
         | then-ends_line+in_ok-push w ↦

@@ -23,5 +23,5 @@ loop-i-preserved c =
       | in_default w ↦ (
           rw w.types-is (types_skip members numbers i c.loop-i.types c.loop-i.invariant (λ key h.
           (let same = some_one h.member _ (sym h.there ∙ there) in
-          w.in_default.ensures.none key.0 (ap (λ (m : Member). m.place) (sym same) ∙ h.placed) (ap (λ (m : Member). m.sort) (sym same) ∙ h.a_type)))))
+          w.in_default.ensures.none key.0 (ap (λ (m : Member). m.place) (sym same) ∙ h.placed) (ap (λ (m : Member). m.decl_kind) (sym same) ∙ h.a_type)))))
     ]

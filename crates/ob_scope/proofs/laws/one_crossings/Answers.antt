@@ -1,4 +1,4 @@
-use Rattle.ob_scope.proofs.Crossed.{crossings_once}
+use Rattle.ob_scope.proofs.ImportUses.{crossings_once}
 use Rattle.ob_scope.proofs.laws.one_crossings.Goals as goal
 
 pub returns : goal.returns

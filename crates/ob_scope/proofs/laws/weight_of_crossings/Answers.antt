@@ -1,4 +1,4 @@
-use Rattle.ob_scope.proofs.Crossed.{crossings_weigh}
+use Rattle.ob_scope.proofs.ImportUses.{crossings_weigh}
 use Rattle.ob_scope.proofs.laws.weight_of_crossings.Goals as goal
 
 pub returns : goal.returns

@@ -4,7 +4,7 @@ use Rattle.oscip_job.specs.declared.job.JobFault.{JobFault}
 use Rattle.oscip_run.specs.Endings.{EndsByFault, EndsWords}
 use Rattle.oscip_run.specs.Streams.{WritesPrefix}
 use Rattle.oscip_run.specs.declared.fault.RunFault.TheVariants.{Device, Memory}
-use Rattle.text_escape.specs.Places.{plain_style}
+use Rattle.text_escape.specs.Places.{raw_style}
 use Rattle.oscip_run.proofs.ending.end_without_job.Goals as goal
 
 pub returns-in-Err : goal.returns-in-Err
@@ -14,7 +14,7 @@ returns-in-Err g c =
     subst (λ (f : JobFault). EndsWords g.O.Sink.taken g.E.Sink.taken f (c.args.stdout.now, c.write-in-Help.new.self) (old, new) (exit_status c.from-in-Err.result)) (sym c.in-Help.is)
     (inr (
       subst (WritesPrefix g.O.Sink.taken c.args.stdout.now c.write-in-Help.new.self) c.as_str-in-Help.ensures.value c.in-Err.ensures.written,
-      subst (EndsByFault g.E.Sink.taken plain_style Device old new) (sym c.from-in-Err.ensures) (c.end_by_fault-status.ensures plain_style refl),
+      subst (EndsByFault g.E.Sink.taken raw_style Device old new) (sym c.from-in-Err.ensures) (c.end_by_fault-status.ensures raw_style refl),
     ))
 
 pub returns-in-Memory : goal.returns-in-Memory
@@ -22,4 +22,4 @@ returns-in-Memory g c =
     let old = c.args.stderr.now in
     let new = c.end_by_memory.new.stderr in
     subst (λ (f : JobFault). EndsWords g.O.Sink.taken g.E.Sink.taken f (c.args.stdout.now, c.args.stdout.now) (old, new) (exit_status c.from-in-Memory.result)) (sym c.in-Memory.is)
-    (subst (EndsByFault g.E.Sink.taken plain_style Memory old new) (sym c.from-in-Memory.ensures) (c.end_by_memory.ensures plain_style), refl)
+    (subst (EndsByFault g.E.Sink.taken raw_style Memory old new) (sym c.from-in-Memory.ensures) (c.end_by_memory.ensures raw_style), refl)

@@ -2,31 +2,31 @@ use Rattle.std.proofs.Common.{◌≡◌, ℕ, List, [], true, false, length, cod
 use Rattle.std.specs.Io.KnownBytes.{Appends}
 use Rattle.std.proofs.lemmas.List.{nil_from_length}
 use Rattle.std.proofs.lemmas.Result.{err_from_is_err_and}
-use Rattle.byte_sink.specs.Sinks.{AppendsFront}
+use Rattle.byte_sink.specs.Sinks.{AppendsPrefix}
 use Rattle.text_escape.specs.Places.{style_of}
 use Rattle.oscip_run.specs.FaultRuns.{fault_lines}
-use Rattle.oscip_tree.specs.declared.tree_fault.TreeFault.{TreeFault}
-use Rattle.oscip_run.proofs.FaultRuns.{accepted, broken, refused}
+use Rattle.source_tree.specs.declared.tree_fault.TreeFault.{TreeFault}
+use Rattle.oscip_run.proofs.FaultRuns.{accepted, error_prefix, refused}
 use Rattle.oscip_run.proofs.faults.faults_tree.Goals as goal
 
-pub returns-in_err-put_all-clause-run : goal.returns-in_err-put_all-clause-run
-returns-in_err-put_all-clause-run g c =
-    let p = err_from_is_err_and c.from_residual-in_err-put_all.result c.from_residual-in_err-put_all.ensures.1 in
+pub returns-in_err-write_fully-clause-run : goal.returns-in_err-write_fully-clause-run
+returns-in_err-write_fully-clause-run g c =
+    let p = err_from_is_err_and c.from_residual-in_err-write_fully.result c.from_residual-in_err-write_fully.ensures.1 in
     let long : length c.in_ok-faults.faults.items ≡ 0 = search rules in
-    rw (p.1, p.2) (broken (style_of c.args.style) c.args.sources.now (codes "yes\n") true _ _ _ (accepted (style_of c.args.style) c.args.sources.now c.in_ok-faults.faults.items (nil_from_length _ long) c.in_ok-faults.ensures) c.in_err-put_all.ensures.puts)
+    rw (p.1, p.2) (error_prefix (style_of c.args.style) c.args.sources.now (codes "yes\n") true _ _ _ (accepted (style_of c.args.style) c.args.sources.now c.in_ok-faults.faults.items (nil_from_length _ long) c.in_ok-faults.ensures) c.in_err-write_fully.ensures.writes)
 
 pub returns-then-is_empty-clause-run : goal.returns-then-is_empty-clause-run
 returns-then-is_empty-clause-run g c =
     let long : length c.in_ok-faults.faults.items ≡ 0 = search rules in
-    (codes "yes\n", accepted (style_of c.args.style) c.args.sources.now c.in_ok-faults.faults.items (nil_from_length _ long) c.in_ok-faults.ensures, c.in_ok-put_all.ensures.puts)
+    (codes "yes\n", accepted (style_of c.args.style) c.args.sources.now c.in_ok-faults.faults.items (nil_from_length _ long) c.in_ok-faults.ensures, c.in_ok-write_fully.ensures.writes)
 
-pub returns-in_err-put_lines-clause-run : goal.returns-in_err-put_lines-clause-run
-returns-in_err-put_lines-clause-run g c =
-    let p = err_from_is_err_and c.from_residual-in_err-put_lines.result c.from_residual-in_err-put_lines.ensures.1 in
+pub returns-in_err-write_lines-clause-run : goal.returns-in_err-write_lines-clause-run
+returns-in_err-write_lines-clause-run g c =
+    let p = err_from_is_err_and c.from_residual-in_err-write_lines.result c.from_residual-in_err-write_lines.ensures.1 in
     let faults = c.in_ok-faults.faults.items in
     let some : faults ≡ [] → ⊥ = λ none. (let long = ap (length {A = TreeFault}) none in let is = c.if-is_empty.false in absurd (search rules)) in
-    rw (p.1, p.2) (broken (style_of c.args.style) c.args.sources.now (fault_lines (style_of c.args.style) faults) false _ _ _ (refused (style_of c.args.style) c.args.sources.now faults some c.in_ok-faults.ensures)
-    (subst (λ (told : List TreeFault). AppendsFront (g.S.Sink.taken c.args.sink.now) (g.S.Sink.taken c.put_lines.new.sink) (fault_lines (style_of c.args.style) told)) c.as_slice.ensures.value c.in_err-put_lines.ensures.puts))
+    rw (p.1, p.2) (error_prefix (style_of c.args.style) c.args.sources.now (fault_lines (style_of c.args.style) faults) false _ _ _ (refused (style_of c.args.style) c.args.sources.now faults some c.in_ok-faults.ensures)
+    (subst (λ (told : List TreeFault). AppendsPrefix (g.S.Sink.taken c.args.sink.now) (g.S.Sink.taken c.write_lines.new.sink) (fault_lines (style_of c.args.style) told)) c.as_slice.ensures.value c.in_err-write_lines.ensures.writes))
 
 pub returns-clause-run : goal.returns-clause-run
 returns-clause-run g c =
@@ -34,5 +34,5 @@ returns-clause-run g c =
     let some : faults ≡ [] → ⊥ = λ none. (let long = ap (length {A = TreeFault}) none in let is = c.if-is_empty.false in absurd (search rules)) in (
       fault_lines (style_of c.args.style) faults,
       refused (style_of c.args.style) c.args.sources.now faults some c.in_ok-faults.ensures,
-      subst (λ (told : List TreeFault). Appends (g.S.Sink.taken c.args.sink.now) (g.S.Sink.taken c.put_lines.new.sink) (fault_lines (style_of c.args.style) told)) c.as_slice.ensures.value c.in_ok-put_lines.ensures.puts,
+      subst (λ (told : List TreeFault). Appends (g.S.Sink.taken c.args.sink.now) (g.S.Sink.taken c.write_lines.new.sink) (fault_lines (style_of c.args.style) told)) c.as_slice.ensures.value c.in_ok-write_lines.ensures.writes,
     )

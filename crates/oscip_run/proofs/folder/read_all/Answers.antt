@@ -4,8 +4,8 @@ use Rattle.std.specs.String.{string_bytes}
 use Rattle.std.specs.declared.alloc.Global.{Global}
 use Rattle.std.proofs.lemmas.List.{map-append}
 use Rattle.std.proofs.lemmas.List.Elements.{All-push}
-use Rattle.oscip_run.specs.Files.{AreFronts, IsFrontOfModule}
-use Rattle.oscip_tree.specs.declared.source.Source.{Source}
+use Rattle.oscip_run.specs.Files.{AreModulePrefixes, IsModulePrefix}
+use Rattle.source_tree.specs.declared.source.Source.{Source}
 use Rattle.oscip_run.proofs.folder.read_all.Goals as goal
 
 pub loop-path-preserved : goal.loop-path-preserved
@@ -16,7 +16,7 @@ loop-path-preserved g c =
     let sources = c.loop-path.sources.items in
     let source = c.in_ok-source.source in
     record {
-      most = subst (λ (z : List Source). AreFronts z) (sym c.in_ok-push.ensures.items) (All-push (λ (s : Source). IsFrontOfModule s.bytes.items) sources source c.loop-path.invariant.most c.in_ok-source.ensures.most);
+      most = subst (λ (z : List Source). AreModulePrefixes z) (sym c.in_ok-push.ensures.items) (All-push (λ (s : Source). IsModulePrefix s.bytes.items) sources source c.loop-path.invariant.most c.in_ok-source.ensures.most);
       read = (
         done ++ path ∷ [],
         e ∙ ap (λ (l : List (String Global)). done ++ l) c.in-Some.ensures.steps.0 ∙ sym (append_assoc done (path ∷ []) rest),

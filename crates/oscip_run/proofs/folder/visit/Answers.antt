@@ -19,11 +19,11 @@ returns-in_err-push g c = λ patterns read old. subst (λ (files : List (String 
 
 pub returns : goal.returns
 returns g c = λ patterns read old.
-    let free : IsExcludedBy c.args.exclusion.now.globs.items (names_of (string_bytes c.args.place.path)) → ⊥ = λ by. false≢true
+    let free : IsExcludedBy c.args.exclusion.now.globs.items (names_of (string_bytes c.args.location.path)) → ⊥ = λ by. false≢true
     (sym c.if-branch.false ∙ c.in_ok-excludes.ensures.1 (subst (λ (path : List ℕ). IsExcludedBy c.args.exclusion.now.globs.items (names_of path)) (sym c.as_str.ensures.value) by)) in
     elim c.if-is_module.branch [
       | then-is_module+in_ok-push w ↦ subst (λ (walk : Walk). AreIncludedPaths patterns (texts walk.files.items)) (sym w.walk-is)
           (subst (λ (files : List (String Global)). AreIncludedPaths patterns (texts files)) (sym w.in_ok-push.ensures.items)
-          (included_more patterns c.args.exclusion.now.globs.items c.args.walk.now.files.items c.args.place.path read free old))
+          (included_more patterns c.args.exclusion.now.globs.items c.args.walk.now.files.items c.args.location.path read free old))
       | else-is_module w ↦ subst (λ (walk : Walk). AreIncludedPaths patterns (texts walk.files.items)) (sym w.walk-is) old
     ]

@@ -1,4 +1,4 @@
-use Rattle.oscip_tree.specs.Trees.{IsNetOfTree}
+use Rattle.source_tree.specs.Trees.{IsNetOfTree}
 use Rattle.oscip_run.specs.Runs.{IsNetOfText}
 use Rattle.oscip_run.proofs.WithoutPrices.{plain_text}
 use Rattle.oscip_run.proofs.laws.without_prices.Goals as goal

@@ -2,13 +2,13 @@ use Rattle.std.proofs.Common.{◌∙◌, ℕ, List, Option, None, Err, inl, leng
 use Rattle.std.specs.Prelude.{option_map}
 use Rattle.std.proofs.lemmas.Result.{err_from_is_err_and}
 use Rattle.oscip_run.specs.ModuleRuns.{entry_lines, entry_of, IsModulesRun, IsModulesText, IsPathAt, ModuleEntry}
-use Rattle.oscip_run.specs.Runs.{IsRefusedTree}
+use Rattle.oscip_run.specs.Runs.{IsRejectedTree}
 use Rattle.oscip_run.specs.declared.fault.RunFault.{RunFault}
 use Rattle.oscip_run.specs.declared.listing.ListedModule.{ListedModule}
-use Rattle.oscip_tree.specs.Located.{AreModulesOf}
+use Rattle.source_tree.specs.Located.{AreModulesOf}
 use Rattle.text_escape.specs.Places.{style_of}
 use Rattle.oscip_run.proofs.CheckRuns.{refused_tree, Keeps-same}
-use Rattle.oscip_run.proofs.ImportRuns.{broken}
+use Rattle.oscip_run.proofs.ImportRuns.{error_prefix}
 use Rattle.oscip_run.proofs.ModuleLists.{mapped_at, modules_text, modules_within}
 use Rattle.oscip_run.proofs.listing.modules_tree.Goals as goal
 
@@ -41,7 +41,7 @@ returns-in_err-write_lines-clause-run g c =
     let modules = subst (AreModulesOf sources net) (sym c.as_slice-modules.ensures.value) c.in_ok-located.ensures.modules in
     let text = modules_text (style_of c.args.style) sources net c.as_slice-modules.result.now (map at c.in_ok-paths.paths.items) entries c.in_ok-located.ensures.net modules
     (λ m. subst (IsPathAt sources c.as_slice-modules.result.now (length sources) m) (sym (mapped_at at c.in_ok-paths.paths.items m None)) (c.in_ok-paths.ensures.paths m)) named pathed in
-    rw (p.1, p.2) (broken (IsModulesText (style_of c.args.style) sources) (IsRefusedTree sources) _ _ _ _ text c.in_err-write_lines.ensures.puts)
+    rw (p.1, p.2) (error_prefix (IsModulesText (style_of c.args.style) sources) (IsRejectedTree sources) _ _ _ _ text c.in_err-write_lines.ensures.writes)
 
 pub returns-clause-run : goal.returns-clause-run
 returns-clause-run g c =
@@ -54,4 +54,4 @@ returns-clause-run g c =
     let modules = subst (AreModulesOf sources net) (sym c.as_slice-modules.ensures.value) c.in_ok-located.ensures.modules in
     let text = modules_text (style_of c.args.style) sources net c.as_slice-modules.result.now (map at c.in_ok-paths.paths.items) entries c.in_ok-located.ensures.net modules
     (λ m. subst (IsPathAt sources c.as_slice-modules.result.now (length sources) m) (sym (mapped_at at c.in_ok-paths.paths.items m None)) (c.in_ok-paths.ensures.paths m)) named pathed in
-    (entry_lines (style_of c.args.style) entries, text, c.in_ok-write_lines.ensures.puts)
+    (entry_lines (style_of c.args.style) entries, text, c.in_ok-write_lines.ensures.writes)

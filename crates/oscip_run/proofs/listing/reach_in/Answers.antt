@@ -2,12 +2,12 @@ use Rattle.std.proofs.Common.{◌∙◌, ◌<◌, ℕ, List, length, map, sym, a
 use Rattle.std.specs.Prelude.{All}
 use Rattle.std.specs.Io.KnownBytes.{Appends}
 use Rattle.std.proofs.lemmas.Result.{err_from_is_err_and}
-use Rattle.byte_sink.specs.Sinks.{AppendsFront}
+use Rattle.byte_sink.specs.Sinks.{AppendsPrefix}
 use Rattle.oscip_run.specs.ModuleRuns.{entry_lines, entry_of, ModuleEntry}
-use Rattle.oscip_run.specs.ReachRuns.{named_entry, IsReachRefused, IsReachText}
-use Rattle.oscip_run.specs.Runs.{IsNeverRefused, IsThis}
-use Rattle.text_escape.specs.Places.{plain_style}
-use Rattle.oscip_run.proofs.ImportRuns.{broken}
+use Rattle.oscip_run.specs.ReachRuns.{named_entry, IsReachRejected, IsReachText}
+use Rattle.oscip_run.specs.Runs.{IsNeverRejected, IsThis}
+use Rattle.text_escape.specs.Places.{raw_style}
+use Rattle.oscip_run.proofs.ImportRuns.{error_prefix}
 use Rattle.oscip_run.proofs.ModuleLists.{reach_text, unknown_name}
 use Rattle.oscip_run.proofs.listing.reach_in.Goals as goal
 
@@ -25,14 +25,14 @@ returns-in_err-write_lines-clause-run g c =
     let net = c.args.net.now in
     let entries = ap (map entry_of) c.as_slice-2.ensures.value ∙ c.in_ok-listed.ensures ∙ ap (map (named_entry net)) c.as_slice.ensures.value in
     let text = reach_text c.args.name.now c.args.direction net c.in_ok-start.start c.in_ok-reached.reached.items c.in_ok-start.ensures c.in_ok-reached.ensures.ascending c.in_ok-reached.ensures.exact in
-    let front = subst (λ (es : List ModuleEntry). AppendsFront (g.S.Sink.taken c.args.sink.now) (g.S.Sink.taken c.write_lines.new.sink) (entry_lines plain_style es)) entries c.in_err-write_lines.ensures.puts in
-    rw (p.1, p.2) (broken (IsReachText (IsThis net) c.args.name.now c.args.direction) (IsReachRefused (IsThis net) IsNeverRefused c.args.name.now) _ _ _ _ text front)
+    let front = subst (λ (es : List ModuleEntry). AppendsPrefix (g.S.Sink.taken c.args.sink.now) (g.S.Sink.taken c.write_lines.new.sink) (entry_lines raw_style es)) entries c.in_err-write_lines.ensures.writes in
+    rw (p.1, p.2) (error_prefix (IsReachText (IsThis net) c.args.name.now c.args.direction) (IsReachRejected (IsThis net) IsNeverRejected c.args.name.now) _ _ _ _ text front)
 
 pub returns-clause-run : goal.returns-clause-run
 returns-clause-run g c =
     let net = c.args.net.now in
     let entries = ap (map entry_of) c.as_slice-2.ensures.value ∙ c.in_ok-listed.ensures ∙ ap (map (named_entry net)) c.as_slice.ensures.value in (
-      entry_lines plain_style (map (named_entry net) c.in_ok-reached.reached.items),
+      entry_lines raw_style (map (named_entry net) c.in_ok-reached.reached.items),
       reach_text c.args.name.now c.args.direction net c.in_ok-start.start c.in_ok-reached.reached.items c.in_ok-start.ensures c.in_ok-reached.ensures.ascending c.in_ok-reached.ensures.exact,
-      subst (λ (es : List ModuleEntry). Appends (g.S.Sink.taken c.args.sink.now) (g.S.Sink.taken c.write_lines.new.sink) (entry_lines plain_style es)) entries c.in_ok-write_lines.ensures.puts,
+      subst (λ (es : List ModuleEntry). Appends (g.S.Sink.taken c.args.sink.now) (g.S.Sink.taken c.write_lines.new.sink) (entry_lines raw_style es)) entries c.in_ok-write_lines.ensures.writes,
     )

@@ -1,13 +1,13 @@
 -- What was written and what is in hand are the lines so far.
 use Rattle.std.proofs.Common.{◌≡◌, map, take}
 use Rattle.std.specs.String.{string_bytes}
-use Rattle.text_pieces.specs.Pieces.{PutsAllBut}
+use Rattle.byte_sink.specs.Pieces.{WritesAllBut}
 use Rattle.oscip_run.specs.ModuleRuns.{entry_lines, entry_of}
 use Rattle.text_escape.specs.Places.{style_of}
 use Rattle.oscip_run.proofs.listing.write_lines.Given as goal
 
 abbrev pub invariant-loop-listed : goal.invariant-loop-listed
 invariant-loop-listed g l = record {
-  gathered : PutsAllBut (g.S.Sink.taken l.initial.sink) (g.S.Sink.taken l.sink) (entry_lines (style_of l.style) (map entry_of (take l.listed-index l.modules))) (string_bytes l.text);
+  gathered : WritesAllBut (g.S.Sink.taken l.initial.sink) (g.S.Sink.taken l.sink) (entry_lines (style_of l.style) (map entry_of (take l.listed-index l.modules))) (string_bytes l.text);
   failures : g.S.Sink.failures l.sink ≡ g.S.Sink.failures l.initial.sink;
 }

@@ -1,6 +1,6 @@
 use Rattle.std.specs.Prelude.{option_copied}
 use Rattle.std.proofs.lemmas.Result.{err_from_is_err_and, IfErr-weaker, IfOk-weaker}
-use Rattle.oscip_run.specs.Runs.{IsNetOfText, IsRefusedText}
+use Rattle.oscip_run.specs.Runs.{IsNetOfText, IsRejectedText}
 use Rattle.oscip_run.proofs.PricedInputs.{priced_of, refused_of, refused_text}
 use Rattle.oscip_run.proofs.priced.net_of_text.Goals as goal
 
@@ -14,4 +14,4 @@ returns-clause-net c = IfOk-weaker c.with_prices.result _ _ (λ net h. priced_of
 
 pub returns-clause-fault : goal.returns-clause-fault
 returns-clause-fault c =
-    IfErr-weaker c.with_prices.result _ _ (λ fault h. refused_of (IsNetOfText c.args.network.now) (IsRefusedText c.args.network.now) c.in_ok-net.net c.in_ok-net.ensures.exact (option_copied c.args.prices) fault h) c.with_prices.ensures.fault
+    IfErr-weaker c.with_prices.result _ _ (λ fault h. refused_of (IsNetOfText c.args.network.now) (IsRejectedText c.args.network.now) c.in_ok-net.net c.in_ok-net.ensures.exact (option_copied c.args.prices) fault h) c.with_prices.ensures.fault

@@ -1,7 +1,7 @@
 use Rattle.std.specs.Prelude.{option_copied}
 use Rattle.std.proofs.lemmas.Result.{err_from_is_err_and, IfErr-weaker, IfOk-weaker}
-use Rattle.oscip_tree.specs.Trees.{IsNetOfTree}
-use Rattle.oscip_run.specs.Runs.{IsRefusedTree}
+use Rattle.source_tree.specs.Trees.{IsNetOfTree}
+use Rattle.oscip_run.specs.Runs.{IsRejectedTree}
 use Rattle.oscip_run.proofs.PricedInputs.{priced_of, refused_of, refused_files}
 use Rattle.oscip_run.proofs.priced.net_of_tree.Goals as goal
 
@@ -15,4 +15,4 @@ returns-clause-net g c = IfOk-weaker c.with_prices.result _ _ (λ net h. priced_
 
 pub returns-clause-fault : goal.returns-clause-fault
 returns-clause-fault g c =
-    IfErr-weaker c.with_prices.result _ _ (λ fault h. refused_of (IsNetOfTree c.args.sources.now) (IsRefusedTree c.args.sources.now) c.in_ok-net.net c.in_ok-net.ensures.net (option_copied c.args.prices) fault h) c.with_prices.ensures.fault
+    IfErr-weaker c.with_prices.result _ _ (λ fault h. refused_of (IsNetOfTree c.args.sources.now) (IsRejectedTree c.args.sources.now) c.in_ok-net.net c.in_ok-net.ensures.net (option_copied c.args.prices) fault h) c.with_prices.ensures.fault

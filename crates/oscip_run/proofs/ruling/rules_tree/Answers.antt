@@ -8,11 +8,11 @@ use Rattle.std.proofs.lemmas.Result.{err_from_is_err_and}
 use Rattle.text_escape.specs.Places.{style_of}
 use Rattle.cut_net.specs.declared.priced.Priced.{Priced}
 use Rattle.oscip_run.specs.RuleRuns.{AreSitesIn, IsRuledTree, IsRulesRun}
-use Rattle.oscip_run.specs.Runs.{IsRefusedTree}
+use Rattle.oscip_run.specs.Runs.{IsRejectedTree}
 use Rattle.oscip_run.specs.declared.fault.RunFault.{RunFault}
-use Rattle.oscip_tree.specs.Located.{AreModulesOf}
-use Rattle.oscip_tree.specs.declared.import_sites.ImportSite.{ImportSite}
-use Rattle.oscip_tree.proofs.TreeFiles.{there}
+use Rattle.source_tree.specs.Located.{AreModulesOf}
+use Rattle.source_tree.specs.declared.import_sites.ImportSite.{ImportSite}
+use Rattle.source_tree.proofs.TreeFiles.{there}
 use Rattle.oscip_run.proofs.CheckRuns.{refused_tree, Keeps-same}
 use Rattle.oscip_run.proofs.RuleRuns.{files_sorted, run_of}
 use Rattle.oscip_run.proofs.ruling.rules_tree.Goals as goal
@@ -20,7 +20,7 @@ use Rattle.oscip_run.proofs.ruling.rules_tree.Goals as goal
 pub returns-in_err-located-clause-run : goal.returns-in_err-located-clause-run
 returns-in_err-located-clause-run g c =
     let p = err_from_is_err_and c.from_residual.result c.from_residual.ensures.1 in
-    rw (p.1, p.2) (refused_tree (λ (fault : RunFault). IsRulesRun (IsRuledTree c.args.sources.now) (IsRefusedTree c.args.sources.now) (style_of c.args.style) c.args.rules.now (g.S.Sink.taken c.args.sink.now) (g.S.Sink.taken c.args.sink.now) (Err fault)) c.args.sources.now
+    rw (p.1, p.2) (refused_tree (λ (fault : RunFault). IsRulesRun (IsRuledTree c.args.sources.now) (IsRejectedTree c.args.sources.now) (style_of c.args.style) c.args.rules.now (g.S.Sink.taken c.args.sink.now) (g.S.Sink.taken c.args.sink.now) (Err fault)) c.args.sources.now
     (λ fault h. (h, Keeps-same _)) (inl (Keeps-same _)) _ c.in_err-located.ensures.fault)
 
 pub files_of-requires : goal.files_of-requires
@@ -62,4 +62,4 @@ returns-clause-run g c =
       are_imports = c.in_ok-located.ensures.imports;
       are_sites = subst (λ (is : List ImportSite). AreSitesIn sources is c.as_slice-4.result.now) c.as_slice-2.ensures.value (subst (AreSitesIn sources c.as_slice-2.result.now) (sym c.as_slice-4.ensures.value) c.in_ok-sites.ensures);
     } in
-    run_of (IsRuledTree sources) (IsRefusedTree sources) (style_of c.args.style) net c.as_slice-3.result.now c.as_slice-4.result.now ruled c.args.rules.now _ _ _ c.judge.ensures.run
+    run_of (IsRuledTree sources) (IsRejectedTree sources) (style_of c.args.style) net c.as_slice-3.result.now c.as_slice-4.result.now ruled c.args.rules.now _ _ _ c.judge.ensures.run

@@ -1,6 +1,6 @@
 use Rattle.std.proofs.Common.{get_or, refl}
 use Rattle.std.proofs.lemmas.Option.{slice_get-get_or}
-use Rattle.oscip_tree.specs.Located.{no_site}
+use Rattle.source_tree.specs.Located.{no_site}
 use Rattle.oscip_run.proofs.RuleRuns.{sites_next}
 use Rattle.oscip_run.proofs.ruling.sites_of.Goals as goal
 

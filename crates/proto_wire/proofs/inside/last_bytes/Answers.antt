@@ -1,5 +1,5 @@
 use Rattle.std.proofs.Common.{◌∙◌, sym}
-use Rattle.proto_wire.specs.Inside.{records_of}
+use Rattle.proto_wire.specs.MessageBytes.{records_of}
 use Rattle.proto_wire.specs.Messages.{bytes_in, payload_record}
 use Rattle.proto_wire.proofs.InsideLaws.{latest_none, latest_then}
 use Rattle.proto_wire.proofs.inside.last_bytes.Goals as goal

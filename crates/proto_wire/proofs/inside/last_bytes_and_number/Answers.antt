@@ -1,6 +1,6 @@
 use Rattle.std.proofs.Common.{◌∙◌, sym, to_z, w32}
 use Rattle.std.proofs.lemmas.Int.{to_z-of_z}
-use Rattle.proto_wire.specs.Inside.{records_of}
+use Rattle.proto_wire.specs.MessageBytes.{records_of}
 use Rattle.proto_wire.specs.Messages.{bytes_in, number_in, payload_record}
 use Rattle.proto_wire.proofs.InsideLaws.{latest_none, latest_then}
 use Rattle.proto_wire.proofs.inside.last_bytes_and_number.Goals as goal

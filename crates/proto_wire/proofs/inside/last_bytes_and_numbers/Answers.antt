@@ -1,6 +1,6 @@
 use Rattle.std.proofs.Common.{List, ◌++◌, ℤ, ◌∙◌, ap, sym, append_assoc}
 use Rattle.std.proofs.lemmas.List.{append-nil}
-use Rattle.proto_wire.specs.Inside.{records_of}
+use Rattle.proto_wire.specs.MessageBytes.{records_of}
 use Rattle.proto_wire.specs.Messages.{bytes_in, each_of, if_field, numbers_in, payload_record}
 use Rattle.proto_wire.proofs.InsideLaws.{each_none, each_then, latest_none, latest_then}
 use Rattle.proto_wire.proofs.inside.last_bytes_and_numbers.Goals as goal
@@ -14,7 +14,7 @@ loop-wire-preserved c =
           ∙ latest_then c.args.text_field bytes_in c.loop-wire.text.now c.later_bytes-text.result.now (records_of c.loop-wire.rest) p (records_of c.next_record.new.rest) c.in-Some.ensures.some c.later_bytes-text.ensures;
       numbers = c.loop-wire.invariant.numbers ∙ ap (λ (zs : List ℤ). c.loop-wire.numbers.items ++ zs) more
           ∙ sym (append_assoc c.loop-wire.numbers.items (if_field c.args.numbers_field c.in-Some.wire (numbers_in p)) (each_of c.args.numbers_field numbers_in (records_of c.next_record.new.rest)))
-          ∙ ap (λ (zs : List ℤ). zs ++ each_of c.args.numbers_field numbers_in (records_of c.next_record.new.rest)) (sym c.in_ok-push_given.ensures.numbers);
+          ∙ ap (λ (zs : List ℤ). zs ++ each_of c.args.numbers_field numbers_in (records_of c.next_record.new.rest)) (sym c.in_ok-push_field_numbers.ensures.numbers);
       within = c.in-Some.ensures.within ∙ c.loop-wire.invariant.within;
     }
 

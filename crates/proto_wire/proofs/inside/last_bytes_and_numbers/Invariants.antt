@@ -1,5 +1,5 @@
 use Rattle.std.proofs.Common.{◌≡◌, ◌+◌, ◌++◌, [], length}
-use Rattle.proto_wire.specs.Inside.{records_of}
+use Rattle.proto_wire.specs.MessageBytes.{records_of}
 use Rattle.proto_wire.specs.Messages.{bytes_in, each_of, latest, numbers_in}
 use Rattle.proto_wire.proofs.inside.last_bytes_and_numbers.Given as goal
 

@@ -1,5 +1,5 @@
 use Rattle.std.proofs.Common.{◌≡◌, ◌+◌, length, pos}
-use Rattle.proto_wire.specs.Inside.{records_of}
+use Rattle.proto_wire.specs.MessageBytes.{records_of}
 use Rattle.proto_wire.specs.Messages.{each_of, latest, number_in}
 use Rattle.proto_wire.proofs.inside.last_number.Given as goal
 

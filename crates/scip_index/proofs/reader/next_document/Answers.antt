@@ -6,8 +6,8 @@ use Rattle.std.proofs.lemmas.List.{append-nil}
 use Rattle.std.proofs.lemmas.Bool.{eqb-true}
 use Rattle.proto_wire.specs.Records.{PayloadRecord}
 use Rattle.proto_wire.proofs.FaultLaws.{UnlessMemory-then}
-use Rattle.scip_index.specs.Plain.{plain_document, plain_metadata, plain_symbol, PlainDocument}
-use Rattle.scip_index.specs.Streaming.{ReaderStands, documents_in}
+use Rattle.scip_index.specs.Plain.{document_model, metadata_model, symbol_model, DocumentModel}
+use Rattle.scip_index.specs.Streaming.{IsReaderAt, documents_in}
 use Rattle.scip_index.proofs.StreamingLaws.{no_value, not_none}
 use Rattle.scip_index.proofs.reader.next_document.Goals as goal
 
@@ -25,11 +25,11 @@ returns-then-is_some-clause-found c = λ bytes front s.
     let k = c.records.invariant.skipped bytes front s in
     let t = here.ensures.taken bytes (front ++ k.0) k.1 in
     let same = append_assoc front k.0 (t.0 ∷ []) in
-    let metadata = option_map plain_metadata c.take_record.new.metadata in
-    let externals = map plain_symbol c.take_record.new.externals.items in (
+    let metadata = option_map metadata_model c.take_record.new.metadata in
+    let externals = map symbol_model c.take_record.new.externals.items in (
       k.0 ++ t.0 ∷ [],
-      subst (λ (ps : List PayloadRecord). ReaderStands bytes ps here.next here.after.now metadata externals) same t.1,
-      ap documents_in (sym same) ∙ t.2 ∙ ap (λ (ds : List PlainDocument). ds ++ map plain_document (option_to_list here.document)) k.2,
+      subst (λ (ps : List PayloadRecord). IsReaderAt bytes ps here.next here.after.now metadata externals) same t.1,
+      ap documents_in (sym same) ∙ t.2 ∙ ap (λ (ds : List DocumentModel). ds ++ map document_model (option_to_list here.document)) k.2,
       not_none here.document _ c.if-is_some.ensures,
     )
 
@@ -42,12 +42,12 @@ records-preserved c =
           let k = c.records.invariant.skipped bytes front s in
           let t = here.ensures.taken bytes (front ++ k.0) k.1 in
           let same = append_assoc front k.0 (t.0 ∷ []) in
-          let metadata = option_map plain_metadata c.take_record.new.metadata in
-          let externals = map plain_symbol c.take_record.new.externals.items in (
+          let metadata = option_map metadata_model c.take_record.new.metadata in
+          let externals = map symbol_model c.take_record.new.externals.items in (
             k.0 ++ t.0 ∷ [],
-            subst (λ (ps : List PayloadRecord). ReaderStands bytes ps here.next here.after.now metadata externals) same t.1,
-            ap documents_in (sym same) ∙ t.2 ∙ ap (λ (ds : List PlainDocument). ds ++ map plain_document (option_to_list here.document)) k.2
-                ∙ ap (λ ds. documents_in front ++ map plain_document ds) none ∙ append-nil (documents_in front),
+            subst (λ (ps : List PayloadRecord). IsReaderAt bytes ps here.next here.after.now metadata externals) same t.1,
+            ap documents_in (sym same) ∙ t.2 ∙ ap (λ (ds : List DocumentModel). ds ++ map document_model (option_to_list here.document)) k.2
+                ∙ ap (λ ds. documents_in front ++ map document_model ds) none ∙ append-nil (documents_in front),
           );
       inside = omega (arith, here.ensures.shorter.1, c.records.invariant.inside);
       below = omega (arith, here.ensures.shorter.0, c.records.invariant.below);

@@ -4,8 +4,8 @@ use Rattle.std.proofs.lemmas.Result.{err_from_is_err_and}
 use Rattle.std.proofs.lemmas.Bool.{eqb-true}
 use Rattle.proto_wire.specs.Records.{PayloadRecord}
 use Rattle.proto_wire.proofs.FaultLaws.{UnlessMemory-then}
-use Rattle.scip_index.specs.Plain.{plain_metadata, plain_symbol}
-use Rattle.scip_index.specs.Streaming.{ReaderStands}
+use Rattle.scip_index.specs.Plain.{metadata_model, symbol_model}
+use Rattle.scip_index.specs.Streaming.{IsReaderAt}
 use Rattle.scip_index.proofs.StreamingLaws.{ended}
 use Rattle.scip_index.proofs.reader.read_rest.Goals as goal
 
@@ -25,10 +25,10 @@ records-preserved c =
           let k = c.records.invariant.skipped bytes front s in
           let t = here.ensures.taken bytes (front ++ k.0) k.1 in
           let same = append_assoc front k.0 (t.0 ∷ []) in
-          let metadata = option_map plain_metadata c.take_record.new.metadata in
-          let externals = map plain_symbol c.take_record.new.externals.items in (
+          let metadata = option_map metadata_model c.take_record.new.metadata in
+          let externals = map symbol_model c.take_record.new.externals.items in (
             k.0 ++ t.0 ∷ [],
-            subst (λ (ps : List PayloadRecord). ReaderStands bytes ps here.next here.after.now metadata externals) same t.1,
+            subst (λ (ps : List PayloadRecord). IsReaderAt bytes ps here.next here.after.now metadata externals) same t.1,
           );
       inside = omega (arith, here.ensures.shorter.1, c.records.invariant.inside);
     }

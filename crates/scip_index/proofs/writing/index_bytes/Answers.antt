@@ -1,6 +1,6 @@
 use Rattle.std.proofs.Common.{append_assoc}
 use Rattle.std.proofs.lemmas.List.Concat.{flat_map-append}
-use Rattle.scip_index.specs.Plain.{plain_document, plain_metadata, plain_symbol}
+use Rattle.scip_index.specs.Plain.{document_model, metadata_model, symbol_model}
 use Rattle.scip_index.specs.Fits.{DocumentFits, MetadataFits, SymbolFits}
 use Rattle.scip_index.specs.Written.{written_document, written_metadata, written_symbol, written}
 use Rattle.scip_index.proofs.WritingSteps.{all-map, map-after, option-after, some-map}
@@ -11,15 +11,15 @@ unfolding written
 returns-clause-bytes c =
     let i = c.args.index.now in
     rw (
-      c.in_ok-put_messages-2.ensures.bytes,
-      c.in_ok-put_messages.ensures.bytes,
-      c.in_ok-put_message.ensures.bytes,
+      c.in_ok-write_messages-2.ensures.bytes,
+      c.in_ok-write_messages.ensures.bytes,
+      c.in_ok-write_message.ensures.bytes,
       c.new-out.ensures.items,
       c.deref.ensures.value,
       c.deref-2.ensures.value,
-      option-after plain_metadata written_metadata i.metadata,
-      map-after plain_document written_document i.documents.items,
-      map-after plain_symbol written_symbol i.external_symbols.items,
+      option-after metadata_model written_metadata i.metadata,
+      map-after document_model written_document i.documents.items,
+      map-after symbol_model written_symbol i.external_symbols.items,
     )
     (simp (flat_map-append, append_assoc))
 
@@ -27,7 +27,7 @@ pub returns-clause-fits : goal.returns-clause-fits
 returns-clause-fits c =
     let i = c.args.index.now in
     record {
-      metadata = some-map MetadataFits plain_metadata i.metadata c.in_ok-put_message.ensures.fits;
-      documents = all-map DocumentFits plain_document i.documents.items (rw (← c.deref.ensures.value) c.in_ok-put_messages.ensures.fits);
-      external_symbols = all-map SymbolFits plain_symbol i.external_symbols.items (rw (← c.deref-2.ensures.value) c.in_ok-put_messages-2.ensures.fits);
+      metadata = some-map MetadataFits metadata_model i.metadata c.in_ok-write_message.ensures.fits;
+      documents = all-map DocumentFits document_model i.documents.items (rw (← c.deref.ensures.value) c.in_ok-write_messages.ensures.fits);
+      external_symbols = all-map SymbolFits symbol_model i.external_symbols.items (rw (← c.deref-2.ensures.value) c.in_ok-write_messages-2.ensures.fits);
     }

@@ -3,22 +3,22 @@ use Rattle.std.specs.String.{string_bytes}
 use Rattle.scip_symbol.proofs.Ends.{runs_out, ends_here, goes_on, cut_shorter}
 use Rattle.scip_symbol.proofs.cuts.ended_in.Goals as goal
 
-pub returns-in_default-after_mark : goal.returns-in_default-after_mark
-returns-in_default-after_mark c =
+pub returns-in_default-after_char : goal.returns-in_default-after_char
+returns-in_default-after_char c =
     rw c.in_ok-push_str.ensures.bytes
-    (sym (ends_here c.args.mark c.args.text.now (string_bytes c.loop-front.part) c.loop-front.rest.now c.in-Some.front.now c.in-Some.after.now c.loop-front.invariant.ends (sym c.in-Some.ensures) (sym c.in_default-after_mark.ensures)))
+    (sym (ends_here c.args.delimiter c.args.text.now (string_bytes c.loop-front.part) c.loop-front.rest.now c.in-Some.front.now c.in-Some.after.now c.loop-front.invariant.ends (sym c.in-Some.ensures) (sym c.in_default-after_char.ensures)))
 
 pub loop-front-smaller : goal.loop-front-smaller
 loop-front-smaller c =
-    omega (arith, cut_shorter c.args.mark c.loop-front.rest.now c.in-Some.front.now c.in-Some.after.now c.in-Some-after_mark.more.now (sym c.in-Some.ensures) (sym c.in-Some-after_mark.ensures))
+    omega (arith, cut_shorter c.args.delimiter c.loop-front.rest.now c.in-Some.front.now c.in-Some.after.now c.in-Some-after_char.more.now (sym c.in-Some.ensures) (sym c.in-Some-after_char.ensures))
 
 pub loop-front-preserved : goal.loop-front-preserved
 loop-front-preserved c = record {
   text = search rules;
   ends =
       rw (c.in_ok-push.ensures.bytes, c.in_ok-push.ensures.ascii c.requires, c.in_ok-push_str.ensures.bytes)
-      (goes_on c.args.mark c.args.text.now (string_bytes c.loop-front.part) c.loop-front.rest.now c.in-Some.front.now c.in-Some.after.now c.in-Some-after_mark.more.now c.loop-front.invariant.ends (sym c.in-Some.ensures) (sym c.in-Some-after_mark.ensures));
+      (goes_on c.args.delimiter c.args.text.now (string_bytes c.loop-front.part) c.loop-front.rest.now c.in-Some.front.now c.in-Some.after.now c.in-Some-after_char.more.now c.loop-front.invariant.ends (sym c.in-Some.ensures) (sym c.in-Some-after_char.ensures));
 }
 
 pub returns : goal.returns
-returns c = sym (runs_out c.args.mark c.args.text.now (string_bytes c.loop-front.part) c.loop-front.rest.now c.loop-front.invariant.ends (sym c.in_default.ensures))
+returns c = sym (runs_out c.args.delimiter c.args.text.now (string_bytes c.loop-front.part) c.loop-front.rest.now c.loop-front.invariant.ends (sym c.in_default.ensures))

@@ -10,7 +10,7 @@ use Rattle.scip_symbol.proofs.cuts.ended_in.Given as goal
 abbrev pub invariant-loop-front : goal.invariant-loop-front
 invariant-loop-front l = record {
   text : shadow (Utf8 l.rest);
-  ends : ended_by l.mark l.text ≡ option_map (with_front (string_bytes l.part)) (ended_by l.mark l.rest);
+  ends : ended_by l.delimiter l.text ≡ option_map (with_front (string_bytes l.part)) (ended_by l.delimiter l.rest);
 }
 
 abbrev pub decreases-loop-front : goal.decreases-loop-front

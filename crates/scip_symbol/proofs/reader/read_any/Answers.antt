@@ -1,5 +1,5 @@
 use Rattle.std.proofs.Common.{sym}
-use Rattle.scip_symbol.specs.Views.{plain_symbol}
+use Rattle.scip_symbol.specs.Views.{symbol_model}
 use Rattle.scip_symbol.specs.Outcomes.{IsReadOutcome}
 use Rattle.scip_symbol.specs.Reading.{local_of}
 use Rattle.scip_symbol.proofs.Answered.{Accords-tells}
@@ -7,4 +7,4 @@ use Rattle.scip_symbol.proofs.LocalLaws.{local_read}
 use Rattle.scip_symbol.proofs.reader.read_any.Goals as goal
 
 pub returns-in-Some : goal.returns-in-Some
-returns-in-Some c = Accords-tells plain_symbol c.local_in.result (local_of c.in-Some.id.now) (IsReadOutcome c.args.text.now) c.local_in.ensures (local_read c.args.text.now c.in-Some.id.now (sym c.in-Some.ensures))
+returns-in-Some c = Accords-tells symbol_model c.local_in.result (local_of c.in-Some.id.now) (IsReadOutcome c.args.text.now) c.local_in.ensures (local_read c.args.text.now c.in-Some.id.now (sym c.in-Some.ensures))

@@ -8,7 +8,7 @@ use Rattle.scip_symbol.proofs.writer.push_doubled.Given as goal
 abbrev pub invariant-loop-front : goal.invariant-loop-front
 invariant-loop-front l = record {
   text : shadow (Utf8 l.rest);
-  put : string_bytes l.out ++ doubled l.mark l.rest ≡ string_bytes l.initial.out ++ doubled l.mark l.text;
+  put : string_bytes l.out ++ doubled l.delimiter l.rest ≡ string_bytes l.initial.out ++ doubled l.delimiter l.text;
 }
 
 abbrev pub decreases-loop-front : goal.decreases-loop-front

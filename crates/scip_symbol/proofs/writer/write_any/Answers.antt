@@ -1,7 +1,7 @@
 use Rattle.std.proofs.Common.{List, ℕ, subst, sym}
 use Rattle.std.proofs.lemmas.Result.{err_from_is_err_and}
 use Rattle.scip_symbol.specs.SymbolTexts.{SymbolText}
-use Rattle.scip_symbol.specs.Views.{plain_symbol}
+use Rattle.scip_symbol.specs.Views.{symbol_model}
 use Rattle.scip_symbol.proofs.Answered.{UnlessMemory-from}
 use Rattle.scip_symbol.proofs.WriteLaws.{symbol_text}
 use Rattle.scip_symbol.proofs.writer.write_any.Goals as goal
@@ -13,6 +13,6 @@ returns-in_err-check c =
 
 pub returns : goal.returns
 returns c = (
-  subst (λ (text : List ℕ). SymbolText (plain_symbol c.args.symbol.now) text) (sym c.in_ok-text_of.ensures) (symbol_text c.args.symbol.now c.in_ok-check.ensures.fits),
+  subst (λ (text : List ℕ). SymbolText (symbol_model c.args.symbol.now) text) (sym c.in_ok-text_of.ensures) (symbol_text c.args.symbol.now c.in_ok-check.ensures.fits),
   c.in_ok-text_of.ensures,
 )

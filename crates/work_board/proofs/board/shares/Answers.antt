@@ -5,4 +5,4 @@ use Rattle.work_board.proofs.board.shares.Goals as goal
 
 pub returns-then-not-any_marked : goal.returns-then-not-any_marked
 returns-then-not-any_marked g c =
-    ap (map arc_value) c.new.ensures.items ∙ sym (shares_none g.E.WorkEntry.shared_of c.args.marks.now c.args.entries.now c.args.order.now (c.any_marked.ensures c.if-not-any_marked.true))
+    ap (map arc_value) c.new.ensures.items ∙ sym (shares_none g.E.WorkEntry.shared_of c.args.flags.now c.args.entries.now c.args.order.now (c.any_marked.ensures c.if-not-any_marked.true))

@@ -2,7 +2,7 @@ use Rattle.std.proofs.Common.{◌≡◌, ◌<◌, ◌+◌, length, take, take_al
 use Rattle.std.specs.Prelude.{slice_index}
 use Rattle.std.proofs.lemmas.Bool.{cases_eq}
 use Rattle.std.proofs.lemmas.List.{length-map}
-use Rattle.work_board.specs.Graphs.{lists, row_at, times_in}
+use Rattle.work_board.specs.Graphs.{lists, list_at, times_in}
 use Rattle.work_board.proofs.Counting.{times_yes, times_no}
 use Rattle.work_board.proofs.Turning.{pushed_same, pushed_away, pushed_other, pushed_within}
 use Rattle.work_board.proofs.graph.add_importer.Goals as goal
@@ -53,7 +53,7 @@ returns c =
     let all = take_all c.loop-imported.imported-index c.args.row.now c.loop-imported-test.false in
     record {
       size = after.size;
-      more = λ n. after.more n ∙ ap (λ row. times_in c.args.by (row_at (lists c.args.rows.now.items) n) + times_in n row) all;
+      more = λ n. after.more n ∙ ap (λ row. times_in c.args.by (list_at (lists c.args.rows.now.items) n) + times_in n row) all;
       others = after.others;
       within = after.within;
     }

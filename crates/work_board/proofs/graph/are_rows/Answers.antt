@@ -1,7 +1,7 @@
 use Rattle.std.proofs.Common.{◌≡◌, ◌<◌, ◌≤◌, length, sym, ap, ◌∙◌, subst, arith, rules, inl, inr}
 use Rattle.std.specs.Prelude.{All}
 use Rattle.std.proofs.lemmas.Bool.{cases_lt}
-use Rattle.work_board.specs.Graphs.{lists, row_at}
+use Rattle.work_board.specs.Graphs.{lists, list_at}
 use Rattle.work_board.proofs.Marking.{row_of}
 use Rattle.work_board.proofs.graph.are_rows.Goals as goal
 use Rattle.work_board.proofs.graph.are_rows.Goals.{then-len-gt-MOST_IMPORTS-via-then-len-gt-MOST_IMPORTS, then-len-gt-MOST_IMPORTS-via-else-len-gt-MOST_IMPORTS+then-not-all_below}
@@ -9,7 +9,7 @@ use Rattle.work_board.proofs.graph.are_rows.Goals.{then-len-gt-MOST_IMPORTS-via-
 pub returns-then-len-gt-MOST_IMPORTS : goal.returns-then-len-gt-MOST_IMPORTS
 returns-then-len-gt-MOST_IMPORTS c =
     let i = c.loop-row.row-index in
-    let row : row_at (lists c.args.rows.now) i ≡ c.row-item.result.items = row_of c.args.rows.now i c.row-item.result c.loop-row-test.true ∙ ap (λ r. r.items) (sym c.row-item.is) in
+    let row : list_at (lists c.args.rows.now) i ≡ c.row-item.result.items = row_of c.args.rows.now i c.row-item.result c.loop-row-test.true ∙ ap (λ r. r.items) (sym c.row-item.is) in
     let size = ap length row in
     let ok = c.row-item.result.ok.0 in
     let count = c.len.ensures in (
@@ -25,7 +25,7 @@ returns-then-len-gt-MOST_IMPORTS c =
 pub loop-row-preserved : goal.loop-row-preserved
 loop-row-preserved c = λ m lt.
     let i = c.loop-row.row-index in
-    let row : row_at (lists c.args.rows.now) i ≡ c.row-item.result.items = row_of c.args.rows.now i c.row-item.result c.loop-row-test.true ∙ ap (λ r. r.items) (sym c.row-item.is) in
+    let row : list_at (lists c.args.rows.now) i ≡ c.row-item.result.items = row_of c.args.rows.now i c.row-item.result c.loop-row-test.true ∙ ap (λ r. r.items) (sym c.row-item.is) in
     let size = ap length row in
     let ok = c.row-item.result.ok.0 in
     let count = c.len.ensures in
@@ -35,7 +35,7 @@ loop-row-preserved c = λ m lt.
       | inr above ↦
           let here : m ≡ i = omega arith in
           let below : All (λ k. k < c.args.count) c.as_slice.result.now = c.if-not-all_below.ensures.0 (search rules) in
-          let at : (length (row_at (lists c.args.rows.now) i) ≤ 65536) × All (λ k. k < c.args.count) (row_at (lists c.args.rows.now) i) =
+          let at : (length (list_at (lists c.args.rows.now) i) ≤ 65536) × All (λ k. k < c.args.count) (list_at (lists c.args.rows.now) i) =
           (omega arith, subst (All (λ k. k < c.args.count)) (c.as_slice.ensures.value ∙ sym row) below) in
           rw here at
     ]

@@ -1,5 +1,5 @@
 use Rattle.std.proofs.Common.{◌≡◌, ◌∙◌, map, refl, subst}
-use Rattle.cut_net.specs.Prices.{priced_by, said_of, standing_by}
+use Rattle.cut_net.specs.Prices.{priced_by, change_of, pin_state_by}
 use Rattle.cut_net.specs.WellFormed.{IsNetwork}
 use Rattle.cut_net.proofs.Moved.{light, over}
 use Rattle.cut_net.proofs.net.Net.priced.Goals as goal
@@ -7,22 +7,22 @@ use Rattle.cut_net.proofs.net.Net.priced.Goals as goal
 pub returns-then-not-is_light : goal.returns-then-not-is_light
 returns-then-not-is_light c =
     let net = c.args.self.now in
-    let (lines, spelled, told) = c.in_ok-told.ensures.told in
-    let stand : c.deref-2.result.now ≡ map (standing_by net lines) net.imports =
-    c.deref-2.ensures.value ∙ c.in_ok-standings.ensures (said_of net lines) (c.deref.ensures.value ∙ told.told_is) in
+    let (lines, spelled, changes) = c.in_ok-changes.ensures.changes in
+    let stand : c.deref-2.result.now ≡ map (pin_state_by net lines) net.imports =
+    c.deref-2.ensures.value ∙ c.in_ok-pin_states.ensures (change_of net lines) (c.deref.ensures.value ∙ changes.told_is) in
     record {
       priced = priced_by net lines;
-      is_priced = record { lines = lines; text = record { spelled = spelled; good = told.good }; is = refl };
-      over = over net (standing_by net lines) (subst IsNetwork c.self.view_is c.self.invariant.0) c.deref-2.result.now stand c.is_light.result c.is_light.ensures c.if-not-is_light.true;
+      is_priced = record { lines = lines; text = record { spelled = spelled; good = changes.good }; is = refl };
+      over = over net (pin_state_by net lines) (subst IsNetwork c.self.view_is c.self.invariant.0) c.deref-2.result.now stand c.is_light.result c.is_light.ensures c.if-not-is_light.true;
     }
 
 pub returns : goal.returns
 returns c =
     let net = c.args.self.now in
-    let (lines, spelled, told) = c.in_ok-told.ensures.told in
-    let items = c.in_ok-standings.ensures (said_of net lines) (c.deref.ensures.value ∙ told.told_is) in
-    let is = c.in_ok-standing_so.ensures (standing_by net lines) (c.deref-3.ensures.value ∙ items) in (
-      record { lines = lines; text = record { spelled = spelled; good = told.good }; is = is },
-      light net (standing_by net lines) (subst IsNetwork c.self.view_is c.self.invariant.0) c.deref-2.result.now (c.deref-2.ensures.value ∙ items) c.is_light.result c.is_light.ensures c.if-not-is_light.false
-          c.in_ok-standing_so.field-0 is,
+    let (lines, spelled, changes) = c.in_ok-changes.ensures.changes in
+    let items = c.in_ok-pin_states.ensures (change_of net lines) (c.deref.ensures.value ∙ changes.told_is) in
+    let is = c.in_ok-with_pin_states.ensures (pin_state_by net lines) (c.deref-3.ensures.value ∙ items) in (
+      record { lines = lines; text = record { spelled = spelled; good = changes.good }; is = is },
+      light net (pin_state_by net lines) (subst IsNetwork c.self.view_is c.self.invariant.0) c.deref-2.result.now (c.deref-2.ensures.value ∙ items) c.is_light.result c.is_light.ensures c.if-not-is_light.false
+          c.in_ok-with_pin_states.field-0 is,
     )

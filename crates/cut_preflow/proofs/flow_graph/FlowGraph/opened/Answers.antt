@@ -1,6 +1,6 @@
 use Rattle.std.proofs.Common.{◌≡◌, ◌<◌, ◌≤◌, ◌∙◌, ap, sym, subst}
 use Rattle.std.specs.Prelude.{All}
-use Rattle.cut_residual.specs.Graphs.{Graph}
+use Rattle.residual_graph.specs.Graphs.{Graph}
 use Rattle.cut_preflow.specs.FlowGraphs.{arcs_opened, flows_of, imports_of}
 use Rattle.cut_preflow.specs.Preflow.{opening_flows}
 use Rattle.cut_preflow.proofs.Graphs.{opened_between, opened_flows, opened_imports, opened_within}

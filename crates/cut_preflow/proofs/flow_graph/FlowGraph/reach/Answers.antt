@@ -11,5 +11,5 @@ pub returns-clause-reach : goal.returns-clause-reach
 returns-clause-reach c =
     let g = c.self.inside.graph in
     let low = subst (λ (v : Carried). c.args.source < v.nodes) (sym c.self.view_is) c.requires in
-    subst (λ (v : Carried). IsReach v.imports v.flow c.args.source c.in_ok-found.found.seen.items) c.self.view_is
-    (reach_is g.nodes g.arcs c.args.source c.in_ok-found.found.seen.items low c.in_ok-found.ensures.reached c.in_ok-found.ensures.closed)
+    subst (λ (v : Carried). IsReach v.imports v.flow c.args.source c.in_ok-found.found.reached_flags.items) c.self.view_is
+    (reach_is g.nodes g.arcs c.args.source c.in_ok-found.found.reached_flags.items low c.in_ok-found.ensures.reached c.in_ok-found.ensures.closed)

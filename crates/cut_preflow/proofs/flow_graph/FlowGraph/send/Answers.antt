@@ -1,7 +1,7 @@
 use Rattle.std.proofs.Common.{◌≡◌, ◌+◌, ◌-◌, ◌/◌, ◌∙◌, if◌then◌else◌, get_or, set, slice_index, slice_set, ap}
-use Rattle.cut_residual.specs.declared.arc.ResidualArc.{ResidualArc}
-use Rattle.cut_residual.specs.Flows.{pushed}
-use Rattle.cut_residual.specs.Graphs.{no_arc}
+use Rattle.residual_graph.specs.declared.arc.ResidualArc.{ResidualArc}
+use Rattle.residual_graph.specs.Flows.{pushed}
+use Rattle.residual_graph.specs.Graphs.{no_arc}
 use Rattle.cut_preflow.specs.FlowGraphs.{Carried, flows_of, imports_of}
 use Rattle.cut_preflow.specs.Preflow.{is_forward}
 use Rattle.cut_preflow.proofs.Graphs.{sent, sent_flows, sent_imports}

@@ -9,5 +9,5 @@ invariant_of-result c =
 
 pub returns : goal.returns
 returns c =
-    let place = c.in_ok-numbers-2.field-0.items in
-    none_marked place ∙ ap (λ n. replicate n false) (ap length c.in_ok-numbers-2.ensures ∙ length-range_with_len 0 c.args.nodes)
+    let position = c.in_ok-numbers-2.field-0.items in
+    none_marked position ∙ ap (λ n. replicate n false) (ap length c.in_ok-numbers-2.ensures ∙ length-range_with_len 0 c.args.nodes)

@@ -1,7 +1,7 @@
 use Rattle.std.proofs.Common.{◌≡◌, ◌↔◌, ◌∙◌, ℕ, Bool, true, false, Option, Some, None, IfSome, IsNone, List, slice_index_or, sym, refl}
 use Rattle.cut_preflow.specs.Preflow.{FlowNetwork, State, is_active}
 use Rattle.cut_preflow.specs.Kept.{IsQuiet}
-use Rattle.cut_preflow.proofs.Fields.{fields_of, net_of, seen}
+use Rattle.cut_preflow.proofs.Fields.{fields_of, net_of, reached_flags}
 use Rattle.cut_preflow.proofs.preflow_core.PreflowCore.active.Goals as goal
 
 none_if_quiet : (net : FlowNetwork) (s : State) (found : Option ℕ) → IfSome found (λ v. is_active net s v ≡ true) → IsQuiet net s → IsNone found
@@ -14,12 +14,12 @@ if_some_active net s (Some v) active are some = sym (are v) ∙ some
 
 pub returns-clause-some : goal.returns-clause-some
 returns-clause-some c =
-    seen c.self.inside c.self.invariant.0 c.args.self.now c.self.view_is (λ net s. IfSome c.last.result (λ v. is_active net s v ≡ true))
+    reached_flags c.self.inside c.self.invariant.0 c.args.self.now c.self.view_is (λ net s. IfSome c.last.result (λ v. is_active net s v ≡ true))
     (if_some_active (net_of c.self.inside) (fields_of c.self.inside) c.last.result c.self.inside.active c.self.invariant.1.active_are c.last.ensures.some)
 
 pub returns-clause-none : goal.returns-clause-none
 returns-clause-none c =
-    seen c.self.inside c.self.invariant.0 c.args.self.now c.self.view_is (λ net s. IsNone c.last.result ↔ IsQuiet net s) (
+    reached_flags c.self.inside c.self.invariant.0 c.args.self.now c.self.view_is (λ net s. IsNone c.last.result ↔ IsQuiet net s) (
       λ none v. sym (c.self.invariant.1.active_are v) ∙ c.last.ensures.none none v,
       none_if_quiet (net_of c.self.inside) (fields_of c.self.inside) c.last.result
           (if_some_active (net_of c.self.inside) (fields_of c.self.inside) c.last.result c.self.inside.active c.self.invariant.1.active_are c.last.ensures.some),

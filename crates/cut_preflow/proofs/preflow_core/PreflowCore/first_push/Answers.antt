@@ -1,6 +1,6 @@
 use Rattle.std.proofs.Common.{◌∙◌, get_or, sym, ap, arith, below_more}
 use Rattle.std.proofs.lemmas.List.{get_or_default}
-use Rattle.cut_residual.specs.OutArcs.{no_out_arc}
+use Rattle.residual_graph.specs.OutArcs.{no_out_arc}
 use Rattle.cut_preflow.specs.FlowGraphs.{out_arc_number}
 use Rattle.cut_preflow.specs.Preflow.{can_push, count}
 use Rattle.cut_preflow.specs.Trace.{state_of}

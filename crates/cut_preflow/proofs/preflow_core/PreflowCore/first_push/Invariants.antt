@@ -1,5 +1,5 @@
 use Rattle.std.proofs.Common.{◌≡◌, ◌<◌, ℕ, false, get_or}
-use Rattle.cut_residual.specs.declared.arc.OutArc.{OutArc}
+use Rattle.residual_graph.specs.declared.arc.OutArc.{OutArc}
 use Rattle.cut_preflow.specs.FlowGraphs.{out_arc_number}
 use Rattle.cut_preflow.specs.Preflow.{can_push}
 use Rattle.cut_preflow.specs.Trace.{state_of}

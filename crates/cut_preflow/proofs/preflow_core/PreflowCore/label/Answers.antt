@@ -1,6 +1,6 @@
 use Rattle.std.proofs.Common.{◌<◌, ℕ, List, ◌∙◌, ap, length, arith}
 use Rattle.std.proofs.lemmas.List.{get_or_read}
-use Rattle.cut_preflow.specs.declared.ends.Ends.{Ends}
+use Rattle.cut_preflow.specs.declared.ends.FlowEnds.{FlowEnds}
 use Rattle.cut_net.specs.declared.priced.Priced.{Priced}
 use Rattle.cut_preflow.specs.declared.event.Event.{Event}
 use Rattle.cut_preflow.specs.Preflow.{label_at}
@@ -8,7 +8,7 @@ use Rattle.cut_preflow.specs.Trace.{flow_network, state_of, IsTrace, IsSound}
 use Rattle.cut_preflow.proofs.Histories.{played_sound, played_state}
 use Rattle.cut_preflow.proofs.preflow_core.PreflowCore.label.Goals as goal
 
-sound : (ends : Ends) (imports : List Priced) (flows labels : List ℕ) (history : List Event) → IsTrace (flow_network ends imports) flows labels history → IsSound (flow_network ends imports) (record { flow = flows; label = labels })
+sound : (ends : FlowEnds) (imports : List Priced) (flows labels : List ℕ) (history : List Event) → IsTrace (flow_network ends imports) flows labels history → IsSound (flow_network ends imports) (record { flow = flows; label = labels })
 sound ends imports flows labels history p = played_sound (flow_network ends imports) (record { flow = flows; label = labels }) history p
 
 pub index-requires : goal.index-requires

@@ -1,6 +1,6 @@
 use Rattle.std.proofs.Common.{◌≡◌, ◌∙◌, map, get_or, length, sym, ap, subst, arith}
 use Rattle.std.proofs.lemmas.List.{get_or-map, length-map}
-use Rattle.cut_residual.specs.OutArcs.{no_out_arc}
+use Rattle.residual_graph.specs.OutArcs.{no_out_arc}
 use Rattle.cut_preflow.specs.FlowGraphs.{out_arc_number}
 use Rattle.cut_preflow.specs.Preflow.{head, label_at, residual}
 use Rattle.cut_preflow.specs.Trace.{state_of}

@@ -10,10 +10,10 @@ use Rattle.cut_preflow.proofs.preflow_core.PreflowCore.next_step.Goals.{In-None}
 
 pub returns-in-Some-clause-few : goal.returns-in-Some-clause-few
 returns-in-Some-clause-few c = λ _.
-    shorter c.args.self.now.net c.args.self.now.history (Push c.in-Some.arc) c.keeps.ensures.sound.network c.history.ensures.legal c.in-Some.ensures.some
+    shorter c.args.self.now.net c.args.self.now.history (Push c.in-Some.arc) c.invariants.ensures.sound.network c.history.ensures.legal c.in-Some.ensures.some
 
 relabels : (c : In-None) → is_some (relabel_target c.args.self.now.net (state_of c.args.self.now) c.in_ok-node.node) ≡ true
-relabels c = go (progress net s c.in_ok-node.node c.keeps.ensures.sound.kept (active_from net s c.in_ok-node.node c.in_ok-node.ensures.some))
+relabels c = go (progress net s c.in_ok-node.node c.invariants.ensures.sound.kept (active_from net s c.in_ok-node.node c.in_ok-node.ensures.some))
   where
     net : FlowNetwork
     net = c.args.self.now.net
@@ -33,4 +33,4 @@ returns-in-None-clause-some c = relabels (goal.at.returns-in-None-clause-some c)
 
 pub returns-in-None-clause-few : goal.returns-in-None-clause-few
 returns-in-None-clause-few c = λ _.
-    shorter c.args.self.now.net c.args.self.now.history (Relabel c.in_ok-node.node) c.keeps.ensures.sound.network c.history.ensures.legal (relabels (goal.at.returns-in-None-clause-few c).In-None)
+    shorter c.args.self.now.net c.args.self.now.history (Relabel c.in_ok-node.node) c.invariants.ensures.sound.network c.history.ensures.legal (relabels (goal.at.returns-in-None-clause-few c).In-None)

@@ -3,7 +3,7 @@ use Rattle.std.specs.Prelude.{◌↔◌, All, Contains}
 use Rattle.cut_preflow.specs.FlowGraphs.{IsArcFrom, out_arc_number}
 use Rattle.cut_preflow.specs.Preflow.{count, tail}
 use Rattle.cut_preflow.specs.Trace.{carried_in}
-use Rattle.cut_preflow.proofs.Fields.{seen}
+use Rattle.cut_preflow.proofs.Fields.{reached_flags}
 use Rattle.cut_preflow.proofs.Graphs.{numbers_are}
 use Rattle.cut_preflow.proofs.preflow_core.PreflowCore.outs_from.Goals as goal
 
@@ -14,7 +14,7 @@ outs_from-requires c =
 
 pub returns-clause-each : goal.returns-clause-each
 returns-clause-each c =
-    seen c.self.inside c.self.invariant.0 c.args.self.now c.self.view_is (λ net s. All (IsArcFrom (carried_in net s) c.args.node) c.outs_from.result.now)
+    reached_flags c.self.inside c.self.invariant.0 c.args.self.now c.self.view_is (λ net s. All (IsArcFrom (carried_in net s) c.args.node) c.outs_from.result.now)
     (subst (λ n. All (IsArcFrom (record { nodes = n; imports = c.self.inside.graph.imports; flow = c.self.inside.graph.flow }) c.args.node) c.outs_from.result.now) c.self.invariant.1.nodes_are c.outs_from.ensures.each)
 
 pub returns-clause-arcs : goal.returns-clause-arcs

@@ -2,8 +2,8 @@ use Rattle.std.proofs.Common.{◌≡◌, ◌∙◌, ◌<◌, ◌+◌, ℕ, List,
 use Rattle.std.specs.Prelude.{All, Contains}
 use Rattle.std.proofs.lemmas.List.{get_or-drop, get_or-map, get_or-take, length-map}
 use Rattle.std.proofs.lemmas.List.Elements.{All-append}
-use Rattle.cut_residual.specs.declared.arc.OutArc.{OutArc}
-use Rattle.cut_residual.specs.OutArcs.{no_out_arc}
+use Rattle.residual_graph.specs.declared.arc.OutArc.{OutArc}
+use Rattle.residual_graph.specs.OutArcs.{no_out_arc}
 use Rattle.cut_preflow.specs.FlowGraphs.{IsArcFrom, out_arc_number}
 use Rattle.cut_preflow.specs.Preflow.{FlowNetwork, State, can_push, label_at, tail}
 use Rattle.cut_preflow.specs.Trace.{carried_in, state_of}

@@ -1,11 +1,11 @@
 use Rattle.std.proofs.Common.{inl, inr, arith}
 use Rattle.cut_rules.proofs.reading.Rules.mark_named.Goals as goal
 
-pub returns-clause-marks : goal.returns-clause-marks
-returns-clause-marks c m low =
-    let own = c.mark.ensures.marks m low in
+pub returns-clause-flags : goal.returns-clause-flags
+returns-clause-flags c m low =
+    let own = c.mark.ensures.flags m low in
     let long = c.mark.ensures.size in
-    let more = c.mark_set.ensures.marks m (omega arith) in (
+    let more = c.mark_set.ensures.flags m (omega arith) in (
       λ e. elim (more.0 e) [
         | inl was ↦ elim (own.0 was) [ inl before ↦ inl before | inr is ↦ inr (inl is) ]
         | inr member ↦ inr (inr member)

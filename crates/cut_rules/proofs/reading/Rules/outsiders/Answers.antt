@@ -10,25 +10,25 @@ use Rattle.cut_rules.proofs.NodeMarks.{outside_first, outside_more, outside_same
 use Rattle.cut_rules.proofs.reading.Rules.outsiders.Goals as goal
 use Rattle.cut_rules.proofs.reading.Rules.outsiders.Goals.{then-is_may_of+in_ok-members, else-is_may_of}
 
-pub set_marks-requires : goal.set_marks-requires
-set_marks-requires c = λ k d lt.
+pub set_flags-requires : goal.set_flags-requires
+set_flags-requires c = λ k d lt.
     let items = c.as_slice.result.now in
     let low = c.in_ok-own.ensures.within (get_or items k d) (subst (λ (l : List ℕ). Contains l (get_or items k d)) c.as_slice.ensures.value (Contains-get_or items k d lt)) in
-    let long = c.in_ok-marks.ensures.len in
+    let long = c.in_ok-flags.ensures.len in
     let nodes = c.nodes.ensures in
     omega arith
 
 pub loop-rule-init : goal.loop-rule-init
 loop-rule-init c = record {
-  size = (let long = c.in_ok-marks.ensures.len in let nodes = c.nodes.ensures in let size = c.set_marks.ensures.size in omega arith);
-  are = λ n low.
-      let set = subst (λ (l : List ℕ). IsMarkSet l false c.in_ok-marks.marks.items c.set_marks.new.marks.items n) c.as_slice.ensures.value (c.set_marks.ensures.marks n) in
-      let all : marked c.in_ok-marks.marks.items n ≡ true = ap (λ (ms : List Bool). marked ms n) (c.in_ok-marks.ensures.items_if_clones_equal (λ y e. e)) ∙ get_or-replicate c.nodes.result n true false (let nodes = c.nodes.ensures in omega arith) in
-      outside_first c.args.self.now c.args.first n c.in_ok-own.own.items c.in_ok-marks.marks.items c.set_marks.new.marks.items all set (c.in_ok-own.ensures.are n low);
+  size = (let long = c.in_ok-flags.ensures.len in let nodes = c.nodes.ensures in let size = c.set_flags.ensures.size in omega arith);
+  elements = λ n low.
+      let set = subst (λ (l : List ℕ). IsMarkSet l false c.in_ok-flags.flags.items c.set_flags.new.flags.items n) c.as_slice.ensures.value (c.set_flags.ensures.flags n) in
+      let all : marked c.in_ok-flags.flags.items n ≡ true = ap (λ (ms : List Bool). marked ms n) (c.in_ok-flags.ensures.items_if_clones_equal (λ y e. e)) ∙ get_or-replicate c.nodes.result n true false (let nodes = c.nodes.ensures in omega arith) in
+      outside_first c.args.self.now c.args.first n c.in_ok-own.own.items c.in_ok-flags.flags.items c.set_flags.new.flags.items all set (c.in_ok-own.ensures.elements n low);
 }
 
-pub set_marks-requires-then-is_may_of : goal.set_marks-requires-then-is_may_of
-set_marks-requires-then-is_may_of c = λ k d lt.
+pub set_flags-requires-then-is_may_of : goal.set_flags-requires-then-is_may_of
+set_flags-requires-then-is_may_of c = λ k d lt.
     let items = c.as_slice-then-is_may_of.result.now in
     let low = c.in_ok-members.ensures.within (get_or items k d) (subst (λ (l : List ℕ). Contains l (get_or items k d)) c.as_slice-then-is_may_of.ensures.value (Contains-get_or items k d lt)) in
     let long = c.loop-rule.invariant.size in
@@ -37,21 +37,21 @@ set_marks-requires-then-is_may_of c = λ k d lt.
 pub loop-rule-preserved : goal.loop-rule-preserved
 loop-rule-preserved c = elim c.if-is_may_of.branch [
   | then-is_may_of+in_ok-members w ↦ record {
-    size = ap vec_len w.marks-is ∙ w.set_marks-then-is_may_of.ensures.size ∙ c.loop-rule.invariant.size;
-    are = λ n low.
-        let set = subst (λ (l : List ℕ). IsMarkSet l false c.loop-rule.marks.items w.set_marks-then-is_may_of.new.marks.items n) w.as_slice-then-is_may_of.ensures.value (w.set_marks-then-is_may_of.ensures.marks n) in
-        subst (λ (v : Vec Bool). (marked v.items n ≡ true) ↔ IsOutsiderOf c.args.self.now (take (c.loop-rule.rule-index + 1) c.as_slice-rule-items.result.now) c.args.first n) (sym w.marks-is)
-        (outside_more c.args.self.now c.args.first n c.as_slice-rule-items.result.now c.loop-rule.rule-index _ c.loop-rule-test.true c.loop-rule.marks.items (c.loop-rule.invariant.are n low) w.in_ok-members.members.items w.set_marks-then-is_may_of.new.marks.items (w.if-is_may_of.ensures.0 refl) set (w.in_ok-members.ensures.are n low));
+    size = ap vec_len w.flags-is ∙ w.set_flags-then-is_may_of.ensures.size ∙ c.loop-rule.invariant.size;
+    elements = λ n low.
+        let set = subst (λ (l : List ℕ). IsMarkSet l false c.loop-rule.flags.items w.set_flags-then-is_may_of.new.flags.items n) w.as_slice-then-is_may_of.ensures.value (w.set_flags-then-is_may_of.ensures.flags n) in
+        subst (λ (v : Vec Bool). (marked v.items n ≡ true) ↔ IsOutsiderOf c.args.self.now (take (c.loop-rule.rule-index + 1) c.as_slice-rule-items.result.now) c.args.first n) (sym w.flags-is)
+        (outside_more c.args.self.now c.args.first n c.as_slice-rule-items.result.now c.loop-rule.rule-index _ c.loop-rule-test.true c.loop-rule.flags.items (c.loop-rule.invariant.elements n low) w.in_ok-members.members.items w.set_flags-then-is_may_of.new.flags.items (w.if-is_may_of.ensures.0 refl) set (w.in_ok-members.ensures.elements n low));
   }
   | else-is_may_of w ↦ record {
-    size = ap vec_len w.marks-is ∙ c.loop-rule.invariant.size;
-    are = λ n low. subst (λ (v : Vec Bool). (marked v.items n ≡ true) ↔ IsOutsiderOf c.args.self.now (take (c.loop-rule.rule-index + 1) c.as_slice-rule-items.result.now) c.args.first n) (sym w.marks-is)
-        (outside_same c.args.self.now c.args.first n c.as_slice-rule-items.result.now c.loop-rule.rule-index _ c.loop-rule-test.true c.loop-rule.marks.items (c.loop-rule.invariant.are n low) (λ may. let bad : false ≡ true = w.if-is_may_of.ensures.1 may in cc));
+    size = ap vec_len w.flags-is ∙ c.loop-rule.invariant.size;
+    elements = λ n low. subst (λ (v : Vec Bool). (marked v.items n ≡ true) ↔ IsOutsiderOf c.args.self.now (take (c.loop-rule.rule-index + 1) c.as_slice-rule-items.result.now) c.args.first n) (sym w.flags-is)
+        (outside_same c.args.self.now c.args.first n c.as_slice-rule-items.result.now c.loop-rule.rule-index _ c.loop-rule-test.true c.loop-rule.flags.items (c.loop-rule.invariant.elements n low) (λ may. let bad : false ≡ true = w.if-is_may_of.ensures.1 may in cc));
   }
 ]
 
-pub returns-clause-are : goal.returns-clause-are
-returns-clause-are c = λ n low.
+pub returns-clause-elements : goal.returns-clause-elements
+returns-clause-elements c = λ n low.
     let past = c.loop-rule-test.false in
     let all = take_all c.loop-rule.rule-index c.as_slice-rule-items.result.now (omega arith) ∙ c.as_slice-rule-items.ensures.value in
-    subst (λ (l : List Rule). (marked c.loop-rule.marks.items n ≡ true) ↔ IsOutsiderOf c.args.self.now l c.args.first n) all (c.loop-rule.invariant.are n low)
+    subst (λ (l : List Rule). (marked c.loop-rule.flags.items n ≡ true) ↔ IsOutsiderOf c.args.self.now l c.args.first n) all (c.loop-rule.invariant.elements n low)

@@ -6,6 +6,6 @@ use Rattle.cut_rules.proofs.reading.Rules.outsiders.Given as goal
 
 abbrev pub invariant-loop-rule : goal.invariant-loop-rule
 invariant-loop-rule l = record {
-  size : vec_len l.marks ≡ length l.net.names;
-  are : (n : ℕ) → n < length l.net.names → (marked l.marks.items n ≡ true) ↔ IsOutsiderOf l.self (take l.rule-index l.rule-items) l.first n;
+  size : vec_len l.flags ≡ length l.net.names;
+  elements : (n : ℕ) → n < length l.net.names → (marked l.flags.items n ≡ true) ↔ IsOutsiderOf l.self (take l.rule-index l.rule-items) l.first n;
 }

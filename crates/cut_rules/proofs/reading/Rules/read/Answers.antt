@@ -5,12 +5,12 @@ use Rattle.cut_rules.proofs.reading.Rules.read.Goals as goal
 
 pub returns-clause-rules : goal.returns-clause-rules
 returns-clause-rules c =
-    let drafted = c.in_ok-table.ensures.drafted in
+    let built = c.in_ok-table.ensures.built in
     record {
-      sound = λ line fault has. drafted.sound line fault (fault_low c.args.net.now c.args.files.now (pieces_of c.args.bytes.now) line fault has).1 has;
+      sound = λ line fault has. built.sound line fault (fault_low c.args.net.now c.args.files.now (pieces_of c.args.bytes.now) line fault has).1 has;
       files_are = refl;
-      table = drafted.table;
-      rules = drafted.rules;
-      allowed = drafted.allowed;
-      stale = drafted.stale;
+      table = built.table;
+      rules = built.rules;
+      allowed = built.allowed;
+      stale = built.stale;
     }

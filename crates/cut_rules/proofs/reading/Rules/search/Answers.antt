@@ -18,8 +18,8 @@ returns c =
       barrier = c.in_ok-barrier.barrier.items;
       search = subst (λ (l : List ℕ). IsSearch c.args.graph.now.edges.now l c.in_ok-barrier.barrier.items c.in_ok-search.search) c.as_slice.ensures.value (subst (λ (l : List Bool). IsSearch c.args.graph.now.edges.now c.as_slice.result.now l c.in_ok-search.search) c.as_slice-2.ensures.value c.in_ok-search.ensures);
       starts_within = λ m has. c.in_ok-starts.ensures.within m has;
-      starts_are = λ m low. c.in_ok-starts.ensures.are m low;
+      starts_are = λ m low. c.in_ok-starts.ensures.elements m low;
       barrier_are = λ m low. c.in_ok-barrier.ensures m low;
       size = (let size = c.in_ok-targets.ensures.size in let ok = c.in_ok-targets.targets.ok in omega arith);
-      targets_are = λ n low. c.in_ok-targets.ensures.are n low;
+      targets_are = λ n low. c.in_ok-targets.ensures.elements n low;
     }

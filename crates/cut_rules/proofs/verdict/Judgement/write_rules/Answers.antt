@@ -2,7 +2,7 @@ use Rattle.std.proofs.Common.{◌≡◌, ◌+◌, ◌∙◌, ◌++◌, [], List,
 use Rattle.std.specs.Prelude.{Contains, slice_get}
 use Rattle.std.specs.List.{flat_map}
 use Rattle.std.specs.String.{string_bytes}
-use Rattle.text_pieces.specs.Pieces.{PutsAllBut}
+use Rattle.byte_sink.specs.Pieces.{WritesAllBut}
 use Rattle.cut_rules.specs.declared.verdict.Lines.{Lines}
 use Rattle.cut_rules.specs.Judged.{AreBelow}
 use Rattle.std.proofs.lemmas.List.Elements.{Contains-get_or}
@@ -21,7 +21,7 @@ use Rattle.cut_rules.proofs.verdict.Judgement.write_rules.Goals.{then-not-is_rep
 pub loop-rule-init : goal.loop-rule-init
 loop-rule-init g c = record {
   style = refl;
-  written = λ files pieces are. (
+  written = λ files pieces elements. (
     0,
     [],
     bound_start c.args.self.now.rules.now.rules.items,
@@ -35,7 +35,7 @@ loop-rule-init g c = record {
 pub returns-in_err-any-clause-prefix : goal.returns-in_err-any-clause-prefix
 returns-in_err-any-clause-prefix g c =
     let p = err_from_is_err_and c.from_residual.result c.from_residual.ensures.1 in
-    rw p.1 (λ files pieces are whole are_whole.
+    rw p.1 (λ files pieces elements whole are_whole.
     let net = c.args.self.now.net.now in
     let rules = c.args.self.now.rules.now in
     let sites = c.args.self.now.sites.now in
@@ -43,12 +43,12 @@ returns-in_err-any-clause-prefix g c =
     let k = c.loop-rule.rule-index in
     let r = get_or items k no_rule in
     let at : slice_get rules.rules.items k ≡ Some r = subst (λ (l : List Rule). slice_get l k ≡ Some r) c.as_slice-rule-items.ensures.value (slice_get-get_or items k no_rule c.loop-rule-test.true) in
-    let (bound, first, is_bound, below, any, puts) = c.loop-rule.invariant.written files pieces are in
-    let (high, more, second, front) = c.in_err-any.ensures.prefix files pieces are in
+    let (bound, first, is_bound, below, any, writes) = c.loop-rule.invariant.written files pieces elements in
+    let (high, more, second, front) = c.in_err-any.ensures.prefix files pieces elements in
     let above = is_bound.after k r (omega arith) at in
-    let (rest, e) = first_of_all net files pieces bound r.line high first more whole (gap net files pieces rules are k bound r at is_bound) above below second are_whole in
+    let (rest, e) = first_of_all net files pieces bound r.line high first more whole (gap net files pieces rules elements k bound r at is_bound) above below second are_whole in
     front_of_list (violation_line (writer_style c.args.lines.now.places) net sites) (string_bytes c.args.lines.now.text) _ _ (first ++ more) rest whole e
-    (front_more_of net sites (writer_style c.args.lines.now.places) (writer_style c.loop-rule.lines.places) c.loop-rule.invariant.style (string_bytes c.args.lines.now.text) _ _ _ first more (string_bytes c.loop-rule.lines.text) puts front))
+    (front_more_of net sites (writer_style c.args.lines.now.places) (writer_style c.loop-rule.lines.places) c.loop-rule.invariant.style (string_bytes c.args.lines.now.text) _ _ _ first more (string_bytes c.loop-rule.lines.text) writes front))
 
 pub loop-rule-preserved : goal.loop-rule-preserved
 loop-rule-preserved g c =
@@ -67,46 +67,46 @@ loop-rule-preserved g c =
     elim c.if-not-is_repeated.branch [
       | then-not-is_repeated+in_ok-any w ↦ record {
         style = ap (λ (l : Lines). writer_style l.places) w.lines-is ∙ w.in_ok-any.ensures.style ∙ inv.style;
-        written = λ files pieces are.
-            let (bound, first, is_bound, below, any, puts) = inv.written files pieces are in
-            let (more, second, found, gathered) = w.in_ok-any.ensures.written files pieces are in
+        written = λ files pieces elements.
+            let (bound, first, is_bound, below, any, writes) = inv.written files pieces elements in
+            let (more, second, found, gathered) = w.in_ok-any.ensures.written files pieces elements in
             let above = is_bound.after k r (omega arith) at in
-            let both = puts_more net sites style (writer_style c.loop-rule.lines.places) inv.style text _ _ _ first more (string_bytes c.loop-rule.lines.text) (string_bytes w.write_rule.new.lines.text) puts gathered in (
+            let both = puts_more net sites style (writer_style c.loop-rule.lines.places) inv.style text _ _ _ first more (string_bytes c.loop-rule.lines.text) (string_bytes w.write_rule.new.lines.text) writes gathered in (
               r.line + 1,
               first ++ more,
-              bound_next rules.rules.items are.rules.ascending k bound r at is_bound,
-              below_more net files pieces bound r.line first more (gap net files pieces rules are k bound r at is_bound) above below second,
+              bound_next rules.rules.items elements.rules.ascending k bound r at is_bound,
+              below_more net files pieces bound r.line first more (gap net files pieces rules elements k bound r at is_bound) above below second,
               w.any-is ∙ any_more first more _ _ any found,
-              subst (λ (l : Lines). PutsAllBut (g.S.Sink.taken c.args.sink.now) (g.S.Sink.taken c.if-not-is_repeated.sink) (text ++ flat_map (violation_line style net sites) (first ++ more)) (string_bytes l.text)) (sym w.lines-is)
-                  (subst (λ (s : g.row.S.Denot). PutsAllBut (g.S.Sink.taken c.args.sink.now) (g.S.Sink.taken s) (text ++ flat_map (violation_line style net sites) (first ++ more)) (string_bytes w.write_rule.new.lines.text)) (sym w.sink-is) both),
+              subst (λ (l : Lines). WritesAllBut (g.S.Sink.taken c.args.sink.now) (g.S.Sink.taken c.if-not-is_repeated.sink) (text ++ flat_map (violation_line style net sites) (first ++ more)) (string_bytes l.text)) (sym w.lines-is)
+                  (subst (λ (s : g.row.S.Denot). WritesAllBut (g.S.Sink.taken c.args.sink.now) (g.S.Sink.taken s) (text ++ flat_map (violation_line style net sites) (first ++ more)) (string_bytes w.write_rule.new.lines.text)) (sym w.sink-is) both),
             );
         failures = ap g.S.Sink.failures w.sink-is ∙ w.in_ok-any.ensures.failures ∙ inv.failures;
       }
       | else-not-is_repeated w ↦ record {
         style = ap (λ (l : Lines). writer_style l.places) w.lines-is ∙ inv.style;
-        written = λ files pieces are.
-            let (bound, first, is_bound, below, any, puts) = inv.written files pieces are in
+        written = λ files pieces elements.
+            let (bound, first, is_bound, below, any, writes) = inv.written files pieces elements in
             let above = is_bound.after k r (omega arith) at in
             let has : Contains rules.rules.items r = subst (λ (l : List Rule). Contains l r) value (Contains-get_or items k no_rule lt) in
-            let none = none_of_rule net files pieces r.line (length net.imports) (λ j path breaks. repeated_rule net c.keeps.ensures.network files pieces rules are r has (w.if-not-is_repeated.ensures.0 refl) _ _ path breaks.forbidden) in
-            let more = below_more net files pieces bound r.line first [] (gap net files pieces rules are k bound r at is_bound) above below none in (
+            let none = none_of_rule net files pieces r.line (length net.imports) (λ j path breaks. repeated_rule net c.invariants.ensures.network files pieces rules elements r has (w.if-not-is_repeated.ensures.0 refl) _ _ path breaks.forbidden) in
+            let more = below_more net files pieces bound r.line first [] (gap net files pieces rules elements k bound r at is_bound) above below none in (
               r.line + 1,
               first,
-              bound_next rules.rules.items are.rules.ascending k bound r at is_bound,
+              bound_next rules.rules.items elements.rules.ascending k bound r at is_bound,
               subst (AreBelow net files pieces (r.line + 1)) (append-nil first) more,
               w.any-is ∙ any,
-              subst (λ (l : Lines). PutsAllBut (g.S.Sink.taken c.args.sink.now) (g.S.Sink.taken c.if-not-is_repeated.sink) (text ++ flat_map (violation_line style net sites) first) (string_bytes l.text)) (sym w.lines-is)
-                  (subst (λ (s : g.row.S.Denot). PutsAllBut (g.S.Sink.taken c.args.sink.now) (g.S.Sink.taken s) (text ++ flat_map (violation_line style net sites) first) (string_bytes c.loop-rule.lines.text)) (sym w.sink-is) puts),
+              subst (λ (l : Lines). WritesAllBut (g.S.Sink.taken c.args.sink.now) (g.S.Sink.taken c.if-not-is_repeated.sink) (text ++ flat_map (violation_line style net sites) first) (string_bytes l.text)) (sym w.lines-is)
+                  (subst (λ (s : g.row.S.Denot). WritesAllBut (g.S.Sink.taken c.args.sink.now) (g.S.Sink.taken s) (text ++ flat_map (violation_line style net sites) first) (string_bytes c.loop-rule.lines.text)) (sym w.sink-is) writes),
             );
         failures = ap g.S.Sink.failures w.sink-is ∙ inv.failures;
       }
     ]
 
 pub returns-clause-written : goal.returns-clause-written
-returns-clause-written g c = λ files pieces are.
+returns-clause-written g c = λ files pieces elements.
     let list = c.args.self.now.rules.now.rules.items in
     let value = c.as_slice-rule-items.ensures.value in
     let size = ap length value in
     let past = c.loop-rule-test.false in
-    let (bound, first, is_bound, below, any, puts) = c.loop-rule.invariant.written files pieces are in
-    (first, all_below c.args.self.now.net.now files pieces bound first (past_all c.args.self.now.net.now files pieces c.args.self.now.rules.now are c.loop-rule.rule-index bound (omega arith) is_bound) below, any, puts)
+    let (bound, first, is_bound, below, any, writes) = c.loop-rule.invariant.written files pieces elements in
+    (first, all_below c.args.self.now.net.now files pieces bound first (past_all c.args.self.now.net.now files pieces c.args.self.now.rules.now elements c.loop-rule.rule-index bound (omega arith) is_bound) below, any, writes)

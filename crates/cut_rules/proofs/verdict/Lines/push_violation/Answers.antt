@@ -4,15 +4,15 @@ use Rattle.std.proofs.lemmas.List.Elements.{Contains-get_or}
 use Rattle.std.proofs.lemmas.Option.{slice_get-get_or}
 use Rattle.text_escape.specs.Places.{writer_style}
 use Rattle.cut_net.specs.declared.priced.Priced.{Priced}
-use Rattle.cut_net.specs.Network.{name_of, none_there}
+use Rattle.cut_net.specs.Network.{name_of, missing_item}
 use Rattle.cut_rules.proofs.Writing.{on_ok_made, violation_appended}
 use Rattle.cut_rules.proofs.verdict.Lines.push_violation.Goals as goal
 
 pub name-requires : goal.name-requires
 name-requires c =
     let net = c.args.judgement.now.net.now in
-    let low = (c.keeps.ensures.network.between (get_or net.imports c.args.import none_there) (Contains-get_or net.imports c.args.import none_there c.requires.import)).1 in
-    subst (λ (is : List Priced). (get_or is c.args.import none_there).to < length net.names) (sym c.imports.ensures) low
+    let low = (c.invariants.ensures.network.between (get_or net.imports c.args.import missing_item) (Contains-get_or net.imports c.args.import missing_item c.requires.import)).1 in
+    subst (λ (is : List Priced). (get_or is c.args.import missing_item).to < length net.names) (sym c.imports.ensures) low
 
 pub returns-clause-appended : goal.returns-clause-appended
 returns-clause-appended c =
@@ -25,5 +25,5 @@ returns-clause-appended c =
     on_ok_made c.push.result (string_bytes c.push.new.self) _ _ c.push.ensures.bytes (λ last.
     violation_appended (writer_style c.args.self.now.places) net sites (record { line = c.args.line; import_number = k; path = c.args.path.now }) _ (string_bytes c.args.self.now.text) (string_bytes c.push_start.new.out) (string_bytes c.write.new.self) (string_bytes c.push_names.new.text) (string_bytes c.push_name.new.text) (string_bytes c.push.new.self)
     (slice_get-get_or sites k _ lt) c.in_ok-push_start.ensures.appended c.in_ok-write.ensures.bytes c.in_ok-push_names.ensures
-    (c.in_ok-push_name.ensures ∙ ap (λ (n : List ℕ). string_bytes c.push_names.new.text ++ 32 ∷ n) (c.name.ensures ∙ ap (λ (is : List Priced). name_of net (get_or is k none_there).to) c.imports.ensures))
+    (c.in_ok-push_name.ensures ∙ ap (λ (n : List ℕ). string_bytes c.push_names.new.text ++ 32 ∷ n) (c.name.ensures ∙ ap (λ (is : List Priced). name_of net (get_or is k missing_item).to) c.imports.ensures))
     (last ∙ ap (λ (t : List ℕ). string_bytes c.push_name.new.text ++ t) (c.push.ensures.ascii (omega arith))))

@@ -1,7 +1,7 @@
 -- The rows under the path are what covers there.
 use Rattle.std.proofs.Common.{◌<◌, length, Some, None, sym, subst, arith}
 use Rattle.std.specs.Prelude.{All}
-use Rattle.index_store.specs.declared.row.Covering.{Covering}
+use Rattle.index_store.specs.declared.row.PathEntry.{PathEntry}
 use Rattle.index_store.specs.Stores.{tables_in, IsStoreOf}
 use Rattle.index_store.specs.Tables.{rows_at, texts_in}
 use Rattle.index_store.proofs.AskedLemmas.{nearest_here, nearest_is}
@@ -11,8 +11,8 @@ use Rattle.index_store.proofs.store.Store.symbol_at.Goals as goal
 pub returns-in-None : goal.returns-in-None
 returns-in-None c = record {
   exact = λ index store has.
-      let kept = subst (IsStoreOf index) (sym c.self.view_is) store in
-      text_lacking (texts_in c.self.inside.by_path) c.args.path.now (sym c.in-None.ensures) ((kept.named c.args.path.now).1 has);
+      let retained = subst (IsStoreOf index) (sym c.self.view_is) store in
+      text_lacking (texts_in c.self.inside.by_path) c.args.path.now (sym c.in-None.ensures) ((retained.named c.args.path.now).1 has);
 }
 
 pub rows-requires : goal.rows-requires
@@ -25,8 +25,8 @@ pub text-requires : goal.text-requires
 text-requires c =
     let t = tables_in c.self.inside.by_path c.self.inside.by_symbol in
     let i = c.self.invariant in
-    let rows = subst (All (λ (x : Covering). x.symbol < length t.symbols)) (under_number t.paths t.coverings c.args.path.now c.in-Some.number i.whole.of_paths (sym c.in-Some.ensures)) (i.keeps.symbols_there c.args.path.now) in
-    record { within = nearest_is (λ (x : Covering). x.symbol < length t.symbols) c.args.at None (rows_at t.coverings c.in-Some.number) c.in-Some-nearest.covering (λ b e. absurd cc) rows (rw c.rows.ensures at (sym c.in-Some-nearest.ensures)) }
+    let rows = subst (All (λ (x : PathEntry). x.symbol < length t.symbols)) (under_number t.paths t.coverings c.args.path.now c.in-Some.number i.whole.of_paths (sym c.in-Some.ensures)) (i.invariants.symbols_valid c.args.path.now) in
+    record { within = nearest_is (λ (x : PathEntry). x.symbol < length t.symbols) c.args.at None (rows_at t.coverings c.in-Some.number) c.in-Some-nearest.covering (λ b e. absurd cc) rows (rw c.rows.ensures at (sym c.in-Some-nearest.ensures)) }
 
 pub returns-in-None-nearest : goal.returns-in-None-nearest
 returns-in-None-nearest c = record {

@@ -6,8 +6,8 @@ use Rattle.ob_imports.specs.Names.{texts}
 use Rattle.digraph.specs.Edges.{AreBetween}
 use Rattle.ob_imports.proofs.graphs.Graph.of.Goals as goal
 
-pub rows_both-requires : goal.rows_both-requires
-rows_both-requires c =
+pub adjacency_lists-requires : goal.adjacency_lists-requires
+adjacency_lists-requires c =
     let long = length-map c.args.names.keys string_bytes in
     let nodes : length (texts c.args.names.keys) ≡ c.len.result = (let e = c.len.ensures.len in omega arith) in
     record { between = rw c.as_slice.ensures.value (subst (AreBetween c.args.pairs.items) nodes c.requires.graph.between) }

@@ -1,5 +1,5 @@
 use Rattle.std.proofs.Common.{rules, ◌≤◌, length, sym, arith}
-use Rattle.ob_parse.proofs.Ahead.{past_end, past_numbers, next_ahead}
+use Rattle.ob_parse.proofs.Remaining.{past_end, past_numbers, next_ahead}
 use Rattle.ob_parse.proofs.cursor.Cursor.next.Goals as goal
 
 pub returns-in_err-token-clause-read : goal.returns-in_err-token-clause-read

@@ -1,15 +1,15 @@
--- The alias at the place that was found, and its module.
+-- The alias with the found index, and its module.
 use Rattle.std.proofs.Common.{◌≡◌, bytes_eq, true, sym, ap, ◌∙◌, arith}
 use Rattle.std.proofs.lemmas.Option.{slice_get_within}
 use Rattle.std.proofs.lemmas.Slice.Eq.{bytes_eq-Decides}
 use Rattle.ob_scope.specs.Kept.{alias_of}
 use Rattle.ob_scope.specs.Scoped.{AliasUses, ModuleScopes}
 use Rattle.ob_scope.proofs.Elements.{ascend_map}
-use Rattle.ob_scope.proofs.Resolved.{row_found, row_none, row_only}
+use Rattle.ob_scope.proofs.Resolutions.{row_found, row_none, row_only}
 use Rattle.ob_scope.proofs.module_scopes.Scopes.is_alias_of.Goals as goal
 
-pub place_of-requires : goal.place_of-requires
-place_of-requires c = rw c.as_slice.ensures.value (ascend_map alias_of (λ (a : AliasUses). a.alias) c.self.inside.aliases.items c.self.invariant.aliases_ascend)
+pub index_of-requires : goal.index_of-requires
+index_of-requires c = rw c.as_slice.ensures.value (ascend_map alias_of (λ (a : AliasUses). a.alias) c.self.inside.aliases.items c.self.invariant.aliases_ascend)
 
 pub index-requires : goal.index-requires
 index-requires c = let found = c.in-Some.ensures.found in omega (arith, slice_get_within c.as_slice.result.now c.in-Some.at found.element found.there)

@@ -1,14 +1,14 @@
--- The row at the place that was found, read as a meaning.
+-- The entry with the found index, as a meaning.
 use Rattle.std.proofs.Common.{ap, arith}
 use Rattle.std.proofs.lemmas.Option.{slice_get_within}
 use Rattle.ob_scope.specs.Kept.{meaning_of}
 use Rattle.ob_scope.specs.Scoped.{Meaning, ModuleScopes}
 use Rattle.ob_scope.proofs.Elements.{ascend_map}
-use Rattle.ob_scope.proofs.Resolved.{resolved_found, resolved_none}
+use Rattle.ob_scope.proofs.Resolutions.{resolved_found, resolved_none}
 use Rattle.ob_scope.proofs.module_scopes.Scopes.resolve.Goals as goal
 
-pub place_of-requires : goal.place_of-requires
-place_of-requires c = rw c.as_slice.ensures.value (ascend_map meaning_of (λ (m : Meaning). m.used) c.self.inside.meanings.items c.self.invariant.meanings_ascend)
+pub index_of-requires : goal.index_of-requires
+index_of-requires c = rw c.as_slice.ensures.value (ascend_map meaning_of (λ (m : Meaning). m.used) c.self.inside.meanings.items c.self.invariant.meanings_ascend)
 
 pub returns-in_err-at-clause-none : goal.returns-in_err-at-clause-none
 returns-in_err-at-clause-none c =

@@ -1,16 +1,16 @@
 use Rattle.std.proofs.Common.{append_assoc, arith}
 use Rattle.ob_walk.proofs.StatementWalks.{if_items, case_items, statement_items}
-use Rattle.ob_walk.proofs.Walks.{more-more}
+use Rattle.ob_walk.proofs.Walks.{with_items-with_items}
 use Rattle.ob_walk.proofs.walk.statements.+statements.Goals as goal
 
 pub walk_stmt-returns-in-If : goal.walk_stmt-returns-in-If
 walk_stmt-returns-in-If t c =
-    rw (c.in-If.is, if_items, c.put-in-If-2.ensures, c.walk_otherwise.ensures, c.walk_branches.ensures, c.walk_branch.ensures, c.deref.ensures, c.put-in-If.ensures) (simp (more-more, append_assoc))
+    rw (c.in-If.is, if_items, c.emit-in-If-2.ensures, c.walk_otherwise.ensures, c.walk_branches.ensures, c.walk_branch.ensures, c.deref.ensures, c.emit-in-If.ensures) (simp (with_items-with_items, append_assoc))
 
 pub walk_stmt-returns-in-Case : goal.walk_stmt-returns-in-Case
 walk_stmt-returns-in-Case t c =
-    rw (c.in-Case.is, case_items, c.put-in-Case-3.ensures, c.walk_cases.ensures, c.walk_case.ensures, c.deref-in-Case.ensures, c.put-in-Case-2.ensures, c.walk_expr-in-Case.ensures, c.put-in-Case.ensures)
-    (simp (more-more, append_assoc))
+    rw (c.in-Case.is, case_items, c.emit-in-Case-3.ensures, c.walk_cases.ensures, c.walk_case.ensures, c.deref-in-Case.ensures, c.emit-in-Case-2.ensures, c.walk_expr-in-Case.ensures, c.emit-in-Case.ensures)
+    (simp (with_items-with_items, append_assoc))
 
 pub walk_block-loop-stmt-init : goal.walk_block-loop-stmt-init
 walk_block-loop-stmt-init t c = grind (arith, statement_items)

@@ -1,8 +1,8 @@
 use Rattle.std.proofs.Common.{refl}
-use Rattle.proto_wire.specs.Messages.{payload_record, each_of, if_field, records_inside}
+use Rattle.proto_wire.specs.Messages.{payload_record, each_of, if_field, nested_records}
 use Rattle.std.specs.Prelude.{◌++◌}
 use Rattle.std.proofs.Common.{ap}
-use Rattle.scip_index.specs.Plain.{plain_tool, PlainMetadata}
+use Rattle.scip_index.specs.Plain.{tool_model, MetadataModel}
 use Rattle.scip_index.specs.Meaning.{tool_of}
 use Rattle.scip_index.proofs.MeaningLaws.{IsMerged-from, IsMerged-to, metadata-more}
 use Rattle.scip_index.proofs.reading.MetadataMessage.take.Goals as goal
@@ -10,7 +10,7 @@ use Rattle.scip_index.proofs.reading.MetadataMessage.take.Goals as goal
 pub returns-clause-means : goal.returns-clause-means
 returns-clause-means c = λ front h.
     let p = payload_record c.args.wire.now c.args.payload.now in
-    let given = each_of 2 records_inside front in
-    let before = IsMerged-to plain_tool tool_of c.args.self.now.tool_info given (ap (λ (m : PlainMetadata). m.tool_info) h) in
-    let after = IsMerged-from plain_tool tool_of c.merge_message.new.message (given ++ if_field 2 p.wire (records_inside p)) (c.in_ok-merge_message.ensures.means given before) in
+    let given = each_of 2 nested_records front in
+    let before = IsMerged-to tool_model tool_of c.args.self.now.tool_info given (ap (λ (m : MetadataModel). m.tool_info) h) in
+    let after = IsMerged-from tool_model tool_of c.merge_message.new.message (given ++ if_field 2 p.wire (nested_records p)) (c.in_ok-merge_message.ensures.means given before) in
     metadata-more front p _ _ _ h after (rw (c.take_number.ensures, c.in_ok-take_text.ensures.text, c.take_number-2.ensures) refl)

@@ -12,12 +12,12 @@ unfolding written_occurrence
 returns-clause-bytes c =
     let o = c.args.self.now in
     let roles : FitsSigned w32 o.symbol_roles = search rules in
-    ok-then c.put_packed-2.result c.put_packed-2.ensures.bytes
+    ok-then c.write_packed-2.result c.write_packed-2.ensures.bytes
     (λ e. rw (
       e,
-      c.in_ok-put_number.ensures.bytes,
-      c.in_ok-put_text.ensures,
-      c.in_ok-put_packed.ensures.bytes,
+      c.in_ok-write_number.ensures.bytes,
+      c.in_ok-write_text.ensures,
+      c.in_ok-write_packed.ensures.bytes,
       c.as_str.ensures.value,
       c.deref.ensures.value,
       c.deref-2.ensures.value,

@@ -2,7 +2,7 @@ use Rattle.std.proofs.Common.{◌≡◌, ◌<◌, ℕ, Bool, true, List, length,
 use Rattle.std.specs.Prelude.{◌↔◌}
 use Rattle.std.proofs.lemmas.List.{length-map, map-set}
 use Rattle.work_board.specs.declared.state.State.TheVariants.{Claimed}
-use Rattle.work_board.specs.Graphs.{lists, row_at, IsGraph, Modules}
+use Rattle.work_board.specs.Graphs.{lists, list_at, IsGraph, Modules}
 use Rattle.work_board.specs.Cores.{IsReady}
 use Rattle.work_board.specs.Marks.{marked, IsReachedBy}
 use Rattle.work_board.specs.Keeping.{taken}
@@ -23,11 +23,11 @@ invariant_of-self g c =
     let r_size : length (lists new.reached.items) ≡ length (lists b.reached.items) =
     length-map new.reached.items (λ r. r.items) ∙ sym new.reached.ok.0 ∙ c.fill_row.ensures.size ∙ b.reached.ok.0 ∙ sym (length-map b.reached.items (λ r. r.items)) in
     let p_size : length new.spare.items ≡ length b.spare.items = sym new.spare.ok.0 ∙ c.fill_row.ensures.spare ∙ b.spare.ok.0 in
-    let imports : c.imports_of.result.now ≡ row_at t.imports n = c.imports_of.ensures ∙ ap (λ (u : Modules). row_at u.imports n) c.self.invariant.0 in
-    let filled : (v : ℕ) → v < length b.spare.items → (marked (row_at (lists new.reached.items) n) v ≡ true) ↔ IsReachedBy (lists b.reached.items) (row_at t.imports n) v = λ v lt.
-    subst (λ row. (marked (row_at (lists new.reached.items) n) v ≡ true) ↔ IsReachedBy (lists b.reached.items) row v) imports (c.fill_row.ensures.filled v (subst (λ (k : ℕ). v < k) (sym b.spare.ok.0) lt)) in (
+    let imports : c.imports_of.result.now ≡ list_at t.imports n = c.imports_of.ensures ∙ ap (λ (u : Modules). list_at u.imports n) c.self.invariant.0 in
+    let filled : (v : ℕ) → v < length b.spare.items → (marked (list_at (lists new.reached.items) n) v ≡ true) ↔ IsReachedBy (lists b.reached.items) (list_at t.imports n) v = λ v lt.
+    subst (λ row. (marked (list_at (lists new.reached.items) n) v ≡ true) ↔ IsReachedBy (lists b.reached.items) row v) imports (c.fill_row.ensures.filled v (subst (λ (k : ℕ). v < k) (sym b.spare.ok.0) lt)) in (
       c.self.invariant.0,
-      held_kept g.E.WorkEntry.is_of t b.waiting.items b.states.items (lists b.reached.items) b.spare.items b.entries.items kept n at.0 at.1 (subst IsGraph c.self.invariant.0 c.keeps.ensures)
+      held_kept g.E.WorkEntry.is_of t b.waiting.items b.states.items (lists b.reached.items) b.spare.items b.entries.items kept n at.0 at.1 (subst IsGraph c.self.invariant.0 c.invariants.ensures)
           (lists new.reached.items) new.spare.items r_size p_size c.fill_row.ensures.others filled (c.fill_row.ensures.long ∙ b.spare.ok.0),
     )
 

@@ -2,7 +2,7 @@ use Rattle.std.proofs.Common.{◌≡◌, ◌<◌, ℕ, true, length, sym, ap, �
 use Rattle.std.specs.Prelude.{All}
 use Rattle.std.specs.List.{flat_map}
 use Rattle.std.proofs.lemmas.List.{length-map}
-use Rattle.work_board.specs.Graphs.{lists, row_at, IsGraph, IsNameOrder, Modules}
+use Rattle.work_board.specs.Graphs.{lists, list_at, IsGraph, IsNameOrder, Modules}
 use Rattle.work_board.specs.Cores.{share_at}
 use Rattle.work_board.specs.Keeping.{state_at, taken}
 use Rattle.work_board.proofs.Ordering.{order_within}
@@ -10,8 +10,8 @@ use Rattle.work_board.proofs.Reaching.{shares_told, taken_zero}
 use Rattle.std.proofs.lemmas.Grind.{common_steps}
 use Rattle.work_board.proofs.board.Board.interfaces.Goals as goal
 
-pub marks_at-marks-requires : goal.marks_at-marks-requires
-marks_at-marks-requires g c =
+pub flags_at-flags-requires : goal.flags_at-flags-requires
+flags_at-flags-requires g c =
     let b = c.self.inside in
     let is_taken : taken (state_at b.states.items c.args.number) ≡ true = ap (λ ss. taken (state_at ss c.args.number)) (sym c.as_slice.ensures.value) ∙ sym c.is_taken.ensures ∙ c.if-not-is_taken.false in
     let below = (taken_zero g.E.WorkEntry.is_of g.T.NamedTree.graph b.waiting.items b.states.items (lists b.reached.items) b.spare.items b.entries.items c.self.invariant.1 c.args.number is_taken).0 in
@@ -23,7 +23,7 @@ shares-requires-clause-size g c =
     let b = c.self.inside in
     let is_taken : taken (state_at b.states.items c.args.number) ≡ true = ap (λ ss. taken (state_at ss c.args.number)) (sym c.as_slice.ensures.value) ∙ sym c.is_taken.ensures ∙ c.if-not-is_taken.false in
     let below = (taken_zero g.E.WorkEntry.is_of g.T.NamedTree.graph b.waiting.items b.states.items (lists b.reached.items) b.spare.items b.entries.items c.self.invariant.1 c.args.number is_taken).0 in
-    ap length c.marks_at-marks.ensures ∙ ap (λ rs. length (row_at (lists rs) c.args.number)) c.as_slice-2.ensures.value ∙ c.self.invariant.1.width c.args.number below
+    ap length c.flags_at-flags.ensures ∙ ap (λ rs. length (list_at (lists rs) c.args.number)) c.as_slice-2.ensures.value ∙ c.self.invariant.1.width c.args.number below
     ∙ sym c.self.invariant.1.entries_size ∙ sym (ap length c.as_slice-3.ensures.value)
 
 pub shares-requires-clause-within : goal.shares-requires-clause-within
@@ -38,12 +38,12 @@ returns-clause-shares g c =
     let b = c.self.inside in
     let f = g.E.WorkEntry.shared_of in
     let is_taken : taken (state_at b.states.items c.args.number) ≡ true = ap (λ ss. taken (state_at ss c.args.number)) (sym c.as_slice.ensures.value) ∙ sym c.is_taken.ensures ∙ c.if-not-is_taken.false in
-    let row : c.marks_at-marks.result.now ≡ row_at (lists b.reached.items) c.args.number = c.marks_at-marks.ensures ∙ ap (λ rs. row_at (lists rs) c.args.number) c.as_slice-2.ensures.value in
+    let row : c.flags_at-flags.result.now ≡ list_at (lists b.reached.items) c.args.number = c.flags_at-flags.ensures ∙ ap (λ rs. list_at (lists rs) c.args.number) c.as_slice-2.ensures.value in
     let order = c.by_name.result.now in
     rw (← c.self.view_is)
     (shares_told g.E.WorkEntry.is_of g.T.NamedTree.graph b.waiting.items b.states.items (lists b.reached.items) b.spare.items b.entries.items c.self.invariant.1 f
-    (subst IsGraph c.self.invariant.0 c.keeps.ensures) b.abandoned c.args.number is_taken order (subst (λ (u : Modules). IsNameOrder u.names order) c.self.invariant.0 c.by_name.ensures) _
-    (c.in_ok-shares.ensures ∙ ap (λ ms. flat_map (share_at f ms c.as_slice-3.result.now) order) row ∙ ap (λ es. flat_map (share_at f (row_at (lists b.reached.items) c.args.number) es) order) c.as_slice-3.ensures.value))
+    (subst IsGraph c.self.invariant.0 c.invariants.ensures) b.abandoned c.args.number is_taken order (subst (λ (u : Modules). IsNameOrder u.names order) c.self.invariant.0 c.by_name.ensures) _
+    (c.in_ok-shares.ensures ∙ ap (λ ms. flat_map (share_at f ms c.as_slice-3.result.now) order) row ∙ ap (λ es. flat_map (share_at f (list_at (lists b.reached.items) c.args.number) es) order) c.as_slice-3.ensures.value))
 
 pub returns-then-not-is_taken-clause-refused : goal.returns-then-not-is_taken-clause-refused
 returns-then-not-is_taken-clause-refused g c = grind (arith, common_steps)

@@ -10,7 +10,7 @@ pub invariant_of-result : goal.invariant_of-result
 invariant_of-result g c =
     let t = c.args.graph.now in
     let counts = c.in_ok-waiting.waiting.items in
-    let start = opened g.E.WorkEntry.is_of t counts c.in_ok-waiting.ensures.size c.in_ok-waiting.ensures.counts c.keeps.ensures.size in (
+    let start = opened g.E.WorkEntry.is_of t counts c.in_ok-waiting.ensures.size c.in_ok-waiting.ensures.counts c.invariants.ensures.size in (
       c.requires,
       subst (λ (u : Modules). IsValidBoard g.E.WorkEntry.is_of u counts c.in_ok-states.states.items (lists c.in_ok-reached.reached.items) c.in_ok-spare.spare.items c.in_ok-entries.entries.items) c.requires
           (rw (c.in_ok-states.ensures, c.as_slice.ensures.value, c.in_ok-reached.ensures, c.in_ok-spare.ensures, c.in_ok-entries.ensures, c.modules-count.ensures) start),

@@ -1,18 +1,18 @@
 use Rattle.std.proofs.Common.{◌≡◌, true, false, List, Bool, ◌++◌, length, map, take, drop, ap, ◌∙◌, subst}
 use Rattle.std.specs.Prelude.{is_some, slice_index_or}
 use Rattle.work_board.specs.Graphs.{lists}
-use Rattle.work_board.specs.Keeping.{let_go, taken}
+use Rattle.work_board.specs.Keeping.{freed_claim, taken}
 use Rattle.work_board.proofs.Marking.{restored}
 use Rattle.work_board.proofs.Resting.{back_claimed, back_idle, back_kept}
 use Rattle.work_board.proofs.board.Board.take_back.Goals as goal
 
-now : (g : _) (c : goal.After-self-1 g) → take c.self.inside.states.len (c.let_all_go.new.states ++ drop (length c.let_all_go.new.states) c.self.inside.states.items) ≡ map let_go c.self.inside.states.items
+now : (g : _) (c : goal.After-self-1 g) → take c.self.inside.states.len (c.free_all_claimed.new.states ++ drop (length c.free_all_claimed.new.states) c.self.inside.states.items) ≡ map freed_claim c.self.inside.states.items
 now g c =
     let old = c.self.inside.states in
-    restored old.len c.let_all_go.new.states old.items (c.let_all_go.auto.states ∙ ap length c.as_mut_slice.ensures.value) old.ok.0
-    ∙ c.let_all_go.ensures ∙ ap (map let_go) c.as_mut_slice.ensures.value
+    restored old.len c.free_all_claimed.new.states old.items (c.free_all_claimed.auto.states ∙ ap length c.as_mut_slice.ensures.value) old.ok.0
+    ∙ c.free_all_claimed.ensures ∙ ap (map freed_claim) c.as_mut_slice.ensures.value
 
-claimed : (g : _) (c : goal.After-self-1 g) → map taken (take c.self.inside.states.len (c.let_all_go.new.states ++ drop (length c.let_all_go.new.states) c.self.inside.states.items)) ≡ map is_some c.self.inside.entries.items
+claimed : (g : _) (c : goal.After-self-1 g) → map taken (take c.self.inside.states.len (c.free_all_claimed.new.states ++ drop (length c.free_all_claimed.new.states) c.self.inside.states.items)) ≡ map is_some c.self.inside.entries.items
 claimed g c =
     let b = c.self.inside in
     ap (map taken) (now g c) ∙ back_claimed g.E.WorkEntry.is_of g.T.NamedTree.graph b.waiting.items b.states.items (lists b.reached.items) b.spare.items b.entries.items c.self.invariant.1

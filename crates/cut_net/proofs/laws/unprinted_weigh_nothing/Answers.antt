@@ -1,5 +1,0 @@
-use Rattle.cut_net.proofs.Needed.{weighs_nothing}
-use Rattle.cut_net.proofs.laws.unprinted_weigh_nothing.Goals as goal
-
-pub returns : goal.returns
-returns c = weighs_nothing

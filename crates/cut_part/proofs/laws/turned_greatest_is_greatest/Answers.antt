@@ -1,5 +1,0 @@
-use Rattle.cut_part.proofs.Turning.{greatest_round, greatest_round_back}
-use Rattle.cut_part.proofs.laws.turned_greatest_is_greatest.Goals as goal
-
-pub returns : goal.returns
-returns c = λ net a b flow value between a_in b_in apart. (greatest_round net a b flow value between a_in apart, greatest_round_back net a b flow value between b_in apart)

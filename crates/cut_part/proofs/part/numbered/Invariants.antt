@@ -1,5 +1,0 @@
-use Rattle.cut_part.specs.Marks.{IsNumberingTo}
-use Rattle.cut_part.proofs.part.numbered.Given as goal
-
-abbrev pub invariant-loop-m : goal.invariant-loop-m
-invariant-loop-m l = IsNumberingTo l.marks l.numbers.items l.places.items l.m

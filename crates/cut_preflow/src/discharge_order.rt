@@ -1,0 +1,84 @@
+//! The order in which active nodes are discharged. No clause depends on it; it affects only the number of steps.
+ghost use Rattle.std.specs.Prelude.{◌<◌, All};
+
+use crate::bits::BitSet;
+use residual_graph::positions_of;
+use std::alloc::{AllocError, Global};
+
+/// The nodes in discharge order, the index of each in it, a set of the scheduled ones, and the current index.
+#[derive(Drop)]
+pub(crate) struct DischargeOrder {
+    nodes: Vec<u32>,
+    positions: Vec<u32>,
+    bits: BitSet,
+    at: usize,
+}
+
+impl DischargeOrder {
+    /// The discharge order of these nodes, none of which is scheduled. In topological order a node has received all its inflow before it
+    /// is discharged, unless flow must return. Fails if an allocation fails.
+    pub(crate) fn through(
+        alloc: Global,
+        order: Vec<u32>,
+        nodes: u32,
+    ) -> Result<DischargeOrder, AllocError>
+        requires { All (λ v. v < nodes) order.items }
+    {
+        let positions = positions_of(alloc, &order, nodes)?;
+        let bits = BitSet::new(alloc, order.len())?;
+        Ok(DischargeOrder {
+            nodes: order,
+            positions,
+            bits,
+            at: 0,
+        })
+    }
+
+    /// The current node.
+    pub(crate) fn node(&self) -> Option<u32> {
+        self.nodes.get(self.at).copied()
+    }
+
+    /// The index of a node; none for a node on a cycle.
+    fn position(&self, node: u32) -> Option<usize> {
+        let position = self.positions.get(node as usize).copied()? as usize;
+        let stands = self.nodes.get(position).copied()?;
+        if stands == node { Some(position) } else { None }
+    }
+
+    /// Schedules a node. Not inlined, since callers rarely reach it.
+    #[inline(never)]
+    pub(crate) fn enter(&mut self, node: u32) {
+        if let Some(position) = self.position(node) {
+            self.bits.insert_bit(position);
+        }
+    }
+
+    /// Unschedules a node.
+    #[inline(never)]
+    pub(crate) fn leave(&mut self, node: u32) {
+        if let Some(position) = self.position(node) {
+            self.bits.take(position);
+        }
+    }
+
+    /// Advances cyclically to the next scheduled node, from the current one on. Without one it doesn't move.
+    #[inline(always)]
+    pub(crate) fn advance(&mut self) {
+        if !self.bits.has(self.at) {
+            self.scan_forward();
+        }
+    }
+
+    /// Searches the next scheduled node.
+    #[inline(never)]
+    fn scan_forward(&mut self) {
+        if let Some(position) = self.bits.next(self.at) {
+            self.at = position;
+            return;
+        }
+        if let Some(position) = self.bits.next(0) {
+            self.at = position;
+        }
+    }
+}

@@ -1,0 +1,255 @@
+//! The builder of a report, to which lines are added one by one.
+ghost use Rattle.std.specs.Prelude.{◌≡◌, ◌+◌, ◌<◌, ◌^◌, ℕ, List, None, length, option_map, Err, IfErr, IfOk, Ok};
+ghost use Rattle.cut_report.specs.Lines.{line_of_text, line_content, words_of};
+ghost use Rattle.cut_report.specs.Reading.{entry_of};
+ghost use Rattle.cut_report.specs.Builders.{chain_of, ends_named, finish_of, going_on, import_of, is_after, last_import, numbered_by, opened_by, claimed_part, shut_by, builder_state_of, step, text_step, IsReadAs, IsReadAtLine};
+
+use crate::fault::ReportLineFault;
+use crate::import_guess::ImportCursor;
+use crate::line::Line;
+use crate::{Report, ReportFault};
+use cut_net::{Answer, Cut, Net, Priced};
+use std::alloc::Global;
+
+/// The lines read so far.
+#[derive(Drop)]
+pub(crate) enum ReportBuilder {
+    /// No line.
+    Start,
+    /// The first line, with the numbers of its modules.
+    Named(u32, u32),
+    /// More lines of a cut between these modules, without the last.
+    Open(u32, u32, Cut),
+    /// A path of pinned imports between these modules.
+    Shut(u32, u32, Vec<u32>),
+    /// All lines.
+    Ended(Report),
+}
+
+/// The last import of the list.
+fn last_in(imports: &[Priced]) -> Option<Priced>
+    ensures { result ≡ last_import None imports.now }
+{
+    imports.last().copied()
+}
+
+fn comes_after(last: Option<Priced>, next: Priced) -> bool
+    ensures { result ≡ is_after last next }
+{
+    match last {
+        None => true,
+        Some(last) => last.from < next.from || (last.from == next.from && last.to < next.to),
+    }
+}
+
+/// The modules of two names. They are looked up first among the imports that follow that of the previous line, then among all modules.
+#[tactic(auto, unfolding(crate::specs::Builders::ends_named))]
+fn ends_in(
+    net: &Net,
+    cursor: &mut ImportCursor,
+    from: &str,
+    to: &str,
+) -> Result<(u32, u32), ReportLineFault>
+    ensures { result ≡ ends_named net.now from.now to.now }
+{
+    if let Some(ends) = cursor.ends_at_cursor(net, from, to) {
+        return Ok(ends);
+    }
+    let from = net.index_of(from).ok_or(ReportLineFault::UnknownName)?;
+    let to = net.index_of(to).ok_or(ReportLineFault::UnknownName)?;
+    cursor.at_import(net, (from, to));
+    Ok((from, to))
+}
+
+/// The import between two names, which must come after the last import of its list.
+#[tactic(auto, unfolding(crate::specs::Builders::import_of, crate::specs::Builders::ends_named))]
+fn checked_import(
+    net: &Net,
+    read: &[Priced],
+    cursor: &mut ImportCursor,
+    from: &str,
+    to: &str,
+    amount: u64,
+) -> Result<Priced, ReportLineFault>
+    ensures { result ≡ import_of net.now (last_import None read.now) from.now to.now amount }
+{
+    let (from, to) = ends_in(net, cursor, from, to)?;
+    let next = Priced { from, to, amount };
+    if comes_after(last_in(read), next) {
+        Ok(next)
+    } else {
+        Err(ReportLineFault::Order)
+    }
+}
+
+/// Adds the first line.
+#[tactic(auto, unfolding(crate::specs::Builders::numbered_by))]
+fn with_ends(net: &Net, line: Line) -> Result<ReportBuilder, ReportLineFault>
+    ensures { IsReadAs builder_state_of result (numbered_by net.now (line_content line.entry)) }
+{
+    let Line::Ends(from, to) = line else {
+        return Err(ReportLineFault::BadLine);
+    };
+    let from = net.index_of(from).ok_or(ReportLineFault::UnknownName)?;
+    let to = net.index_of(to).ok_or(ReportLineFault::UnknownName)?;
+    Ok(ReportBuilder::Named(from, to))
+}
+
+/// The modules of these names, which are separated by spaces.
+fn chain_in(alloc: Global, net: &Net, names: &str) -> Result<Vec<u32>, ReportLineFault>
+    ensures { IsReadAs (λ chain. chain.items) result (chain_of net.now (words_of names.now)) }
+{
+    let mut chain = Vec::new(alloc);
+    for name in names.split(' ') {
+        let Some(module) = net.index_of(name) else {
+            return Err(ReportLineFault::UnknownName);
+        };
+        chain.push(module)?;
+    }
+    Ok(chain)
+}
+
+/// Adds the second line: a weight, or a path of pinned imports.
+#[tactic(auto, unfolding(crate::specs::Builders::opened_by))]
+fn with_second(
+    alloc: Global,
+    net: &Net,
+    from: u32,
+    to: u32,
+    line: Line,
+) -> Result<ReportBuilder, ReportLineFault>
+    ensures { IsReadAs builder_state_of result (opened_by net.now from to (line_content line.entry)) }
+{
+    match line {
+        Line::Weighs(weight) => {
+            let cut = Cut {
+                imports: Vec::new(alloc),
+                weight,
+                flow: Vec::new(alloc),
+            };
+            Ok(ReportBuilder::Open(from, to, cut))
+        }
+        Line::Blocks(names) => {
+            let chain = chain_in(alloc, net, names)?;
+            Ok(ReportBuilder::Shut(from, to, chain))
+        }
+        _ => Err(ReportLineFault::BadLine),
+    }
+}
+
+/// Adds a later line of a cut. No `remove` line follows a `flow` line.
+#[tactic(auto, unfolding(crate::specs::Builders::going_on))]
+fn with_more(
+    from: u32,
+    to: u32,
+    mut cut: Cut,
+    net: &Net,
+    cursor: &mut ImportCursor,
+    line: Line,
+) -> Result<ReportBuilder, ReportLineFault>
+    ensures { IsReadAs builder_state_of result (going_on net.now (claimed_part from to cut) (line_content line.entry)) }
+{
+    match line {
+        Line::Removes(importer, imported, weight) if cut.flow.is_empty() => {
+            let next = checked_import(net, &cut.imports, cursor, importer, imported, weight)?;
+            cut.imports.push(next)?;
+            Ok(ReportBuilder::Open(from, to, cut))
+        }
+        Line::Flows(importer, imported, flow) => {
+            let next = checked_import(net, &cut.flow, cursor, importer, imported, flow)?;
+            cut.flow.push(next)?;
+            Ok(ReportBuilder::Open(from, to, cut))
+        }
+        Line::Last => {
+            let answer = Answer::Cut(cut);
+            Ok(ReportBuilder::Ended(Report { from, to, answer }))
+        }
+        _ => Err(ReportLineFault::BadLine),
+    }
+}
+
+/// Adds the line after a path of pinned imports, which is the last.
+#[tactic(auto, unfolding(crate::specs::Builders::shut_by))]
+fn with_end(
+    from: u32,
+    to: u32,
+    chain: Vec<u32>,
+    line: Line,
+) -> Result<ReportBuilder, ReportLineFault>
+    ensures { IsReadAs builder_state_of result (shut_by from to chain.items (line_content line.entry)) }
+{
+    let Line::Last = line else {
+        return Err(ReportLineFault::BadLine);
+    };
+    let answer = Answer::Blocked { chain };
+    Ok(ReportBuilder::Ended(Report { from, to, answer }))
+}
+
+impl ReportBuilder {
+    #[tactic(auto, unfolding(crate::specs::Builders::step))]
+    fn with_line(
+        self,
+        alloc: Global,
+        net: &Net,
+        cursor: &mut ImportCursor,
+        line: Line,
+    ) -> Result<ReportBuilder, ReportLineFault>
+        ensures { IsReadAs builder_state_of result (step net.now (builder_state_of self) (line_content line.entry)) }
+    {
+        match self {
+            ReportBuilder::Start => with_ends(net, line),
+            ReportBuilder::Named(from, to) => with_second(alloc, net, from, to, line),
+            ReportBuilder::Open(from, to, cut) => with_more(from, to, cut, net, cursor, line),
+            ReportBuilder::Shut(from, to, chain) => with_end(from, to, chain, line),
+            ReportBuilder::Ended(_) => Err(ReportLineFault::BadLine),
+        }
+    }
+
+    /// Adds the line of these bytes, if they are one.
+    #[tactic(auto, unfolding(crate::specs::Builders::text_step))]
+    fn with_read(
+        self,
+        alloc: Global,
+        net: &Net,
+        cursor: &mut ImportCursor,
+        line: Option<Line>,
+    ) -> Result<ReportBuilder, ReportLineFault>
+        ensures { (text : List ℕ) → line_of_text text ≡ option_map line_content line.entry → IsReadAs builder_state_of result (text_step net.now (builder_state_of self) text) }
+    {
+        let line = line.ok_or(ReportLineFault::BadLine)?;
+        self.with_line(alloc, net, cursor, line)
+    }
+
+    /// Adds the line of these bytes, which has this number, and reports the number with an error.
+    pub(crate) fn with_numbered(
+        self,
+        alloc: Global,
+        net: &Net,
+        cursor: &mut ImportCursor,
+        number: u64,
+        line: Option<Line>,
+    ) -> Result<ReportBuilder, ReportFault>
+        ensures { (text : List ℕ) → line_of_text text ≡ option_map line_content line.entry → IsReadAtLine number builder_state_of result (text_step net.now (builder_state_of self) text) }
+    {
+        match self.with_read(alloc, net, cursor, line) {
+            Ok(builder) => Ok(builder),
+            Err(fault) => Err(fault.at(number)),
+        }
+    }
+
+    /// The report, if all lines are read and no byte follows.
+    pub(crate) fn finish(self, before: u64, rest: &[u8]) -> Result<Report, ReportFault>
+        requires { before + length rest.now < 2 ^ 64 }
+        ensures report { IfOk result (λ report. finish_of (builder_state_of self) before rest.now ≡ Ok (entry_of report)) }
+        ensures fault { IfErr result (λ fault. finish_of (builder_state_of self) before rest.now ≡ Err fault) }
+    {
+        match self {
+            ReportBuilder::Ended(report) if rest.is_empty() => Ok(report),
+            ReportBuilder::Ended(_) => Err(ReportFault::BadLine { line: before + 1 }),
+            ReportBuilder::Start
+            | ReportBuilder::Named(..)
+            | ReportBuilder::Open(..)
+            | ReportBuilder::Shut(..) => { Err(ReportFault::NoEnd) }
+        }
+    }
+}

@@ -1,6 +1,0 @@
-use Rattle.std.proofs.Common.{◌<◌}
-use Rattle.std.specs.Prelude.{All}
-use Rattle.cut_residual.proofs.order.free_of.Given as goal
-
-abbrev pub invariant-loop-node : goal.invariant-loop-node
-invariant-loop-node l = All (λ n. n < l.nodes) l.free.items

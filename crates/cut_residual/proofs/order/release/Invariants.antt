@@ -1,9 +1,0 @@
-use Rattle.std.proofs.Common.{◌≡◌, ◌<◌, vec_len}
-use Rattle.std.specs.Prelude.{All}
-use Rattle.cut_residual.proofs.order.release.Given as goal
-
-abbrev pub invariant-loop-out : goal.invariant-loop-out
-invariant-loop-out l = record {
-  counts : vec_len l.counts ≡ l.graph.nodes;
-  free : All (λ n. n < l.graph.nodes) l.free.items;
-}

@@ -1,9 +1,0 @@
-use Rattle.std.proofs.Common.{◌≡◌, ℕ, take, vec_len}
-use Rattle.cut_rules.specs.Judged.{IsMarkSet}
-use Rattle.cut_rules.proofs.rule_search.set_marks.Given as goal
-
-abbrev pub invariant-loop-node : goal.invariant-loop-node
-invariant-loop-node l = record {
-  size : vec_len l.marks ≡ vec_len l.initial.marks;
-  marks : (v : ℕ) → IsMarkSet (take l.node-index l.nodes) l.value l.initial.marks.items l.marks.items v;
-}

@@ -1,5 +1,0 @@
-use Rattle.std.proofs.Common.{◌≡◌}
-use Rattle.cut_tests.proofs.preflows.tell_counted.Given as goal
-
-abbrev pub invariant-loop-counted : goal.invariant-loop-counted
-invariant-loop-counted g l = l.preflow.trace.net ≡ l.fn.preflow.trace.net

@@ -1,5 +1,0 @@
-use Rattle.cut_trial.specs.Trials.{HasOtherFlow}
-use Rattle.cut_trial.proofs.trial.Trial.take_back.Given as goal
-
-abbrev pub invariant-loop-place : goal.invariant-loop-place
-invariant-loop-place l = HasOtherFlow l.initial.self l.self

@@ -1,0 +1,143 @@
+//! The largest set of nodes each of which has an edge to a member: the nodes from which a cycle is reachable.
+ghost use Rattle.std.specs.Prelude.{ℕ, ◌≡◌, ◌<◌, ◌≤◌, ◌+◌, ◌++◌, List, [], ◌∷◌, Contains, false, true, length, slice_set, vec_len, IfOk, IfSome, IfNone, OnOk};
+ghost use Rattle.digraph.specs.Cycle.{IsCycleCore, IsNext};
+ghost use Rattle.digraph.specs.Marks.{edge_at, marked, index_at, work_left, StartsFrom, ArePassed, AreStarts, IsPruning, LeadsToMarked};
+ghost use Rattle.digraph.specs.Incoming.{AreIncoming};
+ghost use Rattle.digraph.specs.Edges.{AreBetween, IsAscending, Leads};
+
+use crate::incoming::push_dependents;
+use crate::{Edge, LinkedLists, link_by_key};
+use std::alloc::{AllocError, Global};
+
+/// The candidate set while nodes are removed from it, and at the end the largest set of nodes that each have an edge to a member.
+#[derive(Drop)]
+pub(crate) struct CycleCore {
+    /// For each node whether it is still a candidate.
+    pub(crate) marks: Vec<bool>,
+    /// For each node the index of its current edge; no earlier edge of it leads to a candidate. At the end the current edge of each
+    /// candidate does.
+    pub(crate) places: Vec<usize>,
+}
+
+/// Whether the node's flag is set; false past the end.
+pub fn is_marked(marks: &[bool], node: u32) -> bool
+    // It is the flag of the node.
+    ensures { result ≡ marked marks.now node }
+{
+    match marks.get(node as usize) {
+        Some(mark) => *mark,
+        None => false,
+    }
+}
+
+/// For each node the index of its first edge; the number of edges for a node without any.
+fn starts_of(alloc: Global, edges: &[Edge], nodes: usize) -> Result<Vec<usize>, AllocError>
+    requires between { AreBetween edges.now nodes }
+    requires ascending { IsAscending edges.now }
+    ensures { IfOk result (λ places. AreStarts edges.now nodes places.items) }
+{
+    let mut places = vec![in alloc; edges.len(); nodes]?;
+    for place in (0..edges.len()).rev() {
+        places[edges[place].from as usize] = place;
+    }
+    Ok(places)
+}
+
+/// All nodes, in ascending order.
+fn each_node(alloc: Global, nodes: usize) -> Result<Vec<u32>, AllocError>
+    requires { nodes ≤ 8192 }
+    ensures { IfOk result (λ all. (v : ℕ) → v < nodes → Contains all.items v) }
+{
+    let mut all = Vec::new(alloc);
+    for node in 0..nodes {
+        all.push(node as u32)?;
+    }
+    Ok(all)
+}
+
+/// The index of the node's first edge to a candidate, from `start` on.
+fn marked_from(edges: &[Edge], marks: &[bool], node: u32, start: usize) -> Option<usize>
+    requires ascending { IsAscending edges.now }
+    requires start { StartsFrom edges.now node start }
+    ensures after { IfSome result (λ place. start ≤ place) }
+    ensures leads { IfSome result (λ place. LeadsToMarked edges.now marks.now node place) }
+    ensures passed { IfSome result (λ place. ArePassed edges.now marks.now node start place) }
+    ensures none { IfNone result (ArePassed edges.now marks.now node start (length edges.now)) }
+{
+    for place in start..edges.len() {
+        if edges[place].from != node {
+            return None;
+        }
+        if is_marked(marks, edges[place].to) {
+            return Some(place);
+        }
+    }
+    None
+}
+
+impl CycleCore {
+    /// Moves the node on to its next edge to a candidate. Without one, removes it from the candidates and schedules the nodes whose
+    /// current edge leads to it.
+    fn recheck(
+        &mut self,
+        edges: &[Edge],
+        incoming: &LinkedLists,
+        node: u32,
+        again: &mut Vec<u32>,
+    ) -> Result<(), AllocError>
+        requires ascending { IsAscending edges.now }
+        requires between { AreBetween edges.now (vec_len self.old.marks) }
+        requires incoming { AreIncoming edges.now (vec_len self.old.marks) incoming.now.last.items incoming.now.before.items (length edges.now) }
+        requires settling { IsPruning edges.now (vec_len self.old.marks) self.old.marks.items self.old.places.items (again.old.items ++ node ∷ []) }
+        ensures settling { OnOk result (IsPruning edges.now (vec_len self.old.marks) self.new.marks.items self.new.places.items again.new.items) }
+        ensures less { OnOk result (work_left edges.now self.new.marks.items again.new.items ≤ work_left edges.now self.old.marks.items again.old.items) }
+    {
+        if !is_marked(self.marks.as_slice(), node) {
+            return Ok(());
+        }
+        let start = self.places[node as usize];
+        match marked_from(edges, self.marks.as_slice(), node, start) {
+            Some(place) => self.places[node as usize] = place,
+            None => {
+                self.marks[node as usize] = false;
+                push_dependents(edges, incoming, &self.places, node, again)?;
+            }
+        }
+        Ok(())
+    }
+
+    /// Inspects nodes, initially all of them, until each candidate has an edge to a candidate.
+    fn prune(&mut self, alloc: Global, edges: &[Edge], nodes: usize) -> Result<(), AllocError>
+        requires between { AreBetween edges.now nodes }
+        requires ascending { IsAscending edges.now }
+        requires few_nodes { nodes ≤ 8192 }
+        requires begun { (again : List ℕ) → ((v : ℕ) → v < nodes → Contains again v) → IsPruning edges.now nodes self.old.marks.items self.old.places.items again }
+        ensures { OnOk result (IsPruning edges.now nodes self.new.marks.items self.new.places.items []) }
+    {
+        let incoming = link_by_key(alloc, edges, nodes, |edge: &Edge| edge.to)?;
+        let mut again = each_node(alloc, nodes)?;
+        while let Some(node) = again.pop() {
+            self.recheck(edges, &incoming, node, &mut again)?;
+        }
+        Ok(())
+    }
+}
+
+/// The largest set of nodes in which each node has an edge to a node of the set. Takes time linear in nodes and edges.
+pub(crate) fn core_of(alloc: Global, edges: &[Edge], nodes: usize) -> Result<CycleCore, AllocError>
+    requires between { AreBetween edges.now nodes }
+    requires ascending { IsAscending edges.now }
+    requires few_nodes { nodes ≤ 8192 }
+    ensures core_nodes { IfOk result (λ core_nodes. IsCycleCore (Leads edges.now) (marked core_nodes.marks.items)) }
+    ensures size { IfOk result (λ core_nodes. vec_len core_nodes.marks ≡ nodes) }
+    ensures placed { IfOk result (λ core_nodes. vec_len core_nodes.places ≡ nodes) }
+    ensures within { IfOk result (λ core_nodes. (v : ℕ) → marked core_nodes.marks.items v ≡ true → index_at core_nodes.places.items v < length edges.now) }
+    ensures next { IfOk result (λ core_nodes. (v : ℕ) → marked core_nodes.marks.items v ≡ true →
+        IsNext (Leads edges.now) (marked core_nodes.marks.items) v (edge_at edges.now (index_at core_nodes.places.items v)).to) }
+{
+    let marks = vec![in alloc; true; nodes]?;
+    let places = starts_of(alloc, edges, nodes)?;
+    let mut core_nodes = CycleCore { marks, places };
+    core_nodes.prune(alloc, edges, nodes)?;
+    Ok(core_nodes)
+}

@@ -1,0 +1,40 @@
+-- What the private functions of a store return.
+use Rattle.std.specs.Prelude.{Bool, true, false, not, ◌&&◌, ◌||◌, ℕ, List, [], ◌∷◌, fold, Option, Some, None, if◌then◌else◌}
+use Rattle.std.specs.Str.{bytes_eq}
+use Rattle.scip_index.specs.Plain.{IndexModel}
+use Rattle.index_store.specs.declared.location.Position.{Position}
+use Rattle.index_store.specs.declared.row.PathEntry.{PathEntry}
+use Rattle.index_store.specs.declared.span.Span.{Span}
+use Rattle.index_store.specs.Queries.{LocationModel, definitions, references}
+use Rattle.index_store.specs.Spans.{is_in, is_nearer}
+use Rattle.index_store.specs.Stores.{MentionModel}
+
+-- the nearer of two elements that cover a position; of two equally near ones the first
+abbrev pub nearer_of : {A : Type 0} → (A → Span) → Option A → A → A
+nearer_of span None row = row
+nearer_of span (Some other) row = if is_nearer (span row) (span other) then row else other
+
+-- the nearest element so far, or the next element if it covers the position and is nearer
+abbrev pub nearer : {A : Type 0} → (A → Span) → Position → Option A → A → Option A
+nearer span at best row = if is_in at (span row) then Some (nearer_of span best row) else best
+
+-- the span of an entry of a path
+abbrev pub covering_span : PathEntry → Span
+covering_span c = c.span
+
+-- the nearest of the entries that cover the position; of several equally near ones the first
+abbrev pub nearest : List PathEntry → Position → Option PathEntry
+nearest rows at = fold (nearer covering_span at) None rows
+
+-- the entry is one of those looked up: definitions or else references, in the documents of one path or else in all documents
+abbrev pub is_requested : Bool → Bool → List ℕ → MentionModel → Bool
+is_requested defines local path m = (if defines then m.defines else not m.defines) && (not local || bytes_eq m.path path)
+
+-- the location of an entry, if the entry is one of those looked up
+abbrev pub requested_location : Bool → Bool → List ℕ → MentionModel → List LocationModel
+requested_location defines local path m = if is_requested defines local path m then record { path = m.path; span = m.span } ∷ [] else []
+
+-- the definitions of a symbol, or else its references
+abbrev pub wanted_locations : Bool → IndexModel → List ℕ → List ℕ → List LocationModel
+wanted_locations true index path symbol = definitions index path symbol
+wanted_locations false index path symbol = references index path symbol

@@ -1,0 +1,5 @@
+use Rattle.initial_flow.specs.Heuristics.{DiffersInFlow}
+use Rattle.initial_flow.proofs.heuristic.MaxFlowHeuristic.push_all.Given as goal
+
+abbrev pub invariant-loop : goal.invariant-loop
+invariant-loop l = DiffersInFlow l.initial.self l.self

@@ -1,0 +1,436 @@
+//! A heuristic for a maximum flow by push-relabel (Goldberg and Tarjan 1988). It runs while a node with excess has a label below the
+//! number of nodes; labels are lower bounds of distances to the sink. Then the remaining excess is returned to the source.
+//! Each round first recomputes all labels as distances (global relabelling), so nodes without a path to the sink are found at once.
+//! Active nodes are discharged in first-in first-out order; if a round doesn't end that way, as when units arrive one by one, then by
+//! highest label (Cheriyan and Maheshwari 1989).
+ghost use Rattle.std.specs.Prelude.{◌≡◌, ◌<◌, ◌≤◌, ◌^◌, ℕ, All, IfOk, IfSome, OnOk, length, vec_len};
+ghost use Rattle.residual_graph.specs.OutArcs.{IsOutOf, out_at};
+ghost use Rattle.initial_flow.specs.Heuristics.{label_at, DiffersInFlow, IsAdmissible};
+
+use crate::buckets::LabelBuckets;
+use crate::distances::distances_to;
+use residual_graph::{CurrentArcs, OutArc, ResidualGraph, topological_order};
+use std::alloc::{AllocError, Global};
+use std::marker::Model;
+
+/// The number of discharges in first-in first-out order in a round, for each node. Networks that aren't adversarial need at most seven.
+const FIFO_ROUNDS: usize = 16;
+
+/// A graph with its flow, and for each node its excess, its label and its current arc; the active nodes have excess.
+#[derive(Drop)]
+struct MaxFlowHeuristic {
+    graph: ResidualGraph,
+    excesses: Vec<u64>,
+    labels: Vec<u32>,
+    waiting: Vec<u32>,
+    current: CurrentArcs,
+}
+
+impl Model for MaxFlowHeuristic {
+    ghost use Rattle.residual_graph.specs.Graphs.{Graph};
+    ghost use Rattle.initial_flow.specs.Heuristics.{IsHeuristic};
+
+    ghost Value = { Graph };
+
+    ghost view = { λ t. t.graph };
+
+    ghost invariant = { λ t. IsHeuristic t.graph.nodes t.excesses.items t.labels.items t.waiting.items };
+}
+
+/// The result of a scan for an admissible residual arc.
+#[derive(Clone, Copy)]
+struct ArcScan {
+    /// The index of the admissible arc; the number of residual arcs if none is admissible.
+    place: usize,
+    /// The smallest label at the heads of the skipped arcs with residual capacity, 2^32 - 1 without one.
+    passed: u32,
+}
+
+/// Finds the first admissible residual arc from this index on: it has residual capacity, and its head has a label one lower. The arcs are
+/// read by reference, without copies or repeated lookups.
+fn first_admissible(outs: &[OutArc], labels: &[u32], label: u32, start: usize) -> ArcScan
+    requires { All (λ a. a.head < length labels.now) outs.now }
+    ensures found { result.place < length outs.now → IsAdmissible labels.now label (out_at outs.now result.place) }
+    ensures none_before { (p : ℕ) → start ≤ p → p < result.place → IsAdmissible labels.now label (out_at outs.now p) → ⊥ }
+    ensures passed { (p : ℕ) → start ≤ p → p < result.place → 0 < (out_at outs.now p).residual → result.passed ≤ label_at labels.now (out_at outs.now p).head }
+    ensures most { (m : ℕ) → m < 2 ^ 32 → ((p : ℕ) → start ≤ p → p < result.place → 0 < (out_at outs.now p).residual → m ≤ label_at labels.now (out_at outs.now p).head) → m ≤ result.passed }
+{
+    let mut passed = u32::MAX;
+    for place in start..outs.len() {
+        let out = &outs[place];
+        if out.residual > 0 {
+            let below = labels[out.head as usize];
+            if below.saturating_add(1) == label {
+                return ArcScan { place, passed };
+            }
+            passed = passed.min(below);
+        }
+    }
+    ArcScan {
+        place: outs.len(),
+        passed,
+    }
+}
+
+/// The smallest label at the heads of the first `count` residual arcs with residual capacity, 2^32 - 1 without one.
+fn least_label(outs: &[OutArc], labels: &[u32], count: usize) -> u32
+    requires { All (λ a. a.head < length labels.now) outs.now }
+{
+    let mut least = u32::MAX;
+    for place in 0..count.min(outs.len()) {
+        let out = &outs[place];
+        if out.residual > 0 {
+            least = least.min(labels[out.head as usize]);
+        }
+    }
+    least
+}
+
+/// The nodes with excess, without the sink, in reverse order.
+fn with_excess(
+    alloc: Global,
+    nodes: &[u32],
+    excesses: &[u64],
+    end: u32,
+) -> Result<Vec<u32>, AllocError>
+    requires { All (λ n. n < length excesses.now) nodes.now }
+    ensures { IfOk result (λ found. All (λ n. n < length excesses.now) found.items) }
+{
+    let mut found = Vec::new(alloc);
+    for back in 0..nodes.len() {
+        let node = nodes[nodes.len() - 1 - back];
+        if node != end && excesses[node as usize] > 0 {
+            found.push(node)?;
+        }
+    }
+    Ok(found)
+}
+
+impl MaxFlowHeuristic {
+    /// The residual arc of a node at this index, if there is one.
+    fn out_at(&self, node: u32, place: usize) -> Option<OutArc>
+        requires { node < self.now.nodes }
+        ensures { IfSome result (IsOutOf self.now node) }
+    {
+        let outs = self.graph.residual_arcs(node);
+        if place < outs.len() {
+            Some(outs[place])
+        } else {
+            None
+        }
+    }
+
+    /// Finds the first admissible residual arc of a node, from this index on.
+    fn admissible_from(&self, node: u32, start: usize) -> ArcScan
+        requires { node < self.now.nodes }
+    {
+        let label = self.labels[node as usize];
+        first_admissible(self.graph.residual_arcs(node), &self.labels, label, start)
+    }
+
+    /// Sends the residual capacity, but at most `most`, over a residual arc of a node. A head without excess before becomes active.
+    fn send(&mut self, node: u32, out: OutArc, most: u64) -> Result<(), AllocError>
+        requires node { node < self.old.nodes }
+        requires out { IsOutOf self.old node out }
+        ensures { OnOk result (DiffersInFlow self.old self.new) }
+    {
+        let amount = out.residual.min(most);
+        self.graph.send(out.step, amount);
+        let left = self.excesses[node as usize].saturating_sub(amount);
+        self.excesses[node as usize] = left;
+        let before = self.excesses[out.head as usize];
+        self.excesses[out.head as usize] = before.saturating_add(amount);
+        if before == 0 {
+            self.waiting.push(out.head)?;
+        }
+        Ok(())
+    }
+
+    /// Sends the excess of a node over a residual arc, if the arc is admissible. Returns the label of its head, 2^32 - 1 if the arc has
+    /// no residual capacity left.
+    fn push(&mut self, node: u32, out: OutArc) -> Result<u32, AllocError>
+        requires node { node < self.old.nodes }
+        requires out { IsOutOf self.old node out }
+        ensures { OnOk result (DiffersInFlow self.old self.new) }
+    {
+        if out.residual == 0 {
+            return Ok(u32::MAX);
+        }
+        let label = self.labels[out.head as usize];
+        let excess = self.excesses[node as usize];
+        if excess > 0 && label.saturating_add(1) == self.labels[node as usize] {
+            self.send(node, out, excess)?;
+            if excess >= out.residual {
+                return Ok(u32::MAX);
+            }
+        }
+        Ok(label)
+    }
+
+    /// The smallest label at the heads of the skipped residual arcs of a node. Then resets its current arc.
+    fn least_passed(&mut self, node: u32) -> u32
+        requires { node < self.old.nodes }
+        ensures { self.new ≡ self.old }
+    {
+        let passed = self.current.passed(node);
+        if passed == 0 {
+            return u32::MAX;
+        }
+        self.current.pass(node, 0);
+        least_label(self.graph.residual_arcs(node), &self.labels, passed)
+    }
+
+    /// Sends the excess of a node over admissible arcs, from its current arc on; earlier arcs stay inadmissible until the node is
+    /// relabelled. If excess is left, returns the smallest label at the heads of the other arcs with residual capacity.
+    fn push_all(&mut self, node: u32) -> Result<u32, AllocError>
+        requires { node < self.old.nodes }
+        ensures { OnOk result (DiffersInFlow self.old self.new) }
+    {
+        let mut least = u32::MAX;
+        let mut next = self.current.passed(node);
+        for _ in 0..self.graph.residual_arcs(node).len() {
+            if self.excesses[node as usize] == 0 {
+                self.current.pass(node, next);
+                return Ok(least);
+            }
+            let down = self.admissible_from(node, next);
+            least = least.min(down.passed);
+            let Some(out) = self.out_at(node, down.place) else {
+                return Ok(least);
+            };
+            let label = self.push(node, out)?;
+            least = least.min(label);
+            next = if label == u32::MAX {
+                down.place.saturating_add(1)
+            } else {
+                down.place
+            };
+        }
+        Ok(least)
+    }
+
+    /// Discharges a node. If excess is left, relabels the node, which stays active if its label is below the number of nodes. Returns
+    /// whether it was relabelled.
+    fn discharge(&mut self, node: u32) -> Result<bool, AllocError>
+        requires { node < self.old.nodes }
+        ensures { OnOk result (DiffersInFlow self.old self.new) }
+    {
+        let least = self.push_all(node)?;
+        if self.excesses[node as usize] == 0 {
+            return Ok(false);
+        }
+        let label = least.min(self.least_passed(node)).saturating_add(1);
+        self.labels[node as usize] = label;
+        if label < self.graph.nodes() {
+            self.waiting.push(node)?;
+        }
+        Ok(true)
+    }
+
+    /// Discharges a node other than the sink, and counts a relabelling.
+    fn take(&mut self, node: u32, end: u32, raised: &mut u32) -> Result<(), AllocError>
+        requires { node < self.old.nodes }
+        ensures { OnOk result (DiffersInFlow self.old self.new) }
+    {
+        if node != end && self.discharge(node)? {
+            *raised = raised.saturating_add(1);
+        }
+        Ok(())
+    }
+
+    /// Discharges active nodes in first-in first-out order, until there is none, as many were relabelled as there are nodes, or `most`
+    /// were discharged. Returns how many were.
+    fn discharge_fifo(
+        &mut self,
+        end: u32,
+        most: usize,
+        raised: &mut u32,
+    ) -> Result<usize, AllocError>
+        ensures { OnOk result (DiffersInFlow self.old self.new) }
+    {
+        for place in 0..most {
+            if place >= self.waiting.len() || *raised >= self.graph.nodes() {
+                return Ok(place);
+            }
+            let node = self.waiting[place];
+            self.take(node, end, raised)?;
+        }
+        Ok(most)
+    }
+
+    /// Moves the active nodes, from this index on, to the buckets by label.
+    fn fill_buckets(&mut self, buckets: &mut LabelBuckets, start: usize)
+        ensures graph { self.new ≡ self.old }
+        ensures nodes { vec_len buckets.new.nexts ≡ vec_len buckets.old.nexts }
+    {
+        for place in start..self.waiting.len() {
+            let node = self.waiting[place];
+            buckets.add(node, self.labels[node as usize]);
+        }
+        self.waiting.clear();
+    }
+
+    /// Discharges active nodes by highest label, until there is none or as many were relabelled as there are nodes.
+    fn discharge_highest(
+        &mut self,
+        end: u32,
+        buckets: &mut LabelBuckets,
+        raised: &mut u32,
+    ) -> Result<(), AllocError>
+        requires { vec_len buckets.old.nexts ≡ self.old.nodes }
+        ensures { OnOk result (DiffersInFlow self.old self.new) }
+    {
+        for _ in 0..u64::MAX {
+            if *raised >= self.graph.nodes() {
+                return Ok(());
+            }
+            let Some(node) = buckets.take_highest() else {
+                return Ok(());
+            };
+            self.take(node, end, raised)?;
+            self.fill_buckets(buckets, 0);
+        }
+        Ok(())
+    }
+
+    /// Discharges active nodes until there is none or as many were relabelled as there are nodes: first in first-in first-out order, up
+    /// to a limit, then by highest label. The next round begins with first-in first-out order again, since highest-label order may find
+    /// dead ends one by one, each in a round of its own.
+    fn discharge_all(&mut self, alloc: Global, end: u32) -> Result<(), AllocError>
+        ensures { OnOk result (DiffersInFlow self.old self.new) }
+    {
+        let mut raised = 0u32;
+        let nodes = self.graph.nodes();
+        let most = (nodes as usize).saturating_mul(FIFO_ROUNDS);
+        let taken = self.discharge_fifo(end, most, &mut raised)?;
+        if taken < most {
+            return Ok(());
+        }
+        let mut buckets = LabelBuckets::new(alloc, nodes)?;
+        self.fill_buckets(&mut buckets, taken);
+        self.discharge_highest(end, &mut buckets, &mut raised)
+    }
+
+    /// Labels all nodes by their distances to the sink, activates those with excess and a path to the sink, and returns whether there is
+    /// one.
+    fn label_all(&mut self, alloc: Global, end: u32) -> Result<bool, AllocError>
+        requires { end < self.old.nodes }
+        ensures { OnOk result (self.new ≡ self.old) }
+    {
+        let distances = distances_to(alloc, &self.graph, end)?;
+        self.waiting = with_excess(alloc, &distances.reached, &self.excesses, end)?;
+        self.labels = distances.labels;
+        self.current.pass_none();
+        Ok(!self.waiting.is_empty())
+    }
+
+    /// Saturates the arcs that leave the source.
+    fn saturate_source(&mut self, start: u32) -> Result<(), AllocError>
+        requires { start < self.old.nodes }
+        ensures { OnOk result (DiffersInFlow self.old self.new) }
+    {
+        for place in 0..self.graph.residual_arcs(start).len() {
+            let Some(out) = self.out_at(start, place) else {
+                return Ok(());
+            };
+            if out.step.forward {
+                self.send(start, out, u64::MAX)?;
+            }
+        }
+        Ok(())
+    }
+
+    /// Returns the excess of a node over the arcs that lead to it.
+    fn return_excess(&mut self, node: u32) -> Result<(), AllocError>
+        requires { node < self.old.nodes }
+        ensures { OnOk result (DiffersInFlow self.old self.new) }
+    {
+        for place in 0..self.graph.residual_arcs(node).len() {
+            let Some(out) = self.out_at(node, place) else {
+                return Ok(());
+            };
+            let excess = self.excesses[node as usize];
+            if excess == 0 {
+                return Ok(());
+            }
+            if !out.step.forward {
+                self.send(node, out, excess)?;
+            }
+        }
+        Ok(())
+    }
+
+    /// Returns all remaining excess, from the last node of the order to the first.
+    fn return_all(&mut self, order: &[u32], end: u32) -> Result<(), AllocError>
+        requires { All (λ n. n < self.old.nodes) order.now }
+        ensures { OnOk result (DiffersInFlow self.old self.new) }
+    {
+        for back in 0..order.len() {
+            let node = order[order.len() - 1 - back];
+            if node != end {
+                self.return_excess(node)?;
+            }
+        }
+        Ok(())
+    }
+
+    /// Runs rounds until no excess can reach the sink.
+    fn run(&mut self, alloc: Global, end: u32) -> Result<(), AllocError>
+        requires { end < self.old.nodes }
+        ensures { OnOk result (DiffersInFlow self.old self.new) }
+    {
+        for _ in 0..u64::MAX {
+            if !self.label_all(alloc, end)? {
+                return Ok(());
+            }
+            self.discharge_all(alloc, end)?;
+        }
+        Ok(())
+    }
+
+    /// Saturates the source, runs rounds, and returns the remaining excess.
+    fn find_flow(
+        &mut self,
+        alloc: Global,
+        order: &[u32],
+        start: u32,
+        end: u32,
+    ) -> Result<(), AllocError>
+        requires order { All (λ n. n < self.old.nodes) order.now }
+        requires start { start < self.old.nodes }
+        requires end { end < self.old.nodes }
+        ensures { OnOk result (DiffersInFlow self.old self.new) }
+    {
+        self.saturate_source(start)?;
+        self.run(alloc, end)?;
+        self.return_all(order, end)
+    }
+}
+
+/// A flow from `start` to `end` in a graph without flow, as large as the heuristic finds it. It is a flow if the arcs are acyclic; in any
+/// case no flow exceeds its arc's capacity. Fails if an allocation fails.
+pub fn find_initial_flow(
+    alloc: Global,
+    graph: ResidualGraph,
+    start: u32,
+    end: u32,
+) -> Result<ResidualGraph, AllocError>
+    // `start` is a node.
+    requires start { start < graph.nodes }
+    // `end` is a node.
+    requires end { end < graph.nodes }
+    // The graph is unchanged but for its flow, which is within the capacities.
+    ensures { IfOk result (DiffersInFlow graph) }
+{
+    let nodes = graph.nodes();
+    let order = topological_order(alloc, &graph)?;
+    let mut heuristic = MaxFlowHeuristic {
+        graph,
+        excesses: vec![in alloc; 0u64; nodes as usize]?,
+        labels: vec![in alloc; nodes; nodes as usize]?,
+        waiting: Vec::new(alloc),
+        current: CurrentArcs::new(alloc, nodes)?,
+    };
+    heuristic.find_flow(alloc, &order, start, end)?;
+    Ok(heuristic.graph)
+}

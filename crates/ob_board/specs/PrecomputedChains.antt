@@ -1,0 +1,20 @@
+-- Type chains that are precomputed once for all modules of a tree.
+use Rattle.std.specs.Prelude.{IfSome, IsPermutation, List}
+use Rattle.ob_interface.specs.Interfaces.{ModuleInterface}
+use Rattle.ob_types.specs.ModuleNumbers.{AreByName}
+use Rattle.ob_types.specs.Within.{AreWithin}
+use Rattle.ob_board.specs.declared.precomputed_chains.PrecomputedChains.{PrecomputedChains}
+
+-- the second list has the modules of the first one, sorted by name
+pub record AreAllByName (all ordered : List ModuleInterface) : Type 0 where
+  pub same : IsPermutation all ordered
+  pub by_name : AreByName ordered
+
+-- the precomputed chains, if there are any, are those of these modules
+pub record AreLinksOf (all : List ModuleInterface) (precomputed_chains : PrecomputedChains) : Type 0 where
+  pub precomputed : IfSome precomputed_chains.precomputed (λ s. AreAllByName all s.value)
+
+-- the precomputed chains serve a module that reaches these modules, which are sorted by name
+pub record ServesModule (reached : List ModuleInterface) (precomputed_chains : PrecomputedChains) : Type 0 where
+  pub by_name : AreByName reached
+  pub within : IfSome precomputed_chains.precomputed (λ s. AreWithin s.value reached)

@@ -1,0 +1,112 @@
+//! Types of a tree that are computed once and shared by all its modules.
+ghost use Rattle.std.specs.Prelude.{◌≡◌, ◌<◌, length, map, IfOk, IfSome, IsPermutation};
+ghost use Rattle.std.specs.Arc.{arc_value};
+ghost use Rattle.std.specs.Cmp.Lexicographic.{slice_cmp};
+ghost use Rattle.std.specs.List.Sorted.{IsSortedBy};
+ghost use Rattle.std.specs.Ordering.{is_lt, nat_cmp};
+ghost use Rattle.std.specs.Option.{option_copied, option_map};
+ghost use Rattle.ob_imports.specs.Graphs.{ImportGraph};
+ghost use Rattle.ob_interface.specs.Interfaces.{ModuleInterface};
+ghost use Rattle.ob_board.specs.PrecomputedChains.{AreAllByName, AreLinksOf};
+ghost use Rattle.ob_board.specs.Entries.{interfaces_of};
+ghost use Rattle.ob_board.specs.Seen.{AreSourcesRead};
+
+use crate::module_types::types_among;
+use ob_interface::Interface;
+use ob_scan::laws::tokens_in_text;
+use ob_types::{PrecomputedTypes, precompute_types};
+use source_tree::{ModuleParts, Source};
+use std::alloc::{AllocError, Global};
+use std::sync::Arc;
+
+/// The minimum number of modules of a tree for which types are precomputed.
+const MIN_MODULES: usize = 2;
+
+/// The precomputed type chains of all modules, which each module uses for the modules that it reaches.
+#[derive(Drop)]
+pub(crate) struct PrecomputedChains {
+    pub(crate) precomputed: Option<Box<PrecomputedTypes>>,
+}
+
+/// The interfaces of all modules.
+fn interfaces(
+    alloc: Global,
+    modules: &[Box<ModuleParts>],
+) -> Result<Vec<Arc<Interface>>, AllocError>
+    ensures { IfOk result (λ all. map arc_value all.items ≡ interfaces_of modules.now) }
+{
+    let mut all = Vec::new(alloc);
+    for parts in modules {
+        all.push(Arc::try_clone(&parts.interface)?)?;
+    }
+    Ok(all)
+}
+
+/// Sorts modules by name. If they are sorted already, one pass suffices.
+fn sort_by_name(all: &mut Vec<Arc<Interface>>)
+    ensures same { IsPermutation all.old.items all.new.items }
+    ensures sorted { IsSortedBy (λ (a b : ModuleInterface). is_lt (slice_cmp nat_cmp a.name b.name)) (map arc_value all.new.items) }
+{
+    all.sort_unstable_by(|a, b| a.name().cmp(&b.name()));
+}
+
+/// The index of the shortest source.
+fn shortest(sources: &[Source]) -> usize
+    requires { 0 < length sources.now }
+    ensures { result < length sources.now }
+{
+    let mut place = 0;
+    for at in 0..sources.len() {
+        if sources[at].bytes.len() < sources[place].bytes.len() {
+            place = at;
+        }
+    }
+    place
+}
+
+/// The precomputed type chains of all modules of these files. A module's types are needed to compute them; those of the shortest source are
+/// used, with the interfaces of all modules.
+/// `None` for a single module, or if no chain is long: following the chains then costs less than precomputing them.
+fn precompute_chains(
+    alloc: Global,
+    sources: &[Source],
+    modules: &[Box<ModuleParts>],
+) -> Result<Option<Box<PrecomputedTypes>>, AllocError>
+    requires { (graph : ImportGraph) × AreSourcesRead sources.now modules.now graph }
+    ensures { IfOk result (λ outcome. IfSome outcome (λ s. AreAllByName (interfaces_of modules.now) s.value)) }
+{
+    if modules.len() < MIN_MODULES {
+        return Ok(None);
+    }
+    tokens_in_text();
+    let mut all = interfaces(alloc, modules)?;
+    sort_by_name(&mut all);
+    let place = shortest(sources);
+    let types = types_among(alloc, &sources[place], &modules[place], all.as_slice())?;
+    precompute_types(alloc, &types)
+}
+
+impl PrecomputedChains {
+    /// The precomputed type chains of the modules of these files. If an allocation fails, there are none, and each module follows its
+    /// chains itself.
+    pub(crate) fn of_files(
+        alloc: Global,
+        sources: &[Source],
+        modules: &[Box<ModuleParts>],
+    ) -> PrecomputedChains
+        requires { (graph : ImportGraph) × AreSourcesRead sources.now modules.now graph }
+        ensures { AreLinksOf (interfaces_of modules.now) result }
+    {
+        match precompute_chains(alloc, sources, modules) {
+            Ok(precomputed) => PrecomputedChains { precomputed },
+            Err(_) => PrecomputedChains { precomputed: None },
+        }
+    }
+
+    /// The precomputed type chains of all modules, if there are any.
+    pub(crate) fn precomputed(&self) -> Option<&PrecomputedTypes>
+        ensures { option_copied result ≡ option_map (λ s. s.value) self.now.precomputed }
+    {
+        self.precomputed.as_deref()
+    }
+}

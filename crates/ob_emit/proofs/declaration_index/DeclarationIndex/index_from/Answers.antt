@@ -1,0 +1,10 @@
+-- The place at hand is the first.
+use Rattle.std.proofs.Common.{sym}
+use Rattle.module_table.specs.declared.rows.Declared.{Declared}
+use Rattle.ob_emit.proofs.Numbered.{position_there}
+use Rattle.ob_emit.proofs.declaration_index.DeclarationIndex.index_from.Goals as goal
+
+pub returns-then-is_at : goal.returns-then-is_at
+returns-then-is_at c =
+    let here = rw c.if-is_at.true at c.is_at.ensures in
+    sym (position_there (λ (d : Declared). d.number) c.args.self.now.declared.now c.args.hint c.args.number c.args.self.now.ascend here)

@@ -1,9 +1,0 @@
--- The text that was kept.
-use Rattle.std.proofs.Common.{sym, ◌∙◌, subst}
-use Rattle.ob_emit.specs.Made.{AreOuter}
-use Rattle.ob_emit.proofs.own_texts.Texts.known_external.Goals as goal
-
-pub returns-in-Some : goal.returns-in-Some
-returns-in-Some c = λ p made.
-    let outer : AreOuter c.args.types.now p c.deref.result.now = subst (AreOuter c.args.types.now p) (sym c.deref.ensures) made.outer in
-    c.lent.ensures ∙ outer.names (c.args.item, c.args.name) c.in-Some.text.now (sym c.in-Some.ensures.value)

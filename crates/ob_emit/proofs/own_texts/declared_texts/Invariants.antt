@@ -1,8 +1,0 @@
-use Rattle.std.proofs.Common.{map}
-use Rattle.std.specs.Option.{option_map}
-use Rattle.std.specs.String.{string_bytes}
-use Rattle.ob_emit.proofs.Texting.{AreMadeBefore}
-use Rattle.ob_emit.proofs.own_texts.declared_texts.Given as goal
-
-abbrev pub invariant-loop-row : goal.invariant-loop-row
-invariant-loop-row l = AreMadeBefore l.types l.front l.row-index l.locals (map (option_map string_bytes) l.texts.items)

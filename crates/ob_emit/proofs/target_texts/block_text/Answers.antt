@@ -1,0 +1,16 @@
+-- The module's name, and those of what it declares.
+use Rattle.std.proofs.Common.{sym, ap, ◌∙◌, subst}
+use Rattle.ob_types.specs.World.{text}
+use Rattle.ob_emit.specs.Named.{IsName}
+use Rattle.ob_emit.proofs.Naming.{own_named, own_step_names}
+use Rattle.ob_emit.proofs.OwnersBefore.{own_before}
+use Rattle.ob_emit.proofs.target_texts.block_text.Goals as goal
+
+pub path_text-requires-clause-module_named : goal.path_text-requires-clause-module_named
+path_text-requires-clause-module_named c = subst IsName (sym (c.text.ensures ∙ ap (text c.args.types.now) c.module_name_token.ensures)) (own_named c.args.types.now c.requires)
+
+pub path_text-requires-clause-named : goal.path_text-requires-clause-named
+path_text-requires-clause-named c = own_step_names c.args.types.now c.requires
+
+pub path_text-requires-clause-before : goal.path_text-requires-clause-before
+path_text-requires-clause-before c = own_before c.args.types.now

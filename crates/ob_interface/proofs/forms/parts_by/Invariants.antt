@@ -1,8 +1,0 @@
-use Rattle.std.proofs.Common.{◌≡◌, ℕ}
-use Rattle.std.specs.Prelude.{take, IsSome}
-use Rattle.std.specs.List.{filter}
-use Rattle.ob_interface.specs.Interfaces.{is_part_by, outer_by}
-use Rattle.ob_interface.proofs.forms.parts_by.Given as goal
-
-abbrev pub invariant-loop-i : goal.invariant-loop-i
-invariant-loop-i l = (k : ℕ) → IsSome (outer_by l.declarers k) → filter (is_part_by k) l.own.items ≡ filter (is_part_by k) (take l.i l.parts)

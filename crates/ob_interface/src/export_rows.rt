@@ -1,0 +1,96 @@
+//! Reads the interface of a module from its table.
+ghost use Rattle.std.specs.Prelude.{◌≡◌, ℕ, IfOk, IsSome, OnOk};
+ghost use Rattle.std.specs.List.{filter};
+ghost use Rattle.std.specs.List.Sorted.{IsNonDecreasingBy};
+ghost use Rattle.ob_scan.specs.Spelling.{AreInText};
+ghost use Rattle.module_table.specs.Tables.{rows_in};
+ghost use Rattle.ob_interface.specs.Interfaces.{interface_of, is_part_by, module_level_by};
+ghost use Rattle.ob_interface.specs.RowValues.{interface_in};
+
+use crate::buffer::add_text;
+use crate::members::{add_bases, add_declarations, add_imports};
+use crate::rows::Rows;
+use crate::type_exprs::{add_parts, sorted_parts};
+use module_table::{Table, TypePart};
+use ob_scan::{Token, TokenTexts};
+use std::alloc::{AllocError, Global};
+use std::marker::Model;
+
+/// Fills empty lists from the table of a module, given the components of the type expressions in its block. Returns `AllocError` if an
+/// allocation fails.
+fn fill_rows(
+    rows: &mut Rows,
+    alloc: Global,
+    table: &Table,
+    source: &TokenTexts,
+    own: &[TypePart],
+) -> Result<(), AllocError>
+    requires in_text { AreInText source.now.bytes.now source.now.tokens.now }
+    requires together { IsNonDecreasingBy (λ p. p.declared_by) own.now }
+    requires same { (k : ℕ) → IsSome (module_level_by (rows_in table.now).decl_groups k) → filter (is_part_by k) own.now ≡ filter (is_part_by k) (rows_in table.now).parts }
+    ensures { OnOk result (interface_in rows.new ≡ interface_of source.now.bytes.now source.now.tokens.now (rows_in table.now)) }
+{
+    rows.name = add_text(&mut rows.text, source.of(1))?;
+    table.invariants();
+    let decl_groups = table.decl_groups();
+    let declared = table.declared();
+    rows.declarations = add_declarations(
+        alloc,
+        &mut rows.text,
+        source,
+        decl_groups,
+        own,
+        declared,
+    )?;
+    rows.bases = add_bases(alloc, &mut rows.text, source, decl_groups, table.records())?;
+    rows.imports = add_imports(alloc, &mut rows.text, source, table.imports())?;
+    rows.parts = add_parts(alloc, &mut rows.text, source, own)?;
+    Ok(())
+}
+
+/// The entries of the interface of the module with this table.
+fn rows_of(alloc: Global, table: &Table, tokens: &[Token], bytes: &[u8]) -> Result<Rows, AllocError>
+    requires { AreInText bytes.now tokens.now }
+    ensures { IfOk result (λ rows. interface_in rows ≡ interface_of bytes.now tokens.now (rows_in table.now)) }
+{
+    table.invariants();
+    let own = sorted_parts(alloc, table.decl_groups(), table.parts())?;
+    let source = TokenTexts { bytes, tokens };
+    let mut rows = Rows::new(alloc);
+    fill_rows(&mut rows, alloc, table, &source, own.as_slice())?;
+    Ok(rows)
+}
+
+/// The interface of a module without indexes. Its value in contracts is the `ModuleInterface`. It owns all its data.
+#[derive(Drop)]
+pub struct Exports {
+    pub(crate) rows: Rows,
+}
+
+impl Model for Exports {
+    ghost use Rattle.ob_interface.specs.Interfaces.{ModuleInterface};
+    ghost use Rattle.ob_interface.specs.RowValues.{interface_in, HasBoundedLists};
+
+    ghost Value = { ModuleInterface };
+
+    ghost view = { λ seen. interface_in seen.rows };
+
+    ghost invariant = { λ seen. HasBoundedLists seen.rows };
+}
+
+/// The interface of the module with this table, these tokens and bytes. Returns `AllocError` if an allocation fails.
+pub fn exports_of(
+    alloc: Global,
+    table: &Table,
+    tokens: &[Token],
+    bytes: &[u8],
+) -> Result<Exports, AllocError>
+    // Every token is a range of the bytes.
+    requires { AreInText bytes.now tokens.now }
+    // The interface is exactly that of the module.
+    ensures exact { IfOk result (λ seen. seen ≡ interface_of bytes.now tokens.now (rows_in table.now)) }
+{
+    table.has_bounded_rows();
+    let rows = rows_of(alloc, table, tokens, bytes)?;
+    Ok(Exports { rows })
+}

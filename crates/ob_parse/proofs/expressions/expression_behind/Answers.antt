@@ -1,8 +1,0 @@
-use Rattle.std.proofs.Common.{sym}
-use Rattle.ob_tree.specs.Expressions.{expr_outline}
-use Rattle.ob_parse.specs.Forms.{accept_at}
-use Rattle.ob_parse.proofs.Somes.{gives_some}
-use Rattle.ob_parse.proofs.expressions.expression_behind.Goals as goal
-
-pub returns-in-Some : goal.returns-in-Some
-returns-in-Some c = gives_some c.args.tokens.now c.expression.result (λ e. expr_outline e.value) c.some.result (accept_at c.args.word) _ _ _ c.some.ensures (sym c.in-Some.ensures.read) c.expression.ensures

@@ -1,7 +1,0 @@
-use Rattle.std.proofs.Common.{arith}
-use Rattle.ob_rows.specs.declared.rows.Import.{Import}
-use Rattle.ob_resolve.proofs.Within.{place_fits}
-use Rattle.ob_resolve.proofs.standing_for.item_number.Goals as goal
-
-pub overflow_cast-result : goal.overflow_cast-result
-overflow_cast-result c = omega (arith, place_fits (λ (i : Import). i.alias) c.args.imports.now c.args.place _ _ c.requires.ascend c.requires.within c.element_fits.fits)

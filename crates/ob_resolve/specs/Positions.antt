@@ -1,0 +1,13 @@
+-- Lists of positions and of flags, by token number.
+use Rattle.std.specs.Prelude.{◌≡◌, ℕ, List, Bool, true, Option, Some, None, slice_get, slice_set}
+use Rattle.ob_targets.specs.declared.syntax_position.SyntaxPosition.{SyntaxPosition}
+use Rattle.ob_targets.specs.SyntaxPosition.{first}
+
+-- each token that one of these entries has gets the position by the first such entry, and all other positions are unchanged
+abbrev pub ArePositionsSet : {X : Type 0} → (ℕ → X → Bool) → (ℕ → SyntaxPosition) → List X → List SyntaxPosition → List SyntaxPosition → Type 0
+ArePositionsSet has at rows old new = (k : ℕ) (s : SyntaxPosition) → slice_get old k ≡ Some s → slice_get new k ≡ Some (first (has k) at rows s)
+
+-- the list with the flag of this token set, if there is a token
+abbrev pub with_flag : Option ℕ → List Bool → List Bool
+with_flag None positions = positions
+with_flag (Some n) positions = slice_set positions n true

@@ -1,0 +1,24 @@
+-- What is computed of a module before its identifiers are resolved, and the reference of each identifier.
+use Rattle.std.specs.Prelude.{◌≡◌, ◌<◌, ℕ, Some, length, slice_get}
+use Rattle.ob_types.specs.World.{World}
+use Rattle.ob_targets.specs.Refers.{Refers}
+use Rattle.ob_targets.specs.SyntaxPosition.{syntax_position}
+use Rattle.ob_targets.specs.Targets.{is_written}
+use Rattle.ob_targets.specs.declared.target.Reference.{Reference}
+use Rattle.ob_resolve.specs.declared.found.Precomputed.{Precomputed}
+use Rattle.ob_resolve.specs.Selected.{AreNamed}
+use Rattle.ob_resolve.specs.StoredKinds.{AreKinds}
+use Rattle.ob_resolve.specs.Used.{AreUsed}
+
+-- the lists have, by token, the syntactic position, whether it is written and the kind of its declaration, and the targets of uses and selectors
+pub record IsPrecomputed (w : World) (f : Precomputed) : Type 0 where
+  pub syntax_positions : (k : ℕ) → k < length w.tokens → slice_get f.syntax_positions.items k ≡ Some (syntax_position w.rows k)
+  pub written : (k : ℕ) → k < length w.tokens → slice_get f.written.items k ≡ Some (is_written w.rows k)
+  pub decl_kinds : AreKinds w f.decl_kinds.items
+  pub used : AreUsed w f.used.items
+  pub selected : AreNamed w (length w.rows.selectors) f.selected.items
+
+-- the reference has this token number, and the target and the role that the rules give its identifier
+pub record IsReference (w : World) (k : ℕ) (r : Reference) : Type 0 where
+  pub number : r.number ≡ k
+  pub refers : Refers w k r.target r.role

@@ -1,9 +1,0 @@
-pub mod Tabulating
-pub mod Shapes
-pub mod Mending
-pub mod Choosing
-pub mod LoneNames
-pub mod DeclarationShapes
-pub mod TypeShapes
-pub mod StatementShapes
-pub mod Operators

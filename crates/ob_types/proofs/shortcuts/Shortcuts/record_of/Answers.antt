@@ -1,5 +1,0 @@
-use Rattle.ob_types.specs.Alike.{record_alike}
-use Rattle.ob_types.proofs.shortcuts.Shortcuts.record_of.Goals as goal
-
-pub returns-in_ok-place_of-in-Other : goal.returns-in_ok-place_of-in-Other
-returns-in_ok-place_of-in-Other c = λ v same. (rw c.in-Other.is (record_alike (c.in_ok-place_of-in-Other.ensures v same)))

@@ -1,0 +1,255 @@
+//! Finds the type declarations at which long chains of types arrive. They serve speed alone: only their ends are worth precomputing.
+ghost use Rattle.ob_types.specs.Parted.{IsBounded};
+
+use crate::indexed::{Indexed, is_type};
+use crate::listed::last_part;
+use crate::nodes::{Named, Node, Record};
+use crate::parts::Parts;
+use ob_interface::{Interface, Part};
+use std::alloc::{AllocError, Global};
+use std::hash::{DefaultHasher, Hasher};
+use type_graph::Shape;
+
+/// A chain of this many steps is long. A step is a name, a pointer or a base.
+const LONG: usize = 16;
+
+/// A type declaration with a next step: its type is a name, a pointer or a record with a base.
+#[derive(Clone, Copy, Drop)]
+pub(crate) struct Link {
+    /// The index of its module; `declaration` is its own index there.
+    reached: u32,
+    declaration: u32,
+    /// The record whose base is the next step.
+    record: Option<u32>,
+    /// The index of the next such declaration on the chain, and the number of steps to it.
+    next: Option<usize>,
+    steps: usize,
+    /// The length, up to `LONG`, of the longest chain that arrives here.
+    distance: usize,
+}
+
+/// Whether a declaration is a type declaration with a next step.
+fn has_link(module: &Interface, index: u32) -> bool {
+    let has_next = match module.part(index, 0) {
+        Some(Part::Record(record)) => module.base(record).is_some(),
+        Some(Part::Pointer | Part::Named { .. }) => true,
+        Some(Part::Array | Part::Procedure) | None => false,
+    };
+    has_next && is_of_type(module, index)
+}
+
+/// Whether a declaration is a type declaration.
+fn is_of_type(module: &Interface, index: u32) -> bool {
+    match module.declaration_at(index) {
+        Some(it) => is_type(it.decl_kind),
+        None => false,
+    }
+}
+
+/// Appends the type declarations of a module that have a next step.
+fn add_leading(module: &Interface, links: &mut Vec<Link>, reached: u32) -> Result<(), AllocError> {
+    for index in 0..module.declaration_count() {
+        if has_link(module, index as u32) {
+            links.push(Link {
+                reached,
+                declaration: index as u32,
+                record: None,
+                next: None,
+                steps: 0,
+                distance: 0,
+            })?;
+        }
+    }
+    Ok(())
+}
+
+/// The type declarations of all modules that have a next step, sorted by the indexes of module and declaration.
+fn all_leading(alloc: Global, parts: &Parts<'_>) -> Result<Vec<Link>, AllocError>
+    requires { IsBounded parts.now }
+{
+    let mut links = Vec::new(alloc);
+    let modules = parts.reached;
+    for at in 0..modules.len() {
+        add_leading(&modules[at], &mut links, at as u32)?;
+    }
+    Ok(links)
+}
+
+/// Whether one is sorted before this declaration.
+fn is_before(it: &Link, reached: u32, declaration: u32) -> bool {
+    it.reached < reached || (it.reached == reached && it.declaration < declaration)
+}
+
+/// The index of a declaration in the list, by binary search.
+fn index_in(links: &[Link], reached: u32, declaration: u32) -> Option<usize> {
+    let at = links.partition_point(|it| is_before(it, reached, declaration));
+    let it = links.get(at)?;
+    if it.reached == reached && it.declaration == declaration {
+        Some(at)
+    } else {
+        None
+    }
+}
+
+/// The node of the name in a component, or of the base of its record.
+fn named_by(reached: u32, declaration: u32, at: usize, part: Part<'_>) -> Option<Node> {
+    match part {
+        Part::Named { .. } => Some(Node::Other {
+            reached,
+            declaration,
+            part: at,
+        }),
+        Part::Record(record) => Some(Node::OtherBase { reached, record }),
+        Part::Array | Part::Pointer | Part::Procedure => None,
+    }
+}
+
+/// The record, if the component is one.
+fn record_of(part: Part<'_>) -> Option<u32> {
+    match part {
+        Part::Record(record) => Some(record),
+        Part::Array | Part::Pointer | Part::Procedure | Part::Named { .. } => None,
+    }
+}
+
+/// The declaration with its next step. A type expression ends in a name or a record, after its pointers.
+fn followed(indexed: &Indexed<'_>, links: &[Link], it: Link) -> Option<Link> {
+    let module = indexed.parts.module(it.reached)?;
+    let (at, part) = last_part(module, it.declaration)?;
+    let node = named_by(it.reached, it.declaration, at, part)?;
+    let Shape::Named(
+        Named::Other {
+            reached,
+            declaration,
+        },
+        _,
+    ) = indexed.shape(node)
+    else {
+        return None;
+    };
+    Some(Link {
+        reached: it.reached,
+        declaration: it.declaration,
+        record: record_of(part),
+        next: index_in(links, reached, declaration),
+        steps: at.saturating_add(1),
+        distance: 0,
+    })
+}
+
+/// Finds the next step of the declaration with this index.
+fn follow(indexed: &Indexed<'_>, links: &mut [Link], at: usize) {
+    if at < links.len()
+        && let Some(it) = followed(indexed, links, links[at])
+    {
+        links[at] = it;
+    }
+}
+
+/// Finds the next step of each declaration. Each name is looked up once.
+fn follow_all(indexed: &Indexed<'_>, links: &mut [Link]) {
+    for at in 0..links.len() {
+        follow(indexed, links, at);
+    }
+}
+
+/// Relaxes the step from this index. Returns whether it gives the next declaration a longer chain.
+fn relax(links: &mut [Link], at: usize) -> bool {
+    let Some(it) = links.get(at).copied() else {
+        return false;
+    };
+    let Some(next) = it.next else {
+        return false;
+    };
+    if next >= links.len() {
+        return false;
+    }
+    let mut external = links[next];
+    let distance = it.distance.saturating_add(it.steps).min(LONG);
+    if distance <= external.distance {
+        return false;
+    }
+    external.distance = distance;
+    links[next] = external;
+    true
+}
+
+/// Relaxes all steps, from the last to the first, as most names come after the declarations that they mean.
+fn relax_all(links: &mut [Link]) -> bool {
+    let mut changed = false;
+    let count = links.len();
+    for passed in 0..count {
+        let at = count.saturating_sub(passed).saturating_sub(1);
+        if relax(links, at) {
+            changed = true;
+        }
+    }
+    changed
+}
+
+/// Computes the length of the longest chain to each declaration (Bellman-Ford). A chain that still grows after `LONG` rounds is long,
+/// since each round adds a step.
+fn measure(links: &mut [Link]) {
+    for _ in 0..LONG {
+        if !relax_all(links) {
+            return;
+        }
+    }
+}
+
+/// The declarations at which long chains arrive.
+fn select_chain_ends(alloc: Global, links: &[Link]) -> Result<Vec<Link>, AllocError> {
+    let mut chain_ends = Vec::new(alloc);
+    for it in links {
+        if it.distance >= LONG {
+            chain_ends.push(*it)?;
+        }
+    }
+    Ok(chain_ends)
+}
+
+/// The type declarations of all modules that have a next step and at which long chains arrive, sorted by the indexes of module and
+/// declaration.
+pub(crate) fn all_chain_ends(alloc: Global, indexed: &Indexed<'_>) -> Result<Vec<Link>, AllocError>
+    requires { IsBounded indexed.now.parts }
+{
+    let mut links = all_leading(alloc, &indexed.parts)?;
+    follow_all(indexed, &mut links);
+    measure(&mut links);
+    select_chain_ends(alloc, links.as_slice())
+}
+
+/// A digest of these declarations (SipHash-1-3; Aumasson and Bernstein 2012) for the seeds of hash tables: declarations and records
+/// chosen to collide under one seed change the seed, whichever modules they are from.
+pub(crate) fn digest_of(chain_ends: &[Link]) -> u64 {
+    let mut digest = DefaultHasher::new();
+    for it in chain_ends {
+        digest.write_u32(it.reached);
+        digest.write_u32(it.declaration);
+        digest.write_u32(it.record.unwrap_or(u32::MAX));
+    }
+    digest.finish()
+}
+
+/// The declarations whose next step is a name or a pointer, by the indexes of module and declaration.
+pub(crate) fn renamed(alloc: Global, chain_ends: &[Link]) -> Result<Vec<(u32, u32)>, AllocError> {
+    let mut renamed = Vec::new(alloc);
+    for it in chain_ends {
+        if it.record.is_none() || it.steps > 1 {
+            renamed.push((it.reached, it.declaration))?;
+        }
+    }
+    Ok(renamed)
+}
+
+/// The records among these declarations.
+pub(crate) fn records_of(alloc: Global, chain_ends: &[Link]) -> Result<Vec<Record>, AllocError> {
+    let mut records = Vec::new(alloc);
+    for it in chain_ends {
+        if let Some(record) = it.record {
+            let reached = it.reached;
+            records.push(Record::Other { reached, record })?;
+        }
+    }
+    Ok(records)
+}

@@ -1,6 +1,0 @@
-use Rattle.std.specs.String.{string_bytes}
-use Rattle.ob_board.specs.Seen.{all_seen}
-use Rattle.oscip_tests.proofs.workers.put_gathered.Given as goal
-
-abbrev pub ghosts-gathered : goal.ghosts-gathered
-ghosts-gathered g a = record { files = all_seen a.sources.now a.tree.now.modules.items; graph = a.tree.now.graph; package_name = string_bytes a.options.now.package }

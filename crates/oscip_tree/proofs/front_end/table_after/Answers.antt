@@ -1,8 +1,0 @@
-use Rattle.std.proofs.Common.{ℕ, List, subst}
-use Rattle.ob_parse.specs.Parsed.{IsTheTree}
-use Rattle.oscip_tree.proofs.front_end.table_after.Goals as goal
-
-pub returns-in-Ok-clause-table : goal.returns-in-Ok-clause-table
-returns-in-Ok-clause-table c =
-    let (tree, is_tree, same) = c.in-Ok.ensures.table in
-    (tree, subst (λ (bytes : List ℕ). IsTheTree bytes c.args.tokens.now tree) c.as_slice.ensures.value is_tree, same)

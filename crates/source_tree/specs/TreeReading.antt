@@ -1,0 +1,40 @@
+-- Trees with scopes.
+use Rattle.std.specs.Prelude.{List}
+use Rattle.ob_imports.specs.declared.fault.GraphFault.{GraphFault}
+use Rattle.ob_imports.specs.declared.fault.GraphFault.TheVariants as graphs
+use Rattle.digraph.specs.Chains.{IsAcyclic}
+use Rattle.ob_imports.specs.Files.{Imports}
+use Rattle.ob_imports.specs.Outcomes.{AreFilesOfGraph}
+use Rattle.ob_scope.specs.Scoped.{AreScopes, ModuleScopes}
+use Rattle.source_tree.specs.Files.{AreAllOf, HasValue}
+use Rattle.source_tree.specs.Trees.{ModuleFile, files_of, rows}
+use Rattle.source_tree.specs.declared.source.Source.{Source}
+use Rattle.source_tree.specs.declared.tree_fault.TreeFault.{TreeFault}
+use Rattle.source_tree.specs.declared.tree_fault.TreeFault.TheVariants.{Graph, Memory}
+use Rattle.source_tree.specs.declared.tree_reading.Tree.{Tree}
+
+-- the error of the graph as one of the tree; a failed allocation is always `Memory`
+abbrev pub of_graph : GraphFault → TreeFault
+of_graph (graphs.TwoModules name first second) = Graph (graphs.TwoModules name first second)
+of_graph (graphs.Cycle names) = Graph (graphs.Cycle names)
+of_graph graphs.TooMany = Graph graphs.TooMany
+of_graph graphs.Memory = Memory
+
+-- these are the scopes of the file's module
+abbrev pub AreScopesOf : ModuleFile → ModuleScopes → Type 0
+AreScopesOf file s = AreScopes file.bytes file.tokens (rows file) s
+
+-- the file is accepted, and these are the scopes of its module
+abbrev pub HasScopes : Source → ModuleScopes → Type 0
+HasScopes source s = HasValue AreScopesOf source s
+
+-- the files are accepted, and each has its scopes
+abbrev pub AreFilesRead : List Source → List ModuleFile → List ModuleScopes → Type 0
+AreFilesRead sources files ss = AreAllOf AreScopesOf sources files ss
+
+-- the graph is that of the files, and each has its scopes
+pub record IsTreeOf (sources : List Source) (tree : Tree) : Type 0 where
+  pub files : List ModuleFile
+  pub read : AreFilesRead sources files tree.scopes.items
+  pub kept : AreFilesOfGraph (files_of files) tree.graph
+  pub acyclic : IsAcyclic (Imports (files_of files))

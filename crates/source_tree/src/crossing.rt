@@ -1,0 +1,199 @@
+//! The occurrences at which a module of a tree uses another.
+ghost use Rattle.std.specs.Prelude.{◌≡◌, ℕ, List, Some, Contains, IfErr, IfNone, IfOk, IfSome, slice_get, Ok};
+ghost use Rattle.module_table.specs.Tables.{rows_in};
+ghost use Rattle.ob_imports.specs.Files.{names_of};
+ghost use Rattle.ob_imports.specs.Outcomes.{AreFilesOfGraph};
+ghost use Rattle.ob_scan.specs.Position.{line_starts};
+ghost use Rattle.ob_scan.specs.Spelling.{AreInText, IsOutcome};
+ghost use Rattle.ob_scan.specs.declared.token.Token.{Token};
+ghost use Rattle.ob_scan.specs.Texts.{text_at};
+ghost use Rattle.ob_scope.specs.Crossings.{AreCrossings};
+ghost use Rattle.ob_scope.specs.Scoped.{AreScopes};
+ghost use Rattle.ob_scope.specs.declared.crossing_uses.Crossing.{Crossing};
+ghost use Rattle.source_tree.specs.Crossings.{AreSpans, AreUseSpans, AreImportUses, AreUsesInFile, IsSpan};
+ghost use Rattle.source_tree.specs.TreeReading.{AreScopesOf, IsTreeOf};
+ghost use Rattle.source_tree.specs.Trees.{files_of, names, IsAccepted, IsFileFault, IsTreeFault, ModuleFile};
+
+use crate::front_end::{scan_fault, table_from_tokens};
+use crate::tree_reading::{Tree, scoped_tree};
+use crate::{Source, TreeFault};
+use module_table::Table;
+use ob_imports::Graph;
+use ob_scan::laws::tokens_in_text;
+use ob_scan::{Lines, Position, Token, TokenTexts, Tokens, lines, scan};
+use ob_scope::{Crossing, Scopes, crossings};
+use std::alloc::{AllocError, Global};
+use std::thread::Threads;
+
+/// A range of a file, from its first byte up to the byte after its last one.
+#[derive(Clone, Copy, PartialEq, Eq, Debug)]
+pub struct Span {
+    pub start: Position,
+    pub end: Position,
+}
+
+/// The occurrences at which one module uses another, both given by name.
+#[derive(Drop)]
+pub enum ImportUses {
+    /// The path of the importer's file, and the ranges in it.
+    Places { path: String, spans: Vec<Span> },
+    /// No module of the tree has the importer's name.
+    NoImporter,
+    /// No module has the imported name.
+    NoImported,
+}
+
+/// The range of a qualified use.
+fn span_of(lines: &Lines, text: &TokenTexts, crossing: Crossing) -> Span
+    requires lined { lines.now ≡ line_starts text.now.bytes.now }
+    requires in_text { AreInText text.now.bytes.now text.now.tokens.now }
+    ensures { IsSpan text.now.bytes.now text.now.tokens.now crossing result }
+{
+    Span {
+        start: lines.position(text.start(crossing.first)),
+        end: lines.position(text.end(crossing.last)),
+    }
+}
+
+/// The ranges of qualified uses, in their order.
+fn spans_of(
+    alloc: Global,
+    bytes: &[u8],
+    tokens: &[Token],
+    crossings: &[Crossing],
+) -> Result<Vec<Span>, AllocError>
+    requires { AreInText bytes.now tokens.now }
+    ensures { IfOk result (λ v. AreSpans bytes.now tokens.now crossings.now v.items) }
+{
+    let lines = lines(alloc, bytes)?;
+    let text = TokenTexts { bytes, tokens };
+    let mut spans = Vec::new(alloc);
+    for crossing in crossings {
+        spans.push(span_of(&lines, &text, *crossing))?;
+    }
+    Ok(spans)
+}
+
+/// The ranges of the qualified uses of a module of this name, given the table and the scopes of the importer.
+fn spans_by(
+    alloc: Global,
+    bytes: &[u8],
+    tokens: &[Token],
+    table: &Table,
+    scopes: &Scopes,
+    imported: &str,
+) -> Result<Vec<Span>, AllocError>
+    requires { AreInText bytes.now tokens.now }
+    ensures { IfOk result (λ v. (found : List Crossing)
+        × ((bs : List ℕ) (ts : List Token) → AreScopes bs ts (rows_in table.now) scopes.now → AreCrossings (text_at bs ts) (rows_in table.now) imported.now (rows_in table.now).uses found)
+        × AreSpans bytes.now tokens.now found v.items) }
+{
+    let found = crossings(alloc, table, scopes, imported)?;
+    spans_of(alloc, bytes, tokens, found.as_slice())
+}
+
+/// The ranges in a file, which has these tokens, at which its module uses one of this name.
+fn spans_of_tokens(
+    alloc: Global,
+    source: &Source,
+    tokens: &Tokens,
+    scopes: &Scopes,
+    imported: &str,
+) -> Result<Vec<Span>, TreeFault>
+    requires { IsOutcome source.now.bytes.items (Ok tokens.now) }
+    ensures places { IfOk result (λ v. (file : ModuleFile) → IsAccepted source.now file → AreScopesOf file scopes.now → AreUseSpans file imported.now v.items) }
+    ensures fault { IfErr result (IsFileFault source.now) }
+{
+    tokens_in_text();
+    let table = table_from_tokens(alloc, source, tokens)?;
+    let bytes = source.bytes.as_slice();
+    let spans = spans_by(alloc, bytes, tokens.as_slice(), &table, scopes, imported);
+    drop(table);
+    Ok(spans?)
+}
+
+/// The ranges in a file at which its module uses one of this name.
+fn spans_of_file(
+    alloc: Global,
+    source: &Source,
+    scopes: &Scopes,
+    imported: &str,
+) -> Result<Vec<Span>, TreeFault>
+    ensures places { IfOk result (λ v. (file : ModuleFile) → IsAccepted source.now file → AreScopesOf file scopes.now → AreUseSpans file imported.now v.items) }
+    ensures fault { IfErr result (IsFileFault source.now) }
+{
+    match scan(alloc, source.bytes.as_slice()) {
+        Ok(tokens) => spans_of_tokens(alloc, source, &tokens, scopes, imported),
+        Err(fault) => Err(scan_fault(alloc, source, fault)),
+    }
+}
+
+/// The path of a file, and the ranges in it at which its module uses one of this name.
+fn uses_in_file(
+    alloc: Global,
+    source: &Source,
+    scopes: &Scopes,
+    imported: &str,
+) -> Result<ImportUses, TreeFault>
+    ensures places { IfOk result (AreUsesInFile source.now scopes.now imported.now) }
+    ensures fault { IfErr result (IsFileFault source.now) }
+{
+    let spans = spans_of_file(alloc, source, scopes, imported)?;
+    let path = String::from_str(alloc, source.path.as_str())?;
+    Ok(ImportUses::Places { path, spans })
+}
+
+/// The number of the tree's module with this name; none without one.
+fn importer_of(graph: &Graph, name: &str) -> Option<u32>
+    ensures found { IfSome result (λ v. (files : List ModuleFile) → AreFilesOfGraph (files_of files) graph.now → (file : ModuleFile) × (slice_get files v ≡ Some file) × (names file 1 ≡ name.now)) }
+    ensures none { IfNone result ((files : List ModuleFile) → AreFilesOfGraph (files_of files) graph.now → Contains (names_of (files_of files)) name.now → ⊥) }
+{
+    let node = graph.node_of(name)?;
+    if node < graph.modules() {
+        Some(node)
+    } else {
+        None
+    }
+}
+
+/// The ranges in the tree at which the first module uses the second.
+fn uses_in(
+    alloc: Global,
+    tree: &Tree,
+    sources: &[Source],
+    from: &str,
+    to: &str,
+) -> Result<ImportUses, TreeFault>
+    requires { IsTreeOf sources.now tree.now }
+    ensures crossed { IfOk result (AreImportUses sources.now from.now to.now) }
+    ensures fault { IfErr result (IsTreeFault sources.now) }
+{
+    let Some(importer) = importer_of(&tree.graph, from) else {
+        return Ok(ImportUses::NoImporter);
+    };
+    if tree.graph.node_of(to).is_none() {
+        return Ok(ImportUses::NoImported);
+    }
+    let importer = importer as usize;
+    uses_in_file(alloc, &sources[importer], &tree.scopes[importer], to)
+}
+
+/// The ranges at which the module `from` uses the module `to`: of the qualified uses whose alias denotes it, in their order, each from
+/// the alias to the end of the name after the dot. Their number is the weight of the import. `from` must be a module of the tree, `to`
+/// one of the tree or an imported one; without an import there are no ranges. Reads the files as `net_of` does.
+pub fn uses_of_import<R: Threads + Sync>(
+    rt: &R,
+    alloc: Global,
+    sources: &[Source],
+    from: &str,
+    to: &str,
+    workers: u32,
+) -> Result<ImportUses, TreeFault>
+    // Exactly these ranges, or the first name that no module has.
+    ensures crossed { IfOk result (AreImportUses sources.now from.now to.now) }
+    // The error is the tree's.
+    ensures fault { IfErr result (IsTreeFault sources.now) }
+{
+    let tree = scoped_tree(rt, alloc, sources, workers)?;
+    uses_in(alloc, &tree, sources, from, to)
+}

@@ -1,0 +1,84 @@
+//! Reading of the files of a tree, in chunks by many threads.
+ghost use Rattle.std.specs.Prelude.{◌<◌, IfErr, IfOk, List};
+ghost use Rattle.source_tree.specs.Files.{AreAllOf, AreOfPieces, IsReading};
+ghost use Rattle.source_tree.specs.Trees.{IsTreeFault, ModuleFile};
+
+use crate::{Source, TreeFault};
+use std::alloc::{AllocError, Global};
+use std::thread;
+use std::thread::Threads;
+
+/// A value that is computed from one file of a tree.
+pub(crate) trait FromSource: Drop {
+    ghost use Rattle.std.specs.Prelude.{IfErr, IfOk};
+    ghost use Rattle.source_tree.specs.Files.{HasValue};
+    ghost use Rattle.source_tree.specs.Trees.{IsFileFault, ModuleFile};
+
+    // the value is that of the module of this file
+    ghost is_of: { ModuleFile → Self → Type 0 };
+
+    /// The value of an accepted file, or the file's error: that of its tokens, its syntax or its names.
+    fn from_source(alloc: Global, source: &Source) -> Result<Self, TreeFault>
+        ensures kept { IfOk result (HasValue is_of source.now) }
+        ensures fault { IfErr result (IsFileFault source.now) };
+}
+
+/// The value of each file, or the error of the first file that has one. Reads one file after another.
+fn read_sequentially<K: FromSource>(alloc: Global, sources: &[Source]) -> Result<Vec<K>, TreeFault>
+    ensures { IsReading K.is_of sources.now result }
+{
+    let mut all = Vec::new(alloc);
+    for source in sources {
+        all.push(K::from_source(alloc, source)?)?;
+    }
+    Ok(all)
+}
+
+/// As `read_sequentially`, for each chunk of this many files, by as many threads as there are chunks.
+fn read_chunks<K: FromSource + Send, R: Threads + Sync>(
+    rt: &R,
+    alloc: Global,
+    sources: &[Source],
+    size: usize,
+) -> Result<Vec<Result<Vec<K>, TreeFault>>, AllocError>
+    requires { 0 < size }
+    ensures { IfOk result (λ answers. AreOfPieces (IsReading K.is_of) sources.now answers.items) }
+{
+    let answers = thread::map_chunks(
+        rt,
+        alloc,
+        sources,
+        size,
+        &|_: usize, chunk: &[Source]| -> Result<Vec<K>, TreeFault>
+            ensures { IsReading K.is_of chunk.entry.now result }
+        { read_sequentially(alloc, chunk) },
+    )?;
+    Ok(answers)
+}
+
+/// The size of a chunk, for at most as many chunks as workers.
+pub(crate) fn size_of_chunks(files: usize, workers: u32) -> usize
+    ensures { 0 < result }
+{
+    files.div_ceil(workers.max(1) as usize).max(1)
+}
+
+/// The value of each file, or the error of the first file that has one. Reads the files in at most as many chunks as workers, each in a
+/// thread of its own if one can be started. The first chunk with an error has it.
+pub(crate) fn read_files<K: FromSource + Send, R: Threads + Sync>(
+    rt: &R,
+    alloc: Global,
+    sources: &[Source],
+    workers: u32,
+) -> Result<Vec<K>, TreeFault>
+    ensures kept { IfOk result (λ v. (files : List ModuleFile) × AreAllOf K.is_of sources.now files v.items) }
+    ensures fault { IfErr result (IsTreeFault sources.now) }
+{
+    let answers = read_chunks::<K, R>(rt, alloc, sources, size_of_chunks(sources.len(), workers))?;
+    let mut all = Vec::new(alloc);
+    for answer in answers {
+        let mut more = answer?;
+        all.append(&mut more)?;
+    }
+    Ok(all)
+}

@@ -1,0 +1,63 @@
+//! Laws of trees, proved as contracts of functions with an empty body: a tree is accepted or rejected, with one network or one error.
+ghost use Rattle.std.specs.Prelude.{◌≡◌, ◌↔◌, ◌∷◌, [], ℕ, Contains, false, length, map, true, List};
+ghost use Rattle.cut_net.specs.declared.priced.Priced.{Priced};
+ghost use Rattle.cut_net.specs.Network.{Network, name_of};
+ghost use Rattle.text_escape.specs.Places.{Style};
+ghost use Rattle.source_tree.specs.Crossings.{AreUses};
+ghost use Rattle.source_tree.specs.OwnFaults.{ArePartitionedFiles, AreTreeFaults};
+ghost use Rattle.source_tree.specs.TreeFaults.{tree_fault_text, is_out_of_memory};
+ghost use Rattle.source_tree.specs.Trees.{IsNetOfTree, IsTree, IsTreeFault, ModuleFile};
+ghost use Rattle.source_tree.specs.declared.crossing.Span.{Span};
+ghost use Rattle.source_tree.specs.declared.source.Source.{Source};
+ghost use Rattle.source_tree.specs.declared.tree_fault.TreeFault.{TreeFault};
+
+/// An accepted tree has no error but a failed allocation.
+pub fn no_fault_of_a_tree()
+    // The error is a failed allocation.
+    ensures { (sources : List Source) (files : List ModuleFile) (fault : TreeFault) →
+        IsTree sources files → IsTreeFault sources fault → is_out_of_memory fault ≡ true }
+{}
+
+/// A tree has at most one network.
+pub fn one_network()
+    // Two networks of a tree are equal.
+    ensures { (sources : List Source) (net other : Network) → IsNetOfTree sources net → IsNetOfTree sources other → net ≡ other }
+{}
+
+/// A rejected tree has one error message, with path, line and column of a file's error. So for a file without a syntax tree it is
+/// determined whether `Syntax` or `TooDeep` is reported, and at which location.
+pub fn one_fault()
+    // Two errors of a tree have equal messages.
+    ensures { (style : Style) (sources : List Source) (fault other : TreeFault) → IsTreeFault sources fault → IsTreeFault sources other →
+        is_out_of_memory fault ≡ false → is_out_of_memory other ≡ false →
+        tree_fault_text style fault ≡ tree_fault_text style other }
+{}
+
+/// The number of ranges at which one module uses another is the weight of the import in the tree's network.
+pub fn weight_of_uses()
+    // The weight is the number of ranges.
+    ensures { (sources : List Source) (net : Network) (path : List ℕ) (spans : List Span) (i : Priced) →
+        IsNetOfTree sources net → Contains net.imports i → AreUses sources (name_of net i.from) (name_of net i.to) path spans → i.amount ≡ length spans }
+{}
+
+/// The partition of a tree's files is unique: which are accepted, and the messages for the others.
+pub fn one_partition()
+    // The accepted files are unique.
+    ensures accepted { (sources accepted others : List Source) (faults more : List TreeFault) →
+        ArePartitionedFiles sources accepted faults → ArePartitionedFiles sources others more → accepted ≡ others }
+    // The messages for the other files are unique.
+    ensures message { (style : Style) (sources accepted others : List Source) (faults more : List TreeFault) →
+        ArePartitionedFiles sources accepted faults → ArePartitionedFiles sources others more → map (tree_fault_text style) faults ≡ map (tree_fault_text style) more }
+{}
+
+/// The list of a tree's errors is unique up to its messages: empty exactly for an accepted tree, and first the tree's error.
+pub fn one_fault_list()
+    // The messages are unique.
+    ensures message { (style : Style) (sources : List Source) (faults more : List TreeFault) →
+        AreTreeFaults sources faults → AreTreeFaults sources more → map (tree_fault_text style) faults ≡ map (tree_fault_text style) more }
+    // The list is empty exactly if the tree is accepted.
+    ensures nothing { (sources : List Source) (faults : List TreeFault) →
+        AreTreeFaults sources faults → faults ≡ [] ↔ ((files : List ModuleFile) × IsTree sources files) }
+    // The first one is the tree's error.
+    ensures first { (sources : List Source) (fault : TreeFault) (more : List TreeFault) → AreTreeFaults sources (fault ∷ more) → IsTreeFault sources fault }
+{}

@@ -1,0 +1,5 @@
+use Rattle.table_reader.proofs.TypeTrees.{procedure_told}
+use Rattle.table_reader.proofs.types.procedure.Goals as goal
+
+pub returns-clause-effect : goal.returns-clause-effect
+returns-clause-effect c = procedure_told c.args.tokens.now c.args.context _ _ _ _ _ _ c.args.input _ c.block_from.ensures c.add_part_row.ensures.stage c.add_block.ensures.stage c.advance.ensures.stage c.some_parameters.ensures.effect

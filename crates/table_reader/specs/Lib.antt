@@ -1,0 +1,9 @@
+pub mod Tabulating
+pub mod Shapes
+pub mod SelectorSlots
+pub mod SelectorShapes
+pub mod SoleNames
+pub mod DeclarationShapes
+pub mod TypeShapes
+pub mod StatementShapes
+pub mod Operators

@@ -1,0 +1,92 @@
+//! The names after END: each is parsed and appended as an entry, and all are compared when the table is complete.
+
+ghost use Rattle.std.specs.Prelude.{◌≡◌, ◌+◌, ◌<◌, ◌^◌, map, IfOk};
+ghost use Rattle.std.specs.List.{All};
+ghost use Rattle.table_rules.specs.Declaring.{procedure_end, module_end};
+ghost use Rattle.table_rules.specs.Naming.{ending_of};
+ghost use Rattle.module_table.specs.TableStages.{after};
+ghost use Rattle.module_table.specs.Parts.{with_rows, token};
+ghost use Rattle.module_table.specs.Tables.{rows_in};
+ghost use Rattle.ob_tree.specs.TreeEvents.{repeated};
+ghost use Rattle.ob_parse.specs.Combinators.{name_at};
+ghost use Rattle.ob_parse.specs.AgreesWith.{remaining};
+ghost use Rattle.ob_parse.specs.Ends.{AreTokenNumbers, FirstWrong, IsEnd, IsInText};
+ghost use Rattle.table_reader.specs.Tabulating.{TabulatesBy};
+
+use module_table::builder::{Context, TableBuilder};
+use module_table::{End, Table};
+use ob_parse::cursor::Cursor;
+use ob_parse::ends::is_right;
+use ob_parse::stop::Stop;
+use ob_parse::tokens::identifier;
+use ob_scan::Token;
+use table_rules::walk::declarations::{walk_module_end, walk_procedure_end};
+
+/// Parses the name after the END of a procedure. `name` is the index of the name that it has to repeat.
+pub(crate) fn procedure_name(
+    builder: &mut TableBuilder,
+    context: Context,
+    tokens: &[Token],
+    input: Cursor,
+    name: u32,
+) -> Result<Cursor, Stop>
+    requires decl_group { context.decl_group + 1 < 2 ^ 32 }
+    requires number { builder.old.number ≡ input.at }
+    ensures effect { TabulatesBy tokens.now (repeated name) (λ x. after (with_rows procedure_end token) context) builder.old builder.new result (name_at (repeated name) (remaining tokens.now input)) }
+    ensures number { IfOk result (λ rest. builder.new.number ≡ rest.at) }
+{
+    match identifier(tokens, input) {
+        Ok((_, rest)) => {
+            walk_procedure_end(builder, context);
+            Ok(rest)
+        }
+        Err(stop) => Err(stop),
+    }
+}
+
+/// Parses the name after the END of the module. `name` is the index of the name that it has to repeat.
+pub(crate) fn module_name(
+    builder: &mut TableBuilder,
+    context: Context,
+    tokens: &[Token],
+    input: Cursor,
+    name: u32,
+) -> Result<Cursor, Stop>
+    requires { builder.old.number ≡ input.at }
+    ensures effect { TabulatesBy tokens.now (repeated name) (λ x. after (with_rows module_end token) context) builder.old builder.new result (name_at (repeated name) (remaining tokens.now input)) }
+    ensures number { IfOk result (λ rest. builder.new.number ≡ rest.at) }
+{
+    match identifier(tokens, input) {
+        Ok((_, rest)) => {
+            walk_module_end(builder, context);
+            Ok(rest)
+        }
+        Err(stop) => Err(stop),
+    }
+}
+
+/// Whether a name after END is right: whether it has the bytes of the name that it has to repeat.
+fn is_right_end(bytes: &[u8], tokens: &[Token], table: &Table, end: End) -> bool
+    requires in_range { AreTokenNumbers tokens.now (ending_of end) }
+    requires in_text { All (IsInText bytes.now) tokens.now }
+    ensures { IsEnd bytes.now tokens.now result (ending_of end) }
+{
+    match end.of {
+        None => is_right(bytes, tokens, table.module_name_token(), end.number),
+        Some(name) => is_right(bytes, tokens, name, end.number),
+    }
+}
+
+/// The offset of the first name after END that differs from the name that it has to repeat.
+pub(crate) fn wrong_end(bytes: &[u8], tokens: &[Token], table: &Table) -> Option<u32>
+    requires in_range { All (AreTokenNumbers tokens.now) (map ending_of (rows_in table.now).ends) }
+    requires in_text { All (IsInText bytes.now) tokens.now }
+    ensures { FirstWrong bytes.now tokens.now (map ending_of (rows_in table.now).ends) result }
+{
+    'names: for end in table.ends() {
+        if !is_right_end(bytes, tokens, table, *end) {
+            return Some(tokens[end.number as usize].start);
+        }
+    }
+    None
+}

@@ -1,0 +1,101 @@
+//! Names (Oberon-07 report, section 4). Each function parses one production, as the parser does, and appends its table entries.
+
+ghost use Rattle.std.specs.Prelude.{◌≡◌, IfOk};
+ghost use Rattle.ob_scan.specs.declared.kind.Kind.TheVariants as kinds;
+ghost use Rattle.ob_tree.specs.TreeEvents.{separated};
+ghost use Rattle.ob_tree.specs.Names.{qualident_events, identdef_events};
+ghost use Rattle.table_rules.specs.Statements.{qualident_rows};
+ghost use Rattle.table_rules.specs.Types.{identdef_rows};
+ghost use Rattle.ob_parse.specs.Combinators.{accept_at, many, several};
+ghost use Rattle.ob_parse.specs.AgreesWith.{remaining};
+ghost use Rattle.ob_parse.specs.ReadNames.{qualident_at, identdef_at};
+ghost use Rattle.table_reader.specs.TypeShapes.{more_events, more_rows, list_rows};
+ghost use Rattle.table_reader.specs.Tabulating.{Tabulates};
+
+use module_table::builder::{Context, TableBuilder};
+use ob_parse::cursor::Cursor;
+use ob_parse::names::{identdef, qualident};
+use ob_parse::stop::Stop;
+use ob_parse::tokens::accept;
+use ob_scan::{Kind, Token};
+use table_rules::walk::types::walk_identdef;
+use table_rules::walk::uses::walk_qualident;
+
+/// Parses a use of a qualified identifier.
+pub(crate) fn used_qualident(
+    builder: &mut TableBuilder,
+    context: Context,
+    tokens: &[Token],
+    input: Cursor,
+) -> Result<Cursor, Stop>
+    requires { builder.old.number ≡ input.at }
+    ensures effect { Tabulates tokens.now qualident_events qualident_rows context builder.old builder.new result (qualident_at (remaining tokens.now input)) }
+    ensures number { IfOk result (λ rest. builder.new.number ≡ rest.at) }
+{
+    match qualident(tokens, input) {
+        Ok((name, rest)) => {
+            walk_qualident(builder, context, name);
+            Ok(rest)
+        }
+        Err(stop) => Err(stop),
+    }
+}
+
+/// Parses a declaring identifier.
+pub(crate) fn declared_name(
+    builder: &mut TableBuilder,
+    context: Context,
+    tokens: &[Token],
+    input: Cursor,
+) -> Result<Cursor, Stop>
+    requires { builder.old.number ≡ input.at }
+    ensures effect { Tabulates tokens.now identdef_events identdef_rows context builder.old builder.new result (identdef_at (remaining tokens.now input)) }
+    ensures number { IfOk result (λ rest. builder.new.number ≡ rest.at) }
+{
+    match identdef(tokens, input) {
+        Ok((name, rest)) => {
+            walk_identdef(builder, context, name);
+            Ok(rest)
+        }
+        Err(stop) => Err(stop),
+    }
+}
+
+/// Parses the further declaring identifiers, each after a comma.
+fn more_declared(
+    builder: &mut TableBuilder,
+    context: Context,
+    tokens: &[Token],
+    input: Cursor,
+) -> Result<Cursor, Stop>
+    requires { builder.old.number ≡ input.at }
+    ensures effect { Tabulates tokens.now (more_events kinds.Comma identdef_events) (more_rows identdef_rows) context builder.old builder.new result (many (accept_at kinds.Comma) identdef_at (remaining tokens.now input)) }
+    ensures number { IfOk result (λ rest. builder.new.number ≡ rest.at) }
+{
+    let mut here = input;
+    'more: while let Some(following) = accept(tokens, here, Kind::Comma) {
+        builder.advance();
+        match declared_name(builder, context, tokens, following) {
+            Ok(next) => here = next,
+            Err(stop) => return Err(stop),
+        }
+    }
+    Ok(here)
+}
+
+/// Parses one declaring identifier or more, separated by commas.
+pub(crate) fn declared_names(
+    builder: &mut TableBuilder,
+    context: Context,
+    tokens: &[Token],
+    input: Cursor,
+) -> Result<Cursor, Stop>
+    requires { builder.old.number ≡ input.at }
+    ensures effect { Tabulates tokens.now (separated kinds.Comma identdef_events) (list_rows identdef_rows) context builder.old builder.new result (several kinds.Comma identdef_at (remaining tokens.now input)) }
+    ensures number { IfOk result (λ rest. builder.new.number ≡ rest.at) }
+{
+    match declared_name(builder, context, tokens, input) {
+        Ok(here) => more_declared(builder, context, tokens, here),
+        Err(stop) => Err(stop),
+    }
+}

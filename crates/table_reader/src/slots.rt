@@ -1,0 +1,237 @@
+//! Reserved entries for selectors, and the look-ahead that estimates how many are needed.
+
+ghost use Rattle.std.specs.Prelude.{◌≡◌, ◌+◌, ◌<◌, ◌≤◌, ◌^◌, ◌++◌, ◌∷◌, ℕ, false, length, IfSome, List};
+ghost use Rattle.ob_tree.specs.declared.token.Leaf.{Leaf};
+ghost use Rattle.ob_tree.specs.declared.token.Leaf.TheVariants as leafs;
+ghost use Rattle.ob_tree.specs.Widths.{name_width};
+ghost use Rattle.module_table.specs.TableStages.{added, PerformsStep};
+ghost use Rattle.module_table.specs.Parts.{these_selectors};
+ghost use Rattle.ob_parse.specs.AgreesWith.{remaining, with_remaining};
+ghost use Rattle.table_reader.specs.SelectorShapes.{dot_at, is_present};
+ghost use Rattle.table_reader.specs.SelectorSlots.{placeholder, slots, inserted, removed, written, EnsuresSlot};
+ghost use Rattle.table_reader.specs.declared.slots.SoleName.TheVariants as sole_names;
+ghost use Rattle.ob_parse.specs.Lookahead.{uncons};
+ghost use Rattle.table_reader.specs.SoleNames.{sole_name_of, leading_name, IsSoleName};
+
+use crate::source::{ParserInput, kind_at};
+use module_table::builder::TableBuilder;
+use module_table::{Designator as DesignatorRow, Selector as SelectorRow, Step, TypeName};
+use ob_parse::cursor::Cursor;
+use ob_parse::tokens::accept;
+use ob_scan::{Kind, Token};
+use ob_tree::token::Leaf;
+
+/// The index of the token after the selector that seems to begin at `at`, or `at` if none does. A bracket is skipped with what `brackets`
+/// has for it. A dot is skipped only with a name after it: so the closing bracket of the list in hand is never passed, and no token is
+/// inspected for two designators, even in a text that is rejected.
+fn skip_selector(source: &ParserInput, at: u32) -> u32 {
+    match kind_at(source.tokens, at) {
+        Kind::Dot => match kind_at(source.tokens, at.saturating_add(1)) {
+            Kind::Ident => at.saturating_add(2),
+            _ => at,
+        },
+        Kind::Caret => at.saturating_add(1),
+        Kind::LeftBracket | Kind::LeftParen => match source.brackets.get(at as usize) {
+            None => at,
+            Some(closing) => closing.saturating_add(1),
+        },
+        _ => at,
+    }
+}
+
+/// The number of selectors that seem to follow. It is an estimate, of which nothing is promised.
+pub(crate) fn estimate_selectors(source: &ParserInput, input: Cursor) -> u32 {
+    let mut at = input.number();
+    let mut count = 0;
+    for _ in 0..source.tokens.len() {
+        let next = skip_selector(source, at);
+        if next <= at {
+            break;
+        }
+        at = next;
+        count = u32::saturating_add(count, 1);
+    }
+    count
+}
+
+/// Some index if a dot is next: callers only test whether it is there.
+pub(crate) fn dot_is_next(tokens: &[Token], input: Cursor) -> Option<u32>
+    ensures dot { is_present result ≡ dot_at tokens.now input }
+    // The dot has an index of 32 bits, so the token after it has one too, or 2^32.
+    ensures number { input.at + name_width result ≤ 2 ^ 32 + 1 }
+{
+    match input.next(tokens) {
+        Some((Leaf::Word(Kind::Dot), _)) => Some(0),
+        _ => None,
+    }
+}
+
+/// The number of selector entries, which is the index of the next one.
+pub(crate) fn selector_count(builder: &TableBuilder) -> usize
+    ensures { result ≡ length builder.now.selectors.items }
+{
+    builder.selectors.len()
+}
+
+/// Appends `count` placeholders for selectors. After a failed allocation it stops.
+pub(crate) fn open_slots(builder: &mut TableBuilder, head: u32, count: u32)
+    ensures stage { PerformsStep (added (these_selectors (slots head count))) builder.old builder.new }
+    ensures number { builder.new.number ≡ builder.old.number }
+{
+    for slot in 0..count {
+        if builder.failed {
+            return;
+        }
+        builder.add_selector(SelectorRow {
+            of: head,
+            step: Step::Target,
+        });
+    }
+}
+
+/// Ensures that an entry is reserved at index `slot` for the next selector of the designator with this head, and returns the end of its
+/// reserved entries. If none is left, one is inserted at `end`.
+pub(crate) fn ensure_slot(builder: &mut TableBuilder, head: u32, slot: usize, end: usize) -> usize
+    requires { builder.old.failed ≡ false → (slot ≤ end) × (end ≤ length builder.old.selectors.items) }
+    ensures room { EnsuresSlot head slot end builder.old builder.new result }
+    ensures slot { builder.new.failed ≡ false → slot < length builder.new.selectors.items }
+    ensures number { builder.new.number ≡ builder.old.number }
+{
+    if slot < end || builder.failed {
+        return end;
+    }
+    insert_slot(builder, head, end)
+}
+
+/// Inserts a placeholder for a selector, and returns the index after it.
+#[inline(never)]
+fn insert_slot(builder: &mut TableBuilder, head: u32, at: usize) -> usize
+    requires { at ≤ length builder.old.selectors.items }
+    ensures stage { PerformsStep (inserted at (placeholder head)) builder.old builder.new }
+    ensures slot { result ≡ at + 1 }
+    ensures number { builder.new.number ≡ builder.old.number }
+{
+    let row = SelectorRow {
+        of: head,
+        step: Step::Target,
+    };
+    if builder.selectors.insert(at, row).is_err() {
+        builder.failed = true;
+        builder.selectors.clear();
+    }
+    at + 1
+}
+
+/// Ends the selectors of a designator: removes the reserved entries from `slot` on that no selector needed.
+pub(crate) fn close_slots(builder: &mut TableBuilder, slot: usize, end: usize)
+    requires { builder.old.failed ≡ false → (slot ≤ end) × (end ≤ length builder.old.selectors.items) }
+    ensures stage { PerformsStep (removed slot end) builder.old builder.new }
+    ensures number { builder.new.number ≡ builder.old.number }
+{
+    if slot < end && !builder.failed {
+        remove_slots(builder, slot, end);
+    }
+}
+
+/// Removes the reserved entries from `slot` to `end`.
+#[inline(never)]
+fn remove_slots(builder: &mut TableBuilder, slot: usize, end: usize)
+    requires { (slot ≤ end) × (end ≤ length builder.old.selectors.items) }
+    ensures stage { PerformsStep (removed slot end) builder.old builder.new }
+    ensures number { builder.new.number ≡ builder.old.number }
+{
+    drop(builder.selectors.drain(slot..end));
+}
+
+/// The number of designator entries, which is the index of the next one.
+pub(crate) fn designator_count(builder: &TableBuilder) -> usize
+    ensures { result ≡ length builder.now.designators.items }
+{
+    builder.designators.len()
+}
+
+/// Replaces the entry of the designator at this index.
+#[tactic(auto, using(module_table::proofs::Steps::growing), unfolding(module_table::specs::TableStages::stage_of, crate::specs::SelectorSlots::written))]
+pub(crate) fn write_designator(builder: &mut TableBuilder, at: usize, row: DesignatorRow)
+    ensures stage { PerformsStep (written at row) builder.old builder.new }
+    ensures number { builder.new.number ≡ builder.old.number }
+{
+    if at < builder.designators.len() {
+        builder.designators[at] = row;
+    }
+}
+
+/// The name that the tokens between the two cursors are, if they are nothing but a name.
+pub(crate) fn sole_name(tokens: &[Token], input: Cursor, here: Cursor) -> Option<TypeName>
+    ensures { (ls : List Leaf) → remaining tokens.now input ≡ ls ++ remaining tokens.now here → 0 < length (remaining tokens.now here) → result ≡ sole_name_of ls input.at }
+{
+    match sole_end(tokens, input, here) {
+        SoleName::No => None,
+        SoleName::Bare => Some(TypeName {
+            head: input.number(),
+            member: None,
+        }),
+        SoleName::Dotted => Some(TypeName {
+            head: input.number(),
+            member: Some(input.number() + 2),
+        }),
+    }
+}
+
+/// What the tokens between two cursors are: a single name, a name with a dot and a second name, or anything else.
+enum SoleName {
+    No,
+    Bare,
+    Dotted,
+}
+
+/// Classifies the tokens between the two cursors.
+fn sole_end(tokens: &[Token], input: Cursor, here: Cursor) -> SoleName
+    ensures number { result ≡ sole_names.Dotted → input.at + 2 < 2 ^ 32 }
+    ensures sole { (ls : List Leaf) → remaining tokens.now input ≡ ls ++ remaining tokens.now here → 0 < length (remaining tokens.now here) → IsSoleName ls result }
+{
+    if input.number() == here.number() {
+        return SoleName::No;
+    }
+    match name_at(tokens, input) {
+        None => SoleName::No,
+        Some((_, following)) => {
+            if following.number() == here.number() {
+                SoleName::Bare
+            } else {
+                dotted_end(tokens, following, here)
+            }
+        }
+    }
+}
+
+/// Classifies the tokens between the two cursors that follow a name: exactly a dot and a name make it dotted.
+fn dotted_end(tokens: &[Token], input: Cursor, here: Cursor) -> SoleName
+    ensures number { result ≡ sole_names.Dotted → input.at + 1 < 2 ^ 32 }
+    ensures sole { (n : ℕ) (ls : List Leaf) → remaining tokens.now input ≡ ls ++ remaining tokens.now here → 0 < length (remaining tokens.now here) → 0 < length ls → IsSoleName (leafs.Name n ∷ ls) result }
+{
+    match accept(tokens, input, Kind::Dot) {
+        None => SoleName::No,
+        Some(following) => match name_at(tokens, following) {
+            None => SoleName::No,
+            Some((_, following)) => {
+                if following.number() == here.number() {
+                    SoleName::Dotted
+                } else {
+                    SoleName::No
+                }
+            }
+        },
+    }
+}
+
+/// The index of the next token if it is an identifier, and the cursor after it.
+fn name_at(tokens: &[Token], input: Cursor) -> Option<(u32, Cursor)>
+    ensures read { with_remaining tokens.now result ≡ leading_name (uncons (remaining tokens.now input)) }
+    ensures number { IfSome result (λ x. x.1.at ≡ input.at + 1) }
+{
+    match input.next(tokens) {
+        Some((Leaf::Name(number), rest)) => Some((number, rest)),
+        _ => None,
+    }
+}

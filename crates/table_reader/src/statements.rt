@@ -1,0 +1,525 @@
+//! Statements (Oberon-07 report, section 9). `depth` is the number of nested levels that are left for what a function parses. Each
+//! function parses one production, as the parser does, and appends its table entries.
+
+ghost use Rattle.std.specs.Prelude.{◌≡◌, ◌+◌, IfOk};
+ghost use Rattle.ob_scan.specs.declared.kind.Kind.TheVariants as kinds;
+ghost use Rattle.ob_tree.specs.Constructs as constructs;
+ghost use Rattle.ob_tree.specs.TreeEvents as marks;
+ghost use Rattle.ob_tree.specs.Statements.{block_events, branch_events, case_events, stmt_events};
+ghost use Rattle.table_rules.specs.Statements.{block_rows, branch_rows, case_rows, stmt_rows};
+ghost use Rattle.ob_parse.specs.Combinators.{accept_at, expect_at, many, node, optional, prefixed, seq};
+ghost use Rattle.ob_parse.specs.AgreesWith.{remaining};
+ghost use Rattle.ob_parse.specs.ReadExpressions.{expr_at};
+ghost use Rattle.ob_parse.specs.ReadStatements.{assign_with, block_at, branch_with, case_with, cases_with, for_with, if_with, repeat_with, statement_at, statement_with, while_with};
+ghost use Rattle.table_reader.specs.StatementShapes.{statements_events, statements_rows, branches_events, branches_rows, cases_events, cases_rows, body_events, body_rows, value_events, value_rows, assigned_stage, cases_end_events, cases_end_rows, for_body_events, for_body_rows, for_limit_events, for_limit_rows};
+ghost use Rattle.table_reader.specs.Tabulating.{Tabulates, TabulatesBy};
+
+use crate::expressions::{designator, expression};
+use crate::labels::label_ranges;
+use crate::slots::{designator_count, write_designator};
+use crate::source::ParserInput;
+use crate::words::pass_word;
+use module_table::Designator as DesignatorRow;
+use module_table::builder::{Context, TableBuilder};
+use ob_parse::cursor::Cursor;
+use ob_parse::labels::begins_label;
+use ob_parse::statements::begins_statement;
+use ob_parse::stop::Stop;
+use ob_parse::tokens::{accept, identifier};
+use ob_scan::Kind;
+use ob_tree::token::Leaf;
+use table_rules::walk::uses::walk_for_variable;
+
+/// Parses a statement, for which `depth` levels of nesting are left. It is a level itself.
+#[cycle(statements)]
+fn statement(
+    builder: &mut TableBuilder,
+    context: Context,
+    source: &ParserInput,
+    input: Cursor,
+    depth: u32,
+) -> Result<Cursor, Stop>
+    requires { builder.old.number ≡ input.at }
+    ensures effect { Tabulates source.now.tokens.now stmt_events stmt_rows context builder.old builder.new result (statement_at depth (remaining source.now.tokens.now input)) }
+    ensures number { IfOk result (λ rest. builder.new.number ≡ rest.at) }
+{
+    if depth == 0 {
+        if begins_statement(source.tokens, input) {
+            return Err(Stop::TooDeep(input));
+        }
+        return Ok(input);
+    }
+    statement_within(builder, context, source, input, depth - 1)
+}
+
+/// Parses a statement, in whose parts `depth` levels of nesting are left.
+#[cycle(statements)]
+fn statement_within(
+    builder: &mut TableBuilder,
+    context: Context,
+    source: &ParserInput,
+    input: Cursor,
+    depth: u32,
+) -> Result<Cursor, Stop>
+    requires { builder.old.number ≡ input.at }
+    ensures effect { Tabulates source.now.tokens.now stmt_events stmt_rows context builder.old builder.new result (statement_with (expr_at depth) (block_at depth) (remaining source.now.tokens.now input)) }
+    ensures number { IfOk result (λ rest. builder.new.number ≡ rest.at) }
+{
+    match input.next(source.tokens) {
+        Some((Leaf::Name(number), rest)) => assignment(
+            builder, context, source, number, rest, depth,
+        ),
+        Some((Leaf::Word(Kind::If), rest)) => if_statement(builder, context, source, rest, depth),
+        Some((Leaf::Word(Kind::Case), rest)) => case_statement(
+            builder, context, source, rest, depth,
+        ),
+        Some((Leaf::Word(Kind::While), rest)) => while_statement(
+            builder, context, source, rest, depth,
+        ),
+        Some((Leaf::Word(Kind::Repeat), rest)) => repeat_statement(
+            builder, context, source, rest, depth,
+        ),
+        Some((Leaf::Word(Kind::For), rest)) => for_statement(builder, context, source, rest, depth),
+        _ => Ok(input),
+    }
+}
+
+/// Parses an assignment or a call after its first identifier. The entry of its designator precedes all others of it.
+fn assignment(
+    builder: &mut TableBuilder,
+    context: Context,
+    source: &ParserInput,
+    head: u32,
+    input: Cursor,
+    depth: u32,
+) -> Result<Cursor, Stop>
+    requires { builder.old.number + 1 ≡ input.at }
+    ensures effect { Tabulates source.now.tokens.now stmt_events stmt_rows context builder.old builder.new result (node constructs.Statement (assign_with (expr_at depth) head) (remaining source.now.tokens.now input)) }
+    ensures number { IfOk result (λ rest. builder.new.number ≡ rest.at) }
+{
+    let first = builder.number;
+    let at = designator_count(builder);
+    match designator(builder, context, source, head, input, depth) {
+        Ok(here) => assigned_value(builder, context, source, here, depth, first, at),
+        Err(stop) => Err(stop),
+    }
+}
+
+/// Parses `:=` and the right side of an assignment, if `:=` is next. Then the entry of its designator, which begins with the token `head`
+/// and has the index `at`, says that it is written.
+fn assigned_value(
+    builder: &mut TableBuilder,
+    context: Context,
+    source: &ParserInput,
+    input: Cursor,
+    depth: u32,
+    head: u32,
+    at: usize,
+) -> Result<Cursor, Stop>
+    requires { builder.old.number ≡ input.at }
+    ensures effect { TabulatesBy source.now.tokens.now (value_events kinds.Assign) (assigned_stage head at context) builder.old builder.new result (optional (accept_at kinds.Assign) (expr_at depth) (remaining source.now.tokens.now input)) }
+    ensures number { IfOk result (λ rest. builder.new.number ≡ rest.at) }
+{
+    match accept(source.tokens, input, Kind::Assign) {
+        None => Ok(input),
+        Some(rest) => {
+            write_designator(
+                builder,
+                at,
+                DesignatorRow {
+                    head,
+                    block: context.block,
+                    is_written: true,
+                },
+            );
+            builder.advance();
+            expression(builder, context, source, rest, depth)
+        }
+    }
+}
+
+/// Parses one statement or more, separated by semicolons.
+#[cycle(statements)]
+pub(crate) fn block(
+    builder: &mut TableBuilder,
+    context: Context,
+    source: &ParserInput,
+    input: Cursor,
+    depth: u32,
+) -> Result<Cursor, Stop>
+    requires { builder.old.number ≡ input.at }
+    ensures effect { Tabulates source.now.tokens.now block_events block_rows context builder.old builder.new result (block_at depth (remaining source.now.tokens.now input)) }
+    ensures number { IfOk result (λ rest. builder.new.number ≡ rest.at) }
+{
+    match statement(builder, context, source, input, depth) {
+        Ok(here) => more_statements(builder, context, source, here, depth),
+        Err(stop) => Err(stop),
+    }
+}
+
+/// Parses the further statements of a sequence, each after a semicolon.
+#[cycle(statements)]
+fn more_statements(
+    builder: &mut TableBuilder,
+    context: Context,
+    source: &ParserInput,
+    input: Cursor,
+    depth: u32,
+) -> Result<Cursor, Stop>
+    requires { builder.old.number ≡ input.at }
+    ensures effect { Tabulates source.now.tokens.now statements_events statements_rows context builder.old builder.new result (many (accept_at kinds.Semicolon) (statement_at depth) (remaining source.now.tokens.now input)) }
+    ensures number { IfOk result (λ rest. builder.new.number ≡ rest.at) }
+{
+    let mut here = input;
+    'more: while let Some(following) = accept(source.tokens, here, Kind::Semicolon) {
+        builder.advance();
+        match statement(builder, context, source, following, depth) {
+            Ok(next) => here = next,
+            Err(stop) => return Err(stop),
+        }
+    }
+    Ok(here)
+}
+
+/// Parses a condition, a keyword, and the statements after it.
+#[cycle(statements)]
+fn branch(
+    builder: &mut TableBuilder,
+    context: Context,
+    source: &ParserInput,
+    input: Cursor,
+    depth: u32,
+    keyword: Kind,
+) -> Result<Cursor, Stop>
+    requires { builder.old.number ≡ input.at }
+    ensures effect { Tabulates source.now.tokens.now (λ b. branch_events b keyword) branch_rows context builder.old builder.new result (branch_with (expr_at depth) (block_at depth) keyword (remaining source.now.tokens.now input)) }
+    ensures number { IfOk result (λ rest. builder.new.number ≡ rest.at) }
+{
+    match expression(builder, context, source, input, depth) {
+        Ok(here) => match pass_word(builder, source.tokens, here, keyword) {
+            Ok(here) => block(builder, context, source, here, depth),
+            Err(stop) => Err(stop),
+        },
+        Err(stop) => Err(stop),
+    }
+}
+
+/// Parses the ELSIF branches, with `keyword` between each condition and its statements.
+#[cycle(statements)]
+fn more_branches(
+    builder: &mut TableBuilder,
+    context: Context,
+    source: &ParserInput,
+    input: Cursor,
+    depth: u32,
+    keyword: Kind,
+) -> Result<Cursor, Stop>
+    requires { builder.old.number ≡ input.at }
+    ensures effect { Tabulates source.now.tokens.now (branches_events keyword) branches_rows context builder.old builder.new result
+        (many (accept_at kinds.Elsif) (branch_with (expr_at depth) (block_at depth) keyword) (remaining source.now.tokens.now input)) }
+    ensures number { IfOk result (λ rest. builder.new.number ≡ rest.at) }
+{
+    let mut here = input;
+    'more: while let Some(following) = accept(source.tokens, here, Kind::Elsif) {
+        builder.advance();
+        match branch(builder, context, source, following, depth, keyword) {
+            Ok(next) => here = next,
+            Err(stop) => return Err(stop),
+        }
+    }
+    Ok(here)
+}
+
+/// Parses the statements after a keyword, if the keyword is next.
+#[cycle(statements)]
+fn optional_block(
+    builder: &mut TableBuilder,
+    context: Context,
+    source: &ParserInput,
+    input: Cursor,
+    depth: u32,
+    word: Kind,
+) -> Result<Cursor, Stop>
+    requires { builder.old.number ≡ input.at }
+    ensures effect { Tabulates source.now.tokens.now (body_events word) body_rows context builder.old builder.new result (optional (accept_at word) (block_at depth) (remaining source.now.tokens.now input)) }
+    ensures number { IfOk result (λ rest. builder.new.number ≡ rest.at) }
+{
+    match accept(source.tokens, input, word) {
+        None => Ok(input),
+        Some(rest) => {
+            builder.advance();
+            block(builder, context, source, rest, depth)
+        }
+    }
+}
+
+/// Parses a statement after its IF.
+#[cycle(statements)]
+fn if_statement(
+    builder: &mut TableBuilder,
+    context: Context,
+    source: &ParserInput,
+    input: Cursor,
+    depth: u32,
+) -> Result<Cursor, Stop>
+    requires { builder.old.number + 1 ≡ input.at }
+    ensures effect { Tabulates source.now.tokens.now stmt_events stmt_rows context builder.old builder.new result
+        (node constructs.Statement (prefixed (marks.word kinds.If) (if_with (expr_at depth) (block_at depth))) (remaining source.now.tokens.now input)) }
+    ensures number { IfOk result (λ rest. builder.new.number ≡ rest.at) }
+{
+    builder.advance();
+    match branch(builder, context, source, input, depth, Kind::Then) {
+        Ok(here) => match more_branches(builder, context, source, here, depth, Kind::Then) {
+            Ok(here) => match optional_block(builder, context, source, here, depth, Kind::Else) {
+                Ok(here) => pass_word(builder, source.tokens, here, Kind::End),
+                Err(stop) => Err(stop),
+            },
+            Err(stop) => Err(stop),
+        },
+        Err(stop) => Err(stop),
+    }
+}
+
+/// Parses a statement after its CASE.
+#[cycle(statements)]
+fn case_statement(
+    builder: &mut TableBuilder,
+    context: Context,
+    source: &ParserInput,
+    input: Cursor,
+    depth: u32,
+) -> Result<Cursor, Stop>
+    requires { builder.old.number + 1 ≡ input.at }
+    ensures effect { Tabulates source.now.tokens.now stmt_events stmt_rows context builder.old builder.new result
+        (node constructs.Statement (prefixed (marks.word kinds.Case) (cases_with (expr_at depth) (block_at depth))) (remaining source.now.tokens.now input)) }
+    ensures number { IfOk result (λ rest. builder.new.number ≡ rest.at) }
+{
+    builder.advance();
+    match expression(builder, context, source, input, depth) {
+        Ok(here) => match pass_word(builder, source.tokens, here, Kind::Of) {
+            Ok(here) => cases(builder, context, source, here, depth),
+            Err(stop) => Err(stop),
+        },
+        Err(stop) => Err(stop),
+    }
+}
+
+/// Parses the cases of a CASE statement, and its END.
+#[cycle(statements)]
+fn cases(
+    builder: &mut TableBuilder,
+    context: Context,
+    source: &ParserInput,
+    input: Cursor,
+    depth: u32,
+) -> Result<Cursor, Stop>
+    requires { builder.old.number ≡ input.at }
+    ensures effect { Tabulates source.now.tokens.now cases_end_events cases_end_rows context builder.old builder.new result
+        (seq (case_with (block_at depth)) (seq (many (accept_at kinds.Bar) (case_with (block_at depth))) (expect_at kinds.End)) (remaining source.now.tokens.now input)) }
+    ensures number { IfOk result (λ rest. builder.new.number ≡ rest.at) }
+{
+    match case(builder, context, source, input, depth) {
+        Ok(here) => match more_cases(builder, context, source, here, depth) {
+            Ok(here) => pass_word(builder, source.tokens, here, Kind::End),
+            Err(stop) => Err(stop),
+        },
+        Err(stop) => Err(stop),
+    }
+}
+
+/// Parses one case, which may be empty.
+#[cycle(statements)]
+fn case(
+    builder: &mut TableBuilder,
+    context: Context,
+    source: &ParserInput,
+    input: Cursor,
+    depth: u32,
+) -> Result<Cursor, Stop>
+    requires { builder.old.number ≡ input.at }
+    ensures effect { Tabulates source.now.tokens.now case_events case_rows context builder.old builder.new result (case_with (block_at depth) (remaining source.now.tokens.now input)) }
+    ensures number { IfOk result (λ rest. builder.new.number ≡ rest.at) }
+{
+    if !begins_label(source.tokens, input) {
+        return Ok(input);
+    }
+    match label_ranges(builder, context, source.tokens, input) {
+        Ok(here) => match pass_word(builder, source.tokens, here, Kind::Colon) {
+            Ok(here) => block(builder, context, source, here, depth),
+            Err(stop) => Err(stop),
+        },
+        Err(stop) => Err(stop),
+    }
+}
+
+/// Parses the further cases, each after a bar.
+#[cycle(statements)]
+fn more_cases(
+    builder: &mut TableBuilder,
+    context: Context,
+    source: &ParserInput,
+    input: Cursor,
+    depth: u32,
+) -> Result<Cursor, Stop>
+    requires { builder.old.number ≡ input.at }
+    ensures effect { Tabulates source.now.tokens.now cases_events cases_rows context builder.old builder.new result (many (accept_at kinds.Bar) (case_with (block_at depth)) (remaining source.now.tokens.now input)) }
+    ensures number { IfOk result (λ rest. builder.new.number ≡ rest.at) }
+{
+    let mut here = input;
+    'more: while let Some(following) = accept(source.tokens, here, Kind::Bar) {
+        builder.advance();
+        match case(builder, context, source, following, depth) {
+            Ok(next) => here = next,
+            Err(stop) => return Err(stop),
+        }
+    }
+    Ok(here)
+}
+
+/// Parses a statement after its WHILE.
+#[cycle(statements)]
+fn while_statement(
+    builder: &mut TableBuilder,
+    context: Context,
+    source: &ParserInput,
+    input: Cursor,
+    depth: u32,
+) -> Result<Cursor, Stop>
+    requires { builder.old.number + 1 ≡ input.at }
+    ensures effect { Tabulates source.now.tokens.now stmt_events stmt_rows context builder.old builder.new result
+        (node constructs.Statement (prefixed (marks.word kinds.While) (while_with (expr_at depth) (block_at depth))) (remaining source.now.tokens.now input)) }
+    ensures number { IfOk result (λ rest. builder.new.number ≡ rest.at) }
+{
+    builder.advance();
+    match branch(builder, context, source, input, depth, Kind::Do) {
+        Ok(here) => match more_branches(builder, context, source, here, depth, Kind::Do) {
+            Ok(here) => pass_word(builder, source.tokens, here, Kind::End),
+            Err(stop) => Err(stop),
+        },
+        Err(stop) => Err(stop),
+    }
+}
+
+/// Parses a statement after its REPEAT.
+#[cycle(statements)]
+fn repeat_statement(
+    builder: &mut TableBuilder,
+    context: Context,
+    source: &ParserInput,
+    input: Cursor,
+    depth: u32,
+) -> Result<Cursor, Stop>
+    requires { builder.old.number + 1 ≡ input.at }
+    ensures effect { Tabulates source.now.tokens.now stmt_events stmt_rows context builder.old builder.new result
+        (node constructs.Statement (prefixed (marks.word kinds.Repeat) (repeat_with (expr_at depth) (block_at depth))) (remaining source.now.tokens.now input)) }
+    ensures number { IfOk result (λ rest. builder.new.number ≡ rest.at) }
+{
+    builder.advance();
+    match block(builder, context, source, input, depth) {
+        Ok(here) => match pass_word(builder, source.tokens, here, Kind::Until) {
+            Ok(here) => expression(builder, context, source, here, depth),
+            Err(stop) => Err(stop),
+        },
+        Err(stop) => Err(stop),
+    }
+}
+
+/// Parses a statement after its FOR.
+#[cycle(statements)]
+fn for_statement(
+    builder: &mut TableBuilder,
+    context: Context,
+    source: &ParserInput,
+    input: Cursor,
+    depth: u32,
+) -> Result<Cursor, Stop>
+    requires { builder.old.number + 1 ≡ input.at }
+    ensures effect { Tabulates source.now.tokens.now stmt_events stmt_rows context builder.old builder.new result
+        (node constructs.Statement (prefixed (marks.word kinds.For) (for_with (expr_at depth) (block_at depth))) (remaining source.now.tokens.now input)) }
+    ensures number { IfOk result (λ rest. builder.new.number ≡ rest.at) }
+{
+    builder.advance();
+    match identifier(source.tokens, input) {
+        Ok((_, here)) => {
+            walk_for_variable(builder, context);
+            match pass_word(builder, source.tokens, here, Kind::Assign) {
+                Ok(here) => match expression(builder, context, source, here, depth) {
+                    Ok(here) => for_limit(builder, context, source, here, depth),
+                    Err(stop) => Err(stop),
+                },
+                Err(stop) => Err(stop),
+            }
+        }
+        Err(stop) => Err(stop),
+    }
+}
+
+/// Parses a FOR statement from its TO on: the limit, the step and the body.
+#[cycle(statements)]
+fn for_limit(
+    builder: &mut TableBuilder,
+    context: Context,
+    source: &ParserInput,
+    input: Cursor,
+    depth: u32,
+) -> Result<Cursor, Stop>
+    requires { builder.old.number ≡ input.at }
+    ensures effect { Tabulates source.now.tokens.now for_limit_events for_limit_rows context builder.old builder.new result
+        (seq (expect_at kinds.To) (seq (expr_at depth) (seq (optional (accept_at kinds.By) (expr_at depth))
+        (seq (expect_at kinds.Do) (seq (block_at depth) (expect_at kinds.End))))) (remaining source.now.tokens.now input)) }
+    ensures number { IfOk result (λ rest. builder.new.number ≡ rest.at) }
+{
+    match pass_word(builder, source.tokens, input, Kind::To) {
+        Ok(here) => match expression(builder, context, source, here, depth) {
+            Ok(here) => match for_step(builder, context, source, here, depth) {
+                Ok(here) => for_body(builder, context, source, here, depth),
+                Err(stop) => Err(stop),
+            },
+            Err(stop) => Err(stop),
+        },
+        Err(stop) => Err(stop),
+    }
+}
+
+/// Parses BY and the step of a FOR statement, if BY is next.
+fn for_step(
+    builder: &mut TableBuilder,
+    context: Context,
+    source: &ParserInput,
+    input: Cursor,
+    depth: u32,
+) -> Result<Cursor, Stop>
+    requires { builder.old.number ≡ input.at }
+    ensures effect { Tabulates source.now.tokens.now (value_events kinds.By) value_rows context builder.old builder.new result (optional (accept_at kinds.By) (expr_at depth) (remaining source.now.tokens.now input)) }
+    ensures number { IfOk result (λ rest. builder.new.number ≡ rest.at) }
+{
+    match accept(source.tokens, input, Kind::By) {
+        None => Ok(input),
+        Some(rest) => {
+            builder.advance();
+            expression(builder, context, source, rest, depth)
+        }
+    }
+}
+
+/// Parses the body of a FOR statement, from DO to END.
+#[cycle(statements)]
+fn for_body(
+    builder: &mut TableBuilder,
+    context: Context,
+    source: &ParserInput,
+    input: Cursor,
+    depth: u32,
+) -> Result<Cursor, Stop>
+    requires { builder.old.number ≡ input.at }
+    ensures effect { Tabulates source.now.tokens.now for_body_events for_body_rows context builder.old builder.new result (seq (expect_at kinds.Do) (seq (block_at depth) (expect_at kinds.End)) (remaining source.now.tokens.now input)) }
+    ensures number { IfOk result (λ rest. builder.new.number ≡ rest.at) }
+{
+    match pass_word(builder, source.tokens, input, Kind::Do) {
+        Ok(here) => match block(builder, context, source, here, depth) {
+            Ok(here) => pass_word(builder, source.tokens, here, Kind::End),
+            Err(stop) => Err(stop),
+        },
+        Err(stop) => Err(stop),
+    }
+}

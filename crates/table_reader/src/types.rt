@@ -1,0 +1,428 @@
+//! Types (Oberon-07 report, section 6). `depth` is the number of nested levels that are left for what a function parses. Each function
+//! parses one production, as the parser does, and appends its table entries.
+
+ghost use Rattle.std.specs.Prelude.{◌≡◌, ◌+◌, IfOk};
+ghost use Rattle.ob_scan.specs.declared.kind.Kind.TheVariants as kinds;
+ghost use Rattle.ob_tree.specs.Constructs as constructs;
+ghost use Rattle.ob_tree.specs.TreeEvents.{word};
+ghost use Rattle.ob_tree.specs.Expressions.{expr_list_events, expr_events};
+ghost use Rattle.ob_tree.specs.Types.{type_events, fields_events, var_events};
+ghost use Rattle.ob_tree.specs.Widths.{base_width};
+ghost use Rattle.table_rules.specs.Types.{fields_rows, lengths_rows, type_rows, var_rows};
+ghost use Rattle.ob_parse.specs.Combinators.{accept_at, expect_at, many, node, nothing, optional, prefixed, seq, several, unless};
+ghost use Rattle.ob_parse.specs.AgreesWith.{remaining};
+ghost use Rattle.ob_parse.specs.ReadExpressions.{expr_at};
+ghost use Rattle.ob_parse.specs.ReadNames as readers;
+ghost use Rattle.ob_parse.specs.ReadTypes.{field_start, fields_with, record_with, some_parameters_at, type_at, type_with, var_with};
+ghost use Rattle.table_reader.specs.TypeShapes.{prefixed_type_events, prefixed_type_rows, closed_events, ended_events, ended_rows, field_events, field_rows, more_lengths_rows, more_events, more_fields_rows, record_stage, some_fields_events, some_fields_rows};
+ghost use Rattle.table_reader.specs.Tabulating.{Tabulates, TabulatesBy};
+
+use crate::expressions::expression;
+use crate::names::declared_names;
+use crate::parameters::some_parameters;
+use crate::source::ParserInput;
+use crate::words::{pass_word, skip_word};
+use module_table::builder::{Context, TableBuilder, block_from, decl_group_at, declaring_from};
+use module_table::{Block, DeclKind, Part};
+use ob_parse::cursor::Cursor;
+use ob_parse::names::qualident_after;
+use ob_parse::stop::Stop;
+use ob_parse::tokens::{accept, depth_stop, is_at};
+use ob_parse::types::{accept_fields, base, begins_type};
+use ob_scan::{Kind, Token};
+use ob_tree::name::Qualident;
+use ob_tree::token::Leaf;
+use table_rules::walk::types::{
+    add_part_row, add_record, record_context, type_from, walk_base, walk_type_name,
+};
+
+/// Parses a type, for which `depth` levels of nesting are left. It is a level itself.
+#[cycle(types)]
+pub(crate) fn type_expression(
+    builder: &mut TableBuilder,
+    context: Context,
+    source: &ParserInput,
+    input: Cursor,
+    depth: u32,
+) -> Result<Cursor, Stop>
+    requires { builder.old.number ≡ input.at }
+    ensures effect { Tabulates source.now.tokens.now type_events type_rows context builder.old builder.new result (type_at depth (remaining source.now.tokens.now input)) }
+    ensures number { IfOk result (λ rest. builder.new.number ≡ rest.at) }
+{
+    if depth == 0 {
+        return Err(depth_stop(source.tokens, input, begins_type(source.tokens, input)));
+    }
+    type_within(builder, context, source, input, depth - 1)
+}
+
+/// Parses a type, in whose parts `depth` levels of nesting are left.
+#[cycle(types)]
+fn type_within(
+    builder: &mut TableBuilder,
+    context: Context,
+    source: &ParserInput,
+    input: Cursor,
+    depth: u32,
+) -> Result<Cursor, Stop>
+    requires { builder.old.number ≡ input.at }
+    ensures effect { Tabulates source.now.tokens.now type_events type_rows context builder.old builder.new result (type_with (expr_at depth) (type_at depth) (remaining source.now.tokens.now input)) }
+    ensures number { IfOk result (λ rest. builder.new.number ≡ rest.at) }
+{
+    match input.next(source.tokens) {
+        Some((Leaf::Name(head), rest)) => named(builder, context, source.tokens, head, rest),
+        Some((Leaf::Word(Kind::Array), rest)) => array(builder, context, source, rest, depth),
+        Some((Leaf::Word(Kind::Record), rest)) => record(builder, context, source, rest, depth),
+        Some((Leaf::Word(Kind::Pointer), rest)) => pointer(builder, context, source, rest, depth),
+        Some((Leaf::Word(Kind::Procedure), rest)) => procedure(
+            builder,
+            context,
+            source.tokens,
+            rest,
+        ),
+        _ => Err(Stop::Unexpected(input)),
+    }
+}
+
+/// Parses a type name after its first identifier, which has the index `head`.
+fn named(
+    builder: &mut TableBuilder,
+    context: Context,
+    tokens: &[Token],
+    head: u32,
+    input: Cursor,
+) -> Result<Cursor, Stop>
+    requires { builder.old.number + 1 ≡ input.at }
+    ensures effect { Tabulates tokens.now type_events type_rows context builder.old builder.new result (node constructs.NamedType (readers.qualident_after head) (remaining tokens.now input)) }
+    ensures number { IfOk result (λ rest. builder.new.number ≡ rest.at) }
+{
+    match qualident_after(tokens, head, input) {
+        Ok((name, rest)) => {
+            walk_type_name(builder, context, name);
+            Ok(rest)
+        }
+        Err(stop) => Err(stop),
+    }
+}
+
+/// Parses a type after its ARRAY.
+#[cycle(types)]
+fn array(
+    builder: &mut TableBuilder,
+    context: Context,
+    source: &ParserInput,
+    input: Cursor,
+    depth: u32,
+) -> Result<Cursor, Stop>
+    requires { builder.old.number + 1 ≡ input.at }
+    ensures effect { Tabulates source.now.tokens.now type_events type_rows context builder.old builder.new result
+        (node constructs.ArrayType (prefixed (word kinds.Array) (seq (several kinds.Comma (expr_at depth)) (seq (expect_at kinds.Of) (type_at depth)))) (remaining source.now.tokens.now input)) }
+    ensures number { IfOk result (λ rest. builder.new.number ≡ rest.at) }
+{
+    add_part_row(builder, context, Part::Array);
+    builder.advance();
+    match lengths(builder, context, source, input, depth) {
+        Ok(here) => prefixed_type(
+            builder,
+            type_from(context, false),
+            source,
+            here,
+            Kind::Of,
+            depth,
+        ),
+        Err(stop) => Err(stop),
+    }
+}
+
+/// Parses the lengths of an array.
+fn lengths(
+    builder: &mut TableBuilder,
+    context: Context,
+    source: &ParserInput,
+    input: Cursor,
+    depth: u32,
+) -> Result<Cursor, Stop>
+    requires { builder.old.number ≡ input.at }
+    ensures effect { Tabulates source.now.tokens.now expr_list_events lengths_rows context builder.old builder.new result (several kinds.Comma (expr_at depth) (remaining source.now.tokens.now input)) }
+    ensures number { IfOk result (λ rest. builder.new.number ≡ rest.at) }
+{
+    match expression(builder, context, source, input, depth) {
+        Ok(here) => more_lengths(builder, context, source, here, depth),
+        Err(stop) => Err(stop),
+    }
+}
+
+/// Parses the further lengths of an array, each after a comma. Each is an array of its own.
+fn more_lengths(
+    builder: &mut TableBuilder,
+    context: Context,
+    source: &ParserInput,
+    input: Cursor,
+    depth: u32,
+) -> Result<Cursor, Stop>
+    requires { builder.old.number ≡ input.at }
+    ensures effect { Tabulates source.now.tokens.now (more_events kinds.Comma expr_events) more_lengths_rows context builder.old builder.new result (many (accept_at kinds.Comma) (expr_at depth) (remaining source.now.tokens.now input)) }
+    ensures number { IfOk result (λ rest. builder.new.number ≡ rest.at) }
+{
+    let mut here = input;
+    'more: while let Some(following) = accept(source.tokens, here, Kind::Comma) {
+        add_part_row(builder, context, Part::Array);
+        builder.advance();
+        match expression(builder, context, source, following, depth) {
+            Ok(next) => here = next,
+            Err(stop) => return Err(stop),
+        }
+    }
+    Ok(here)
+}
+
+/// Parses a type after a token of this kind. This function is always inlined, as are others of its kind, so that a level of nesting takes
+/// as many calls as in the parser.
+#[inline(always)]
+#[cycle(types)]
+fn prefixed_type(
+    builder: &mut TableBuilder,
+    context: Context,
+    source: &ParserInput,
+    input: Cursor,
+    kind: Kind,
+    depth: u32,
+) -> Result<Cursor, Stop>
+    requires { builder.old.number ≡ input.at }
+    ensures effect { Tabulates source.now.tokens.now (prefixed_type_events kind) prefixed_type_rows context builder.old builder.new result (seq (expect_at kind) (type_at depth) (remaining source.now.tokens.now input)) }
+    ensures number { IfOk result (λ rest. builder.new.number ≡ rest.at) }
+{
+    match pass_word(builder, source.tokens, input, kind) {
+        Ok(here) => type_expression(builder, context, source, here, depth),
+        Err(stop) => Err(stop),
+    }
+}
+
+/// Parses a type after its POINTER.
+#[cycle(types)]
+fn pointer(
+    builder: &mut TableBuilder,
+    context: Context,
+    source: &ParserInput,
+    input: Cursor,
+    depth: u32,
+) -> Result<Cursor, Stop>
+    requires { builder.old.number + 1 ≡ input.at }
+    ensures effect { Tabulates source.now.tokens.now type_events type_rows context builder.old builder.new result
+        (node constructs.PointerType (prefixed (word kinds.Pointer) (seq (expect_at kinds.To) (type_at depth))) (remaining source.now.tokens.now input)) }
+    ensures number { IfOk result (λ rest. builder.new.number ≡ rest.at) }
+{
+    add_part_row(builder, context, Part::Pointer);
+    builder.advance();
+    prefixed_type(
+        builder,
+        type_from(context, true),
+        source,
+        input,
+        Kind::To,
+        depth,
+    )
+}
+
+/// Parses a procedure type after its PROCEDURE, which opens a block.
+fn procedure(
+    builder: &mut TableBuilder,
+    context: Context,
+    tokens: &[Token],
+    input: Cursor,
+) -> Result<Cursor, Stop>
+    requires { builder.old.number + 1 ≡ input.at }
+    ensures effect { Tabulates tokens.now type_events type_rows context builder.old builder.new result
+        (node constructs.ProcedureType (prefixed (word kinds.Procedure) some_parameters_at) (remaining tokens.now input)) }
+    ensures number { IfOk result (λ rest. builder.new.number ≡ rest.at) }
+{
+    add_part_row(builder, context, Part::Procedure);
+    let first = builder.number;
+    builder.add_block(Block {
+        first,
+        outer: context.block,
+    });
+    builder.advance();
+    some_parameters(builder, block_from(context, first), tokens, input)
+}
+
+/// Parses a record after its RECORD. The entry of the record has its base, which is parsed first.
+#[cycle(types)]
+fn record(
+    builder: &mut TableBuilder,
+    context: Context,
+    source: &ParserInput,
+    input: Cursor,
+    depth: u32,
+) -> Result<Cursor, Stop>
+    requires { builder.old.number + 1 ≡ input.at }
+    ensures effect { Tabulates source.now.tokens.now type_events type_rows context builder.old builder.new result
+        (node constructs.RecordType (prefixed (word kinds.Record) (record_with (type_at depth))) (remaining source.now.tokens.now input)) }
+    ensures number { IfOk result (λ rest. builder.new.number ≡ rest.at) }
+{
+    match base(source.tokens, input) {
+        Ok((base, here)) => {
+            add_part_row(builder, context, Part::Record);
+            record_parts(builder, context, source, here, base, depth)
+        }
+        Err(stop) => Err(stop),
+    }
+}
+
+/// Parses a record with this base, after the base.
+#[inline(always)]
+#[cycle(types)]
+fn record_parts(
+    builder: &mut TableBuilder,
+    context: Context,
+    source: &ParserInput,
+    input: Cursor,
+    base: Option<Qualident>,
+    depth: u32,
+) -> Result<Cursor, Stop>
+    requires { builder.old.number + 1 + base_width base ≡ input.at }
+    ensures effect { TabulatesBy source.now.tokens.now closed_events (record_stage base context) builder.old builder.new result (seq (optional (unless kinds.End) (fields_with (type_at depth))) (expect_at kinds.End) (remaining source.now.tokens.now input)) }
+    ensures number { IfOk result (λ rest. builder.new.number ≡ rest.at) }
+{
+    let around = record_context(context, builder.number);
+    add_record(builder, context, base);
+    builder.advance();
+    walk_base(builder, around, base);
+    match some_fields(builder, around, source, input, depth) {
+        Ok(here) => pass_word(builder, source.tokens, here, Kind::End),
+        Err(stop) => Err(stop),
+    }
+}
+
+/// Parses the field lists of a record, if its END is not next.
+#[cycle(types)]
+fn some_fields(
+    builder: &mut TableBuilder,
+    context: Context,
+    source: &ParserInput,
+    input: Cursor,
+    depth: u32,
+) -> Result<Cursor, Stop>
+    requires { builder.old.number ≡ input.at }
+    ensures effect { Tabulates source.now.tokens.now some_fields_events some_fields_rows context builder.old builder.new result (optional (unless kinds.End) (fields_with (type_at depth)) (remaining source.now.tokens.now input)) }
+    ensures number { IfOk result (λ rest. builder.new.number ≡ rest.at) }
+{
+    if is_at(source.tokens, input, Kind::End) {
+        return Ok(input);
+    }
+    fields(builder, context, source, input, depth)
+}
+
+/// Parses the field lists of a record.
+#[cycle(types)]
+fn fields(
+    builder: &mut TableBuilder,
+    context: Context,
+    source: &ParserInput,
+    input: Cursor,
+    depth: u32,
+) -> Result<Cursor, Stop>
+    requires { builder.old.number ≡ input.at }
+    ensures effect { Tabulates source.now.tokens.now fields_events fields_rows context builder.old builder.new result (fields_with (type_at depth) (remaining source.now.tokens.now input)) }
+    ensures number { IfOk result (λ rest. builder.new.number ≡ rest.at) }
+{
+    match field_list(builder, context, source, input, depth) {
+        Ok(here) => fields_tail(builder, context, source, here, depth),
+        Err(stop) => Err(stop),
+    }
+}
+
+/// Parses the further field lists, and the semicolon that may follow them.
+#[inline(always)]
+#[cycle(types)]
+fn fields_tail(
+    builder: &mut TableBuilder,
+    context: Context,
+    source: &ParserInput,
+    input: Cursor,
+    depth: u32,
+) -> Result<Cursor, Stop>
+    requires { builder.old.number ≡ input.at }
+    ensures effect { Tabulates source.now.tokens.now ended_events ended_rows context builder.old builder.new result
+        (seq (many field_start (node constructs.FieldList (var_with (type_at depth)))) (optional (accept_at kinds.Semicolon) nothing) (remaining source.now.tokens.now input)) }
+    ensures number { IfOk result (λ rest. builder.new.number ≡ rest.at) }
+{
+    match more_fields(builder, context, source, input, depth) {
+        Ok(here) => Ok(skip_word(builder, context, source.tokens, here, Kind::Semicolon)),
+        Err(stop) => Err(stop),
+    }
+}
+
+/// Parses the further field lists, each after a semicolon.
+#[cycle(types)]
+fn more_fields(
+    builder: &mut TableBuilder,
+    context: Context,
+    source: &ParserInput,
+    input: Cursor,
+    depth: u32,
+) -> Result<Cursor, Stop>
+    requires { builder.old.number ≡ input.at }
+    ensures effect { Tabulates source.now.tokens.now (more_events kinds.Semicolon field_events) more_fields_rows context builder.old builder.new result
+        (many field_start (node constructs.FieldList (var_with (type_at depth))) (remaining source.now.tokens.now input)) }
+    ensures number { IfOk result (λ rest. builder.new.number ≡ rest.at) }
+{
+    let mut here = input;
+    'more: while let Some(following) = accept_fields(source.tokens, here) {
+        builder.advance();
+        match field_list(builder, context, source, following, depth) {
+            Ok(next) => here = next,
+            Err(stop) => return Err(stop),
+        }
+    }
+    Ok(here)
+}
+
+/// Parses the fields of one type.
+#[cycle(types)]
+fn field_list(
+    builder: &mut TableBuilder,
+    context: Context,
+    source: &ParserInput,
+    input: Cursor,
+    depth: u32,
+) -> Result<Cursor, Stop>
+    requires { builder.old.number ≡ input.at }
+    ensures effect { Tabulates source.now.tokens.now field_events field_rows context builder.old builder.new result (node constructs.FieldList (var_with (type_at depth)) (remaining source.now.tokens.now input)) }
+    ensures number { IfOk result (λ rest. builder.new.number ≡ rest.at) }
+{
+    let first = builder.number;
+    let row = decl_group_at(DeclKind::Field, context, first);
+    let at = builder.open(row);
+    match var_declaration(
+        builder,
+        declaring_from(context, first),
+        source,
+        input,
+        depth,
+    ) {
+        Ok(here) => {
+            builder.close(at, row);
+            Ok(here)
+        }
+        Err(stop) => Err(stop),
+    }
+}
+
+/// Parses variables or fields of one type.
+#[cycle(types)]
+pub(crate) fn var_declaration(
+    builder: &mut TableBuilder,
+    context: Context,
+    source: &ParserInput,
+    input: Cursor,
+    depth: u32,
+) -> Result<Cursor, Stop>
+    requires { builder.old.number ≡ input.at }
+    ensures effect { Tabulates source.now.tokens.now var_events var_rows context builder.old builder.new result (var_with (type_at depth) (remaining source.now.tokens.now input)) }
+    ensures number { IfOk result (λ rest. builder.new.number ≡ rest.at) }
+{
+    match declared_names(builder, context, source.tokens, input) {
+        Ok(here) => prefixed_type(builder, context, source, here, Kind::Colon, depth),
+        Err(stop) => Err(stop),
+    }
+}

@@ -1,0 +1,67 @@
+//! Single tokens, and the advance of the builder by them.
+
+ghost use Rattle.ob_tree.specs.TreeEvents.{word};
+ghost use Rattle.std.specs.Prelude.{◌≡◌, ◌+◌, IfOk};
+ghost use Rattle.module_table.specs.TableStages.{after, advanced, PerformsStep};
+ghost use Rattle.ob_parse.specs.Combinators.{accept_at, expect_at, nothing, optional};
+ghost use Rattle.ob_parse.specs.AgreesWith.{remaining};
+ghost use Rattle.table_reader.specs.Tabulating.{TabulatesBy, IsTabulated};
+ghost use Rattle.table_reader.specs.TypeShapes.{optional_word_events, optional_word_rows};
+
+use module_table::builder::{Context, TableBuilder};
+use ob_parse::cursor::Cursor;
+use ob_parse::stop::Stop;
+use ob_parse::tokens::{expect, skip};
+use ob_scan::{Kind, Token};
+
+/// The cursor after the next token, which has to be of this kind.
+pub(crate) fn pass_word(
+    builder: &mut TableBuilder,
+    tokens: &[Token],
+    input: Cursor,
+    kind: Kind,
+) -> Result<Cursor, Stop>
+    requires { builder.old.number ≡ input.at }
+    ensures effect { TabulatesBy tokens.now (λ (_ : Unit {0}). word kind) (λ _ s. advanced s) builder.old builder.new result (expect_at kind (remaining tokens.now input)) }
+    ensures number { IfOk result (λ rest. builder.new.number ≡ rest.at) }
+    // The cursor is one token further.
+    ensures advanced { IfOk result (λ rest. rest.at ≡ input.at + 1) }
+{
+    match expect(tokens, input, kind) {
+        Ok(rest) => {
+            builder.advance();
+            Ok(rest)
+        }
+        Err(stop) => Err(stop),
+    }
+}
+
+/// The cursor after the next token if it is of this kind, else the one before it.
+pub(crate) fn skip_word(
+    builder: &mut TableBuilder,
+    context: Context,
+    tokens: &[Token],
+    input: Cursor,
+    kind: Kind,
+) -> Cursor
+    requires { builder.old.number ≡ input.at }
+    ensures effect { IsTabulated tokens.now (optional_word_events kind) (λ b. after (optional_word_rows b) context) builder.old builder.new result (optional (accept_at kind) nothing (remaining tokens.now input)) }
+    ensures number { builder.new.number ≡ result.at }
+{
+    let (stands, rest) = skip(tokens, input, kind);
+    if stands {
+        builder.advance();
+    }
+    rest
+}
+
+/// Advances the builder by a token that was read already.
+pub(crate) fn pass_token(builder: &mut TableBuilder, rest: Cursor) -> Cursor
+    requires { builder.old.number + 1 ≡ rest.at }
+    ensures cursor { result ≡ rest }
+    ensures stage { PerformsStep advanced builder.old builder.new }
+    ensures number { builder.new.number ≡ result.at }
+{
+    builder.advance();
+    rest
+}

@@ -1,0 +1,8 @@
+pub mod Searches
+pub mod Link
+pub mod Extending
+pub mod ListedFields
+pub mod PathOrder
+pub mod BuiltPaths
+pub mod Progress
+pub mod Memoized

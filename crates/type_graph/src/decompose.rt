@@ -1,0 +1,267 @@
+//! Builds the heavy paths of a graph's records.
+ghost use Rattle.std.specs.Prelude.{◌≡◌, ◌<◌, true, suc, length, IfOk, IfSome, OnOk};
+ghost use Rattle.std.specs.Bool.{OnTrue};
+ghost use Rattle.type_graph.specs.Extending.{AreParents};
+ghost use Rattle.type_graph.specs.Link.{AreTypeEnds};
+ghost use Rattle.type_graph.specs.BuiltPaths.{AreHeavyPaths};
+ghost use Rattle.type_graph.specs.PathOrder.{AddsField, IsSortedByName, AreEnds, HasAllFields, ContinuesPath, IsPathTo};
+
+use crate::field_entries::{FieldEntry, sort_by_name};
+use crate::forest::concat_paths;
+use crate::graph::TypeGraph;
+use crate::listed::RecordField;
+use crate::memo::MemoTable;
+use crate::name_filter::NameFilter;
+use crate::paths::HeavyPaths;
+use crate::records::cached_parent;
+use indexmap::IndexSet;
+use std::alloc::{AllocError, Global};
+use std::hash::{DefaultHasher, Hash, Hasher};
+use text_hash::Seed;
+
+/// A seed from the digest of the records (SipHash-1-3; Aumasson and Bernstein 2012), for a table of just these: records chosen to collide
+/// under one seed change the seed, whichever modules they are from.
+fn seed_of<R: Hash>(records: &[R]) -> Seed {
+    let mut digest = DefaultHasher::new();
+    for record in records {
+        record.hash(&mut digest);
+    }
+    Seed::for_keys(&digest.finish().to_le_bytes(), records.len())
+}
+
+/// The distinct records of a list.
+fn distinct_records<R: Copy + Eq + Hash + Drop>(
+    alloc: Global,
+    listed: &[R],
+) -> Result<IndexSet<R, Seed>, AllocError> {
+    let mut records = IndexSet::with_capacity_and_hasher(alloc, listed.len(), seed_of(listed))?;
+    for record in listed {
+        records.insert(*record)?;
+    }
+    Ok(records)
+}
+
+/// The indexes of the records' parents.
+fn parent_slots<G: TypeGraph>(
+    graph: &G,
+    memo: &mut MemoTable<G::Declaration, Option<G::Node>>,
+    parents: &mut MemoTable<G::Record, Option<G::Record>>,
+    records: &IndexSet<G::Record, Seed>,
+) -> Result<Vec<Option<usize>>, AllocError>
+    requires memo { AreTypeEnds (G.shape graph.now) true G.Declaration.eq memo.old }
+    requires parents { AreParents (G.shape graph.now) (G.base_of graph.now) G.Record.eq parents.old }
+    ensures memo { AreTypeEnds (G.shape graph.now) true G.Declaration.eq memo.new }
+    ensures parents { AreParents (G.shape graph.now) (G.base_of graph.now) G.Record.eq parents.new }
+{
+    let mut places = Vec::with_capacity(memo.allocator(), records.len())?;
+    for record in records.as_slice() {
+        let parent = cached_parent(graph, memo, parents, *record)?;
+        let slot = match parent {
+            None => None,
+            Some(parent) => records.get_index_of(&parent),
+        };
+        places.push(slot)?;
+    }
+    Ok(places)
+}
+
+/// Whether the record after this index is the parent of the record with this index.
+fn continues_path<G: TypeGraph>(
+    graph: &G,
+    parents: &MemoTable<G::Record, Option<G::Record>>,
+    paths: &[G::Record],
+    slot: usize,
+) -> bool
+    requires parents { AreParents (G.shape graph.now) (G.base_of graph.now) G.Record.eq parents.now }
+    requires within { suc slot < length paths.now }
+    ensures { OnTrue result (ContinuesPath (G.shape graph.now) (G.base_of graph.now) paths.now slot) }
+{
+    match parents.get(paths[slot]) {
+        Some(Some(parent)) => parent == paths[slot + 1],
+        _ => false,
+    }
+}
+
+/// The last index of the path that contains an index, given those of the later indexes.
+fn path_end<G: TypeGraph>(
+    graph: &G,
+    parents: &MemoTable<G::Record, Option<G::Record>>,
+    paths: &[G::Record],
+    ends: &[usize],
+    slot: usize,
+) -> usize
+    requires parents { AreParents (G.shape graph.now) (G.base_of graph.now) G.Record.eq parents.now }
+    requires within { slot < length paths.now }
+    requires each { length ends.now ≡ length paths.now }
+    requires behind { AreEnds (G.shape graph.now) (G.base_of graph.now) (suc slot) paths.now ends.now }
+    ensures { IsPathTo (G.shape graph.now) (G.base_of graph.now) paths.now slot result }
+{
+    let next = slot + 1;
+    if next >= paths.len() {
+        return slot;
+    }
+    if continues_path(graph, parents, paths, slot) {
+        ends[next]
+    } else {
+        slot
+    }
+}
+
+/// The last index of the path of each index, computed from the back.
+fn path_ends<G: TypeGraph>(
+    graph: &G,
+    alloc: Global,
+    parents: &MemoTable<G::Record, Option<G::Record>>,
+    paths: &[G::Record],
+) -> Result<Vec<usize>, AllocError>
+    requires { AreParents (G.shape graph.now) (G.base_of graph.now) G.Record.eq parents.now }
+    ensures { IfOk result (λ ends. AreEnds (G.shape graph.now) (G.base_of graph.now) 0 paths.now ends.items) }
+{
+    let mut ends = vec![in alloc; 0_usize; paths.len()]?;
+    let mut slot = paths.len();
+    'places: while slot > 0 {
+        slot -= 1;
+        let end = path_end(graph, parents, paths, ends.as_slice(), slot);
+        ends[slot] = end;
+    }
+    Ok(ends)
+}
+
+/// Adds a field, if its record is in the sequence.
+fn add_field<R: Copy + Eq + Hash + Drop>(
+    alloc: Global,
+    paths: &IndexSet<R, Seed>,
+    field_entries: &mut Vec<FieldEntry>,
+    field: &RecordField<'_, R>,
+) -> Result<(), AllocError>
+    ensures { OnOk result (AddsField R.eq paths.now.keys field.now field_entries.old.items field_entries.new.items) }
+{
+    match paths.get_index_of(&field.of_record) {
+        None => Ok(()),
+        Some(slot) => {
+            let name = field.name.to_vec(alloc)?;
+            field_entries.push(FieldEntry { name, slot })?;
+            Ok(())
+        }
+    }
+}
+
+/// The fields of the records in the sequence.
+fn collect_fields<G: TypeGraph>(
+    graph: &G,
+    alloc: Global,
+    paths: &IndexSet<G::Record, Seed>,
+) -> Result<Vec<FieldEntry>, AllocError>
+    ensures { IfOk result (λ field_entries. HasAllFields (G.shape graph.now) (G.base_of graph.now) (G.field_of graph.now) paths.now.keys field_entries.items) }
+{
+    let listed = graph.fields(alloc)?;
+    let mut field_entries = Vec::with_capacity(alloc, paths.len())?;
+    for field in &listed {
+        add_field(alloc, paths, &mut field_entries, field)?;
+    }
+    Ok(field_entries)
+}
+
+/// The fields of the records in the sequence, sorted by name and index.
+fn sorted_fields<G: TypeGraph>(
+    graph: &G,
+    alloc: Global,
+    paths: &IndexSet<G::Record, Seed>,
+) -> Result<Vec<FieldEntry>, AllocError>
+    ensures field_entries { IfOk result (λ field_entries. HasAllFields (G.shape graph.now) (G.base_of graph.now) (G.field_of graph.now) paths.now.keys field_entries.items) }
+    ensures by_name { IfOk result (λ field_entries. IsSortedByName field_entries.items) }
+{
+    let mut field_entries = collect_fields(graph, alloc, paths)?;
+    sort_by_name(&mut field_entries);
+    Ok(field_entries)
+}
+
+/// The sequence of the paths of these records.
+fn path_order<G: TypeGraph>(
+    graph: &G,
+    memo: &mut MemoTable<G::Declaration, Option<G::Node>>,
+    parents: &mut MemoTable<G::Record, Option<G::Record>>,
+    listed: &[G::Record],
+) -> Result<IndexSet<G::Record, Seed>, AllocError>
+    requires memo { AreTypeEnds (G.shape graph.now) true G.Declaration.eq memo.old }
+    requires parents { AreParents (G.shape graph.now) (G.base_of graph.now) G.Record.eq parents.old }
+    ensures memo { AreTypeEnds (G.shape graph.now) true G.Declaration.eq memo.new }
+    ensures parents { AreParents (G.shape graph.now) (G.base_of graph.now) G.Record.eq parents.new }
+{
+    let alloc = memo.allocator();
+    let records = distinct_records(alloc, listed)?;
+    let places = parent_slots(graph, memo, parents, &records)?;
+    concat_paths(
+        alloc,
+        *records.hasher(),
+        records.as_slice(),
+        places.as_slice(),
+    )
+}
+
+/// The heavy paths of these records; `None` if there are no records.
+pub(crate) fn decompose<G: TypeGraph>(
+    graph: &G,
+    memo: &mut MemoTable<G::Declaration, Option<G::Node>>,
+    parents: &mut MemoTable<G::Record, Option<G::Record>>,
+    listed: &[G::Record],
+) -> Result<Option<Box<HeavyPaths<G::Record>>>, AllocError>
+    requires memo { AreTypeEnds (G.shape graph.now) true G.Declaration.eq memo.old }
+    requires parents { AreParents (G.shape graph.now) (G.base_of graph.now) G.Record.eq parents.old }
+    ensures memo { AreTypeEnds (G.shape graph.now) true G.Declaration.eq memo.new }
+    ensures parents { AreParents (G.shape graph.now) (G.base_of graph.now) G.Record.eq parents.new }
+    ensures paths { IfOk result (λ o. IfSome o (λ l. AreHeavyPaths (G.shape graph.now) (G.base_of graph.now) (G.field_of graph.now) l.value)) }
+{
+    if listed.is_empty() {
+        return Ok(None);
+    }
+    let alloc = memo.allocator();
+    let records = path_order(graph, memo, parents, listed)?;
+    let ends = path_ends(graph, alloc, parents, records.as_slice())?;
+    let field_entries = sorted_fields(graph, alloc, &records)?;
+    let built = HeavyPaths {
+        records,
+        ends,
+        field_entries,
+    };
+    Ok(Some(Box::new(alloc, built)?))
+}
+
+/// The heavy paths of all records of a graph.
+fn decompose_all<G: TypeGraph>(
+    graph: &G,
+    memo: &mut MemoTable<G::Declaration, Option<G::Node>>,
+    parents: &mut MemoTable<G::Record, Option<G::Record>>,
+) -> Result<Option<Box<HeavyPaths<G::Record>>>, AllocError>
+    requires memo { AreTypeEnds (G.shape graph.now) true G.Declaration.eq memo.old }
+    requires parents { AreParents (G.shape graph.now) (G.base_of graph.now) G.Record.eq parents.old }
+    ensures memo { AreTypeEnds (G.shape graph.now) true G.Declaration.eq memo.new }
+    ensures parents { AreParents (G.shape graph.now) (G.base_of graph.now) G.Record.eq parents.new }
+    ensures paths { IfOk result (λ o. IfSome o (λ l. AreHeavyPaths (G.shape graph.now) (G.base_of graph.now) (G.field_of graph.now) l.value)) }
+{
+    let listed = graph.records(memo.allocator())?;
+    decompose(graph, memo, parents, listed.as_slice())
+}
+
+/// Builds the heavy paths once that is due. If an allocation fails there are none, and searches climb from base to base.
+pub(crate) fn decompose_if_due<G: TypeGraph>(
+    graph: &G,
+    memo: &mut MemoTable<G::Declaration, Option<G::Node>>,
+    parents: &mut MemoTable<G::Record, Option<G::Record>>,
+    paths: &mut Option<Box<HeavyPaths<G::Record>>>,
+    name_filter: &mut NameFilter,
+)
+    requires memo { AreTypeEnds (G.shape graph.now) true G.Declaration.eq memo.old }
+    requires parents { AreParents (G.shape graph.now) (G.base_of graph.now) G.Record.eq parents.old }
+    requires paths { IfSome paths.old (λ l. AreHeavyPaths (G.shape graph.now) (G.base_of graph.now) (G.field_of graph.now) l.value) }
+    ensures memo { AreTypeEnds (G.shape graph.now) true G.Declaration.eq memo.new }
+    ensures parents { AreParents (G.shape graph.now) (G.base_of graph.now) G.Record.eq parents.new }
+    ensures paths { IfSome paths.new (λ l. AreHeavyPaths (G.shape graph.now) (G.base_of graph.now) (G.field_of graph.now) l.value) }
+{
+    if paths.is_some() || !name_filter.is_build_due(graph) {
+        return;
+    }
+    if let Ok(built) = decompose_all(graph, memo, parents) {
+        *paths = built;
+    }
+}

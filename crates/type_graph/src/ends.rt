@@ -1,0 +1,135 @@
+//! The ends of types, memoized for later searches.
+ghost use Rattle.std.specs.Prelude.{◌≡◌, [], IfOk, IfSome, true};
+ghost use Rattle.std.specs.List.{All};
+ghost use Rattle.type_graph.specs.Link.{AreEnded, AreTypeEnds, IsTypeEnd, IsTypeEndOf};
+
+use crate::detector::{CycleDetector, LONG, closes_cycle, new_detector, visit};
+use crate::graph::TypeGraph;
+use crate::memo::MemoTable;
+use crate::shape::Shape;
+use std::alloc::AllocError;
+
+/// The precomputed end of a type. A search of fewer than `LONG` steps doesn't ask for it.
+fn end_if_precomputed<G: TypeGraph>(
+    graph: &G,
+    pointers: bool,
+    steps: u64,
+    node: G::Node,
+) -> Option<Option<G::Node>>
+    ensures { IfSome result (IsTypeEnd (G.shape graph.now) pointers node) }
+{
+    if steps >= LONG {
+        graph.precomputed_end(pointers, node)
+    } else {
+        None
+    }
+}
+
+/// Follows names, and pointers if `pointers` is set, from a type to its end, a memoized declaration or a precomputed end. `detector` records
+/// the visited declarations. Steps through names and pointers both count.
+fn walk<G: TypeGraph>(
+    graph: &G,
+    pointers: bool,
+    memo: &MemoTable<G::Declaration, Option<G::Node>>,
+    detector: &mut CycleDetector<G::Declaration>,
+    from: G::Node,
+) -> Result<Option<G::Node>, AllocError>
+    requires memo { AreTypeEnds (G.shape graph.now) pointers G.Declaration.eq memo.now }
+    requires none_passed { detector.old.checkpoints.items ≡ [] }
+    ensures { IfOk result (AreEnded (G.shape graph.now) pointers G.Declaration.eq from detector.new.checkpoints.items) }
+{
+    let mut node = from;
+    let mut steps = 0_u64;
+    'types: loop {
+        steps = steps.saturating_add(1);
+        match graph.shape(node) {
+            Shape::Named(declaration, next) => {
+                if let Some(end) = memo.get(declaration) {
+                    return Ok(end);
+                }
+                if closes_cycle(detector, declaration) {
+                    return Ok(None);
+                }
+                visit(detector, declaration)?;
+                if let Some(known) = end_if_precomputed(graph, pointers, steps, next) {
+                    return Ok(known);
+                }
+                node = next;
+            }
+            Shape::Pointer(next) => {
+                if !pointers {
+                    return Ok(Some(node));
+                }
+                node = next;
+            }
+            Shape::Array(_) | Shape::Record(_) | Shape::Procedure | Shape::Unknown => {
+                return Ok(Some(node));
+            }
+        }
+    }
+}
+
+/// Memoizes the end of these declarations, if there are at least `least` of them.
+fn memoize_ends<G: TypeGraph>(
+    graph: &G,
+    pointers: bool,
+    memo: &mut MemoTable<G::Declaration, Option<G::Node>>,
+    least: usize,
+    checkpoints: &[G::Declaration],
+    end: Option<G::Node>,
+) -> Result<(), AllocError>
+    requires memo { AreTypeEnds (G.shape graph.now) pointers G.Declaration.eq memo.old }
+    requires checkpoints { All (IsTypeEndOf (G.shape graph.now) pointers G.Declaration.eq end) checkpoints.now }
+    ensures { AreTypeEnds (G.shape graph.now) pointers G.Declaration.eq memo.new }
+{
+    if checkpoints.len() < least {
+        return Ok(());
+    }
+    for declaration in checkpoints {
+        memo.insert(*declaration, end)?;
+    }
+    Ok(())
+}
+
+/// The end of a type; memoizes it for the checkpoints of the search.
+fn find_uncached_end<G: TypeGraph>(
+    graph: &G,
+    pointers: bool,
+    memo: &mut MemoTable<G::Declaration, Option<G::Node>>,
+    least: usize,
+    detector: &mut CycleDetector<G::Declaration>,
+    from: G::Node,
+) -> Result<Option<G::Node>, AllocError>
+    requires memo { AreTypeEnds (G.shape graph.now) pointers G.Declaration.eq memo.old }
+    requires none_passed { detector.old.checkpoints.items ≡ [] }
+    ensures memo { AreTypeEnds (G.shape graph.now) pointers G.Declaration.eq memo.new }
+    ensures end { IfOk result (IsTypeEnd (G.shape graph.now) pointers from) }
+{
+    let end = walk(graph, pointers, memo, detector, from)?;
+    memoize_ends(
+        graph,
+        pointers,
+        memo,
+        least,
+        detector.checkpoints.as_slice(),
+        end,
+    )?;
+    Ok(end)
+}
+
+/// The end of a type, through names, and through pointers if `pointers` is set; `None` if the steps form a cycle. Memoizes it if the
+/// search has at least `least` checkpoints: a single step costs no more than a look-up.
+pub(crate) fn find_end<G: TypeGraph>(
+    graph: &G,
+    pointers: bool,
+    memo: &mut MemoTable<G::Declaration, Option<G::Node>>,
+    least: usize,
+    from: G::Node,
+) -> Result<Option<G::Node>, AllocError>
+    requires { AreTypeEnds (G.shape graph.now) pointers G.Declaration.eq memo.old }
+    ensures memo { AreTypeEnds (G.shape graph.now) pointers G.Declaration.eq memo.new }
+    ensures end { IfOk result (IsTypeEnd (G.shape graph.now) pointers from) }
+{
+    let mut detector = new_detector(memo.allocator());
+    find_uncached_end(graph, pointers, memo, least, &mut detector, from)
+}

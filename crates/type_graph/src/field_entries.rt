@@ -1,0 +1,68 @@
+//! The fields of the records on heavy paths, sorted by name and index.
+ghost use Rattle.std.specs.Prelude.{◌≡◌, IsPermutation};
+ghost use Rattle.std.specs.Ordering.{is_le};
+ghost use Rattle.type_graph.specs.PathOrder.{field_key_cmp, field_key_of, IsSortedByName, IsSlotAfter, IsCountUpTo};
+
+use std::cmp::Ordering;
+
+/// A field that a record declares itself: its name, and the index of the record.
+#[derive(Drop)]
+pub(crate) struct FieldEntry {
+    pub(crate) name: Vec<u8>,
+    pub(crate) slot: usize,
+}
+
+/// Compares a field with a name and an index.
+fn compare(it: &FieldEntry, name: &[u8], slot: usize) -> Ordering
+    ensures { result ≡ field_key_cmp (field_key_of it.now) (name.now, slot) }
+{
+    match it.name.as_slice().cmp(&name) {
+        Ordering::Equal => it.slot.cmp(&slot),
+        Ordering::Less => Ordering::Less,
+        Ordering::Greater => Ordering::Greater,
+    }
+}
+
+/// Sorts fields by name and index.
+pub(crate) fn sort_by_name(fields: &mut Vec<FieldEntry>)
+    ensures sorted { IsSortedByName fields.new.items }
+    ensures same { IsPermutation fields.old.items fields.new.items }
+{
+    fields.sort_unstable_by(|a, b| compare(a, b.name.as_slice(), b.slot));
+}
+
+/// Whether a field is at most a name and an index.
+fn is_up_to(it: &FieldEntry, name: &[u8], slot: usize) -> bool
+    ensures { result ≡ is_le (field_key_cmp (field_key_of it.now) (name.now, slot)) }
+{
+    compare(it, name, slot).is_le()
+}
+
+/// How many fields are at most a name and an index.
+fn count_up_to(fields: &[FieldEntry], name: &[u8], slot: usize) -> usize
+    requires { IsSortedByName fields.now }
+    ensures { IsCountUpTo fields.now (name.now, slot) result }
+{
+    fields.partition_point(
+        |it: &FieldEntry| -> bool
+            ensures { result ≡ is_le (field_key_cmp (field_key_of it.now) (name.entry.now, slot)) }
+        { is_up_to(it, name, slot) },
+    )
+}
+
+/// The smallest index after this one whose record has a field of this name, by binary search.
+pub(crate) fn slot_after(fields: &[FieldEntry], name: &[u8], slot: usize) -> Option<usize>
+    requires { IsSortedByName fields.now }
+    ensures { IsSlotAfter fields.now name.now slot result }
+{
+    let at = count_up_to(fields, name, slot);
+    if at >= fields.len() {
+        return None;
+    }
+    let it = &fields[at];
+    if it.name.as_slice() == name {
+        Some(it.slot)
+    } else {
+        None
+    }
+}

@@ -1,0 +1,18 @@
+//! The kinds of types.
+
+/// A type, with the nodes of its component types.
+#[derive(Drop)]
+pub enum Shape<Node, Declaration, Record> {
+    /// An array, with the type of its elements; one for each of its lengths.
+    Array(Node),
+    /// A pointer, with the type of its target.
+    Pointer(Node),
+    /// A record type.
+    Record(Record),
+    /// A procedure type.
+    Procedure,
+    /// A name, with the type declaration that it denotes and the type that this declaration gives.
+    Named(Declaration, Node),
+    /// A name that denotes no type.
+    Unknown,
+}

@@ -1,9 +1,0 @@
-use Rattle.std.proofs.Common.{◌≡◌, ◌<◌, ◌≤◌, ℕ}
-use Rattle.work_board.specs.Keeping.{let_go, state_at}
-use Rattle.work_board.proofs.board.let_all_go.Given as goal
-
-abbrev pub invariant-loop-place : goal.invariant-loop-place
-invariant-loop-place l = record {
-  done : (k : ℕ) → k < l.place → state_at l.states k ≡ let_go (state_at l.fn.states k);
-  rest : (k : ℕ) → l.place ≤ k → state_at l.states k ≡ state_at l.fn.states k;
-}

@@ -1,9 +1,0 @@
-use Rattle.std.proofs.Common.{ℕ, ◌≡◌, [], vec_len}
-use Rattle.work_board.specs.Graphs.{lists, row_at}
-use Rattle.work_board.proofs.graph.empty_rows.Given as goal
-
-abbrev pub invariant-loop : goal.invariant-loop
-invariant-loop l = record {
-  size : vec_len l.rows ≡ l.counter;
-  none : (v : ℕ) → row_at (lists l.rows.items) v ≡ [];
-}
